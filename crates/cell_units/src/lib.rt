@@ -1,0 +1,17 @@
+//! The units of the display map: texts, places, pieces of a display line, refusals and a counter of steps.
+//!
+//! The crate promises little code and much meaning: `specs/` has the definitions of a text, of a record, of the
+//! operations on it, and of the folded text and its display lines, which every crate above cites.
+#![tactic(auto)]
+
+pub mod fault;
+pub mod piece;
+pub mod place;
+pub mod steps;
+pub mod text;
+
+pub use fault::{Fault, NoMemory, Refusal};
+pub use piece::{Piece, PieceKind};
+pub use place::{Bias, Motion, Point, Shift, Side, Spot};
+pub use steps::Steps;
+pub use text::Text;
