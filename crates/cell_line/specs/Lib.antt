@@ -1,0 +1,5 @@
+pub mod Elements
+pub mod Wrapping
+pub mod Lines
+pub mod Laws
+pub mod Worked

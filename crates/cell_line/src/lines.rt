@@ -1,0 +1,34 @@
+//! Lines of elements, and runs of them.
+ghost use Rattle.std.specs.Prelude.{◌≡◌, ◌<◌, List, length, IfOk};
+ghost use Rattle.cell_line.specs.declared.element.Element.{Element};
+ghost use Rattle.cell_line.specs.Lines.{line_at};
+
+use crate::element::Element;
+use cell_units::NoMemory;
+use std::alloc::Global;
+
+/// Consecutive lines: `count` of them, from the line `first` on.
+#[derive(Clone, Copy, Debug, PartialEq, Eq)]
+pub struct Run {
+    pub first: u32,
+    pub count: u32,
+}
+
+/// A list of lines, each a list of elements.
+pub trait Lines: Drop {
+    // The elements of each line in order.
+    ghost elements_by_line: { Self → List (List Element) };
+
+    /// How many lines there are.
+    fn lines(&self) -> u32
+        ensures { result ≡ length (elements_by_line self.now) };
+
+    /// The elements of the line of this number, which is counted from 0.
+    fn elements(&self, alloc: Global, line: u32) -> Result<Vec<Element>, NoMemory>
+        requires { line < length (elements_by_line self.now) }
+        ensures { IfOk result (λ elements. elements.items ≡ line_at (elements_by_line self.now) line) };
+
+    /// An equal list of lines, which no later change of this one reaches. It takes no memory: `NoMemory` is one holder too many.
+    fn share(&self) -> Result<Self, NoMemory>
+        ensures { IfOk result (λ shared. elements_by_line shared ≡ elements_by_line self.now) };
+}
