@@ -1,0 +1,131 @@
+//! Lines whose elements and cuts are known.
+ghost use Rattle.std.specs.Prelude.{◌≡◌, ◌<◌, length};
+ghost use Rattle.cell_line.specs.Wrapping.{IsWidth};
+
+use crate::element::Element;
+use crate::laws::worked_rows;
+use crate::lines::Lines;
+use crate::wrapping::{Cuts, cuts, indent};
+use alike::{Alike, short_line};
+use cell_units::NoMemory;
+use std::alloc::Global;
+
+mod alike;
+
+/// The cuts and the indent of a short text at tab size 4.
+fn cut(alloc: Global, text: &str, width: u32) -> Result<(Cuts, u32), NoMemory>
+    requires short { length text.now < 1000 }
+    requires lawful { IsWidth width }
+{
+    let line = short_line(alloc, text)?;
+    let depth = indent(line.as_slice(), width);
+    Ok((cuts(alloc, line.as_slice(), width)?, depth))
+}
+
+#[test]
+fn known_cuts(rt: HostRuntime) {
+    worked_rows();
+    let table: [(&str, u32, &[u32], u32); 12] = [
+        ("hello world", 5, &[6], 0),
+        ("\tfoo bar baz", 10, &[5, 9], 4),
+        ("abcdefgh", 3, &[3, 6], 0),
+        ("ab漢字cd", 4, &[3], 0),
+        ("    fooooooooo", 8, &[8, 12], 4),
+        ("x😀y", 2, &[1, 2], 0),
+        ("hello world", 0, &[], 0),
+        ("", 5, &[], 0),
+        ("        ", 5, &[], 0),
+        ("        x", 5, &[5], 0),
+        ("a      b", 2, &[7], 0),
+        ("a\u{200b}\u{200b}b\u{200b}c", 2, &[5], 0),
+    ];
+    for (text, width, want, depth) in table {
+        assert!(rt; text.len() < 1000 && (width == 0 || (2 <= width && width <= 10000)));
+        match cut(rt.alloc(), text, width) {
+            Ok((cuts, got)) => {
+                assert_eq!(rt; cuts.as_slice(), want, "{text:?} at {width}");
+                assert_eq!(rt; got, depth, "{text:?} at {width}");
+            }
+            Err(NoMemory) => panic!(rt; "out of memory"),
+        }
+    }
+}
+
+#[test]
+fn known_cells(rt: HostRuntime) {
+    let table: [(&str, &[u32]); 7] = [
+        ("\tab", &[4, 1, 1]),
+        ("a\u{200b}b", &[1, 0, 1]),
+        ("e\u{301}x", &[1, 1]),
+        ("x😀y", &[1, 2, 1]),
+        ("ab\tc\t", &[1, 1, 2, 1, 3]),
+        ("漢字", &[2, 2]),
+        ("\u{22ef}", &[1]),
+    ];
+    for (text, want) in table {
+        assert!(rt; text.len() < 1000);
+        match short_line(rt.alloc(), text) {
+            Ok(line) => {
+                assert_eq!(rt; line.len(), want.len(), "{text:?}");
+                for (element, cells) in line.iter().zip(want) {
+                    assert_eq!(rt; element.cells, *cells, "{text:?}");
+                }
+            }
+            Err(NoMemory) => panic!(rt; "out of memory"),
+        }
+    }
+}
+
+/// A line of so many letters with a tab after them.
+fn letters_and_tab(alloc: Global, letters: usize) -> Result<String, NoMemory> {
+    let mut text = "a".repeat(alloc, letters)?;
+    text.push('\t')?;
+    Ok(text)
+}
+
+#[test]
+fn tab_at_256_cells(rt: HostRuntime) {
+    for (letters, cells) in [(254, 2), (255, 1), (256, 1)] {
+        match letters_and_tab(rt.alloc(), letters) {
+            Ok(text) => {
+                assert!(rt; text.len() < 1000);
+                match short_line(rt.alloc(), text.as_str()) {
+                    Ok(line) => {
+                        assert_eq!(rt; line.len(), letters + 1);
+                        assert_eq!(rt; line.as_slice().last().map(|tab| tab.cells), Some(cells));
+                    }
+                    Err(NoMemory) => panic!(rt; "out of memory"),
+                }
+            }
+            Err(NoMemory) => panic!(rt; "out of memory"),
+        }
+    }
+}
+
+/// How many elements each line has.
+fn element_counts<N: Lines>(alloc: Global, lines: &N) -> Result<Vec<usize>, NoMemory> {
+    let mut counts = Vec::new(alloc);
+    for line in 0..lines.lines() {
+        counts.push(lines.elements(alloc, line)?.len())?;
+    }
+    Ok(counts)
+}
+
+#[test]
+fn lines_and_their_share(rt: HostRuntime) {
+    let lines = Alike {
+        text: "aaa bbb",
+        count: 3,
+    };
+    match lines.share() {
+        Ok(shared) => {
+            for lines in [&lines, &shared] {
+                match element_counts(rt.alloc(), lines) {
+                    Ok(counts) => assert_eq!(rt; counts.as_slice(), [7, 7, 7].as_slice()),
+                    Err(NoMemory) => panic!(rt; "out of memory"),
+                }
+            }
+        }
+        Err(NoMemory) => panic!(rt; "one holder too many"),
+    }
+}
