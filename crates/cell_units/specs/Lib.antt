@@ -1,2 +1,12 @@
 pub mod Refusal
 pub mod Steps
+pub mod Text
+pub mod Anchor
+pub mod Sorting
+pub mod Record
+pub mod Operation
+pub mod Cutting
+pub mod Inlaid
+pub mod Folded
+pub mod Pieces
+pub mod Touched

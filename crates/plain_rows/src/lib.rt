@@ -1,0 +1,4 @@
+//! The plain functions: what the rows of a record are, from scratch, and where its offsets are shown.
+//!
+//! `specs/` has the definitions. The crate promises worked rows of them, as theorems.
+#![tactic(auto)]
