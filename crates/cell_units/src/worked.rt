@@ -1,12 +1,12 @@
 //! Worked rows of the definitions: texts, operations and display lines of which the outcome is known.
-ghost use Rattle.std.specs.Prelude.{◌≡◌, ◌++◌, List, [], ◌∷◌, codes, map, true, false};
+ghost use Rattle.std.specs.Prelude.{◌≡◌, ◌++◌, List, [], ◌∷◌, codes, flat_map, map, true, false};
 ghost use Rattle.std.specs.List.{range_with_len};
 ghost use Rattle.cell_units.specs.declared.place.Bias.TheVariants.{Left, Right};
 ghost use Rattle.cell_units.specs.Text.{clean, is_boundary, row_end, row_of, row_start};
 ghost use Rattle.cell_units.specs.Anchor.{move};
 ghost use Rattle.cell_units.specs.Record.{line_count};
 ghost use Rattle.cell_units.specs.Operation.{Replace, moved_folds, operated};
-ghost use Rattle.cell_units.specs.Inlaid.{inlaid_place, placeholder};
+ghost use Rattle.cell_units.specs.Inlaid.{bytes_of, inlaid, inlaid_place, placeholder};
 ghost use Rattle.cell_units.specs.Folded.{display_lines, folded_place, line_of, place_in_line, span_end, span_start};
 ghost use Rattle.cell_units.specs.Pieces.{folded_lines};
 ghost use Rattle.cell_units.specs.Touched.{touched_after, touched_before, touched_lines};
@@ -47,6 +47,8 @@ pub fn worked_operations()
 /// Folds, inlays and the display lines that they make. It does nothing.
 pub fn worked_lines()
     ensures empty_text { line_texts (folded_record [] [] []) ≡ [] ∷ [] }
+    ensures inlaid_text { flat_map bytes_of (inlaid (codes "let x = 1") (inlay 5 Right 1 (codes ": i32") ∷ [])) ≡ codes "let x: i32 = 1" ++ 10 ∷ [] }
+    ensures inlaid_returns { flat_map bytes_of (inlaid (codes "ab") (inlay 1 Left 1 (120 ∷ 13 ∷ 10 ∷ 121 ∷ 13 ∷ []) ∷ [])) ≡ 97 ∷ 120 ∷ 10 ∷ 121 ∷ 10 ∷ 98 ∷ 10 ∷ [] }
     ensures inlay_place { let inlays = inlay 3 Left 1 (codes ">") ∷ [] in (inlaid_place (codes "abc") inlays 3 Left ≡ 3) × (inlaid_place (codes "abc") inlays 3 Right ≡ 4) }
     ensures type_inlay { folded_lines (codes "let x = 1") (inlay 5 Right 1 (codes ": i32") ∷ []) []
         ≡ (buffer_piece (codes "let x") 0 5 ∷ inlay_piece (codes ": i32") 5 ∷ buffer_piece (codes " = 1") 5 9 ∷ []) ∷ [] }
@@ -60,6 +62,8 @@ pub fn worked_lines()
         (line_texts (folded_record text [] folds) ≡ (codes "fn f() {" ++ placeholder ++ codes "}") ∷ [] ∷ [])
         × (folded_place text [] folds 10 Left ≡ 8) × (folded_place text [] folds 10 Right ≡ 11) }
     ensures fold_in_fold { line_texts (folded_record (codes "abcdef") [] (fold 1 5 1 ∷ fold 2 3 2 ∷ [])) ≡ (codes "a" ++ placeholder ++ codes "f") ∷ [] }
+    ensures inlays_at_fold_edges { let inlays = inlay 1 Right 1 (codes "<") ∷ inlay 2 Left 2 (120 ∷ 10 ∷ 121 ∷ []) ∷ inlay 4 Left 3 (codes ">") ∷ [] in
+        line_texts (folded_record (codes "abcdef") inlays (fold 1 4 1 ∷ [])) ≡ (codes "a<" ++ placeholder ++ codes ">ef") ∷ [] }
     ensures joined_folds { line_texts (folded_record (codes "abcdefgh") [] (fold 1 4 1 ∷ fold 3 6 2 ∷ [])) ≡ (codes "a" ++ placeholder ++ codes "gh") ∷ [] }
     ensures touching_folds { line_texts (folded_record (codes "abcdefgh") [] (fold 1 4 1 ∷ fold 4 6 3 ∷ [])) ≡ (codes "a" ++ placeholder ++ placeholder ++ codes "gh") ∷ [] }
     ensures inlay_with_break { folded_lines (codes "ab") (inlay 1 Right 1 (120 ∷ 10 ∷ 121 ∷ []) ∷ []) []
