@@ -10,3 +10,6 @@ pub mod Inlaid
 pub mod Folded
 pub mod Pieces
 pub mod Touched
+pub mod Joined
+pub mod Laws
+pub mod Worked

@@ -1,7 +1,7 @@
 -- The rows of a record, from scratch: the blocks above each display line, the line's text rows, the blocks below it.
 use Rattle.std.specs.Prelude.{ℕ, ◌==◌, ◌&&◌, not, Bool, true, false, if◌then◌else◌, List, [], ◌∷◌, ◌++◌, map, filter, flat_map, drop, zip, replicate, slice_range}
 use Rattle.std.specs.List.{enumerate_from}
-use Rattle.cell_units.specs.declared.place.Bias.TheVariants.{Left}
+use Rattle.cell_units.specs.declared.place.Bias.TheVariants.{Left, Right}
 use Rattle.cell_units.specs.declared.place.Side.{Side}
 use Rattle.cell_units.specs.declared.place.Side.TheVariants.{Above, Below}
 use Rattle.cell_units.specs.Text.{row_start, row_end}
@@ -65,10 +65,12 @@ is_above Below = false
 abbrev pub block_rows : Block → List Row
 block_rows b = map (λ line. record { kind = block_kind; text = line }) b.lines
 
--- the display line of a block: one above is at the line of its row's start, one below at that of its row's end
+-- the display line of a block: one above is at that of its row's start with Left, one below at that of its row's end
+-- with Right, behind the inlays there
 abbrev pub line_of_block : Record → Block → ℕ
 line_of_block r b =
-    line_of r.text r.inlays r.folds (if is_above b.side then row_start r.text b.offset else row_end r.text b.offset) Left
+    if is_above b.side then line_of r.text r.inlays r.folds (row_start r.text b.offset) Left
+    else line_of r.text r.inlays r.folds (row_end r.text b.offset) Right
 
 -- a block's own side is the given one
 abbrev pub is_on : Side → Side → Bool

@@ -1,0 +1,21 @@
+//! What the definitions mean in other words.
+ghost use Rattle.std.specs.Prelude.{◌≡◌, ℕ, List};
+ghost use Rattle.std.specs.Str.{IsUtf8};
+ghost use Rattle.cell_units.specs.Text.{clean};
+ghost use Rattle.cell_units.specs.Record.{Fold};
+ghost use Rattle.cell_units.specs.Joined.{IsJoined, ShowsOnePlaceholder, ShowsPlaceholder};
+ghost use Rattle.cell_units.specs.Laws.{HasNoReturn, TellsBoundaries};
+
+/// Laws of every text. Call it where one of them is wanted; it does nothing.
+pub fn text_laws()
+    ensures no_return { (bytes : List ℕ) → HasNoReturn (clean bytes) }
+    ensures same { (bytes : List ℕ) → HasNoReturn bytes → clean bytes ≡ bytes }
+    ensures again { (bytes : List ℕ) → clean (clean bytes) ≡ clean bytes }
+    ensures boundaries { (text : List ℕ) → IsUtf8 text → TellsBoundaries text }
+{}
+
+/// Laws of every list of folds: placeholders are the joined folds. It does nothing.
+pub fn fold_laws()
+    ensures joined_is_shown { (folds : List Fold) (start end : ℕ) → IsJoined folds start end → ShowsOnePlaceholder folds start end }
+    ensures shown_is_joined { (folds : List Fold) (offset : ℕ) → ShowsPlaceholder folds offset → (end : ℕ) × IsJoined folds offset end }
+{}

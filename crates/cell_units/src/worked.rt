@@ -1,0 +1,75 @@
+//! Worked rows of the definitions: texts, operations and display lines of which the outcome is known.
+ghost use Rattle.std.specs.Prelude.{◌≡◌, ◌++◌, List, [], ◌∷◌, codes, flat_map, map, true, false};
+ghost use Rattle.std.specs.List.{range_with_len};
+ghost use Rattle.cell_units.specs.declared.place.Bias.TheVariants.{Left, Right};
+ghost use Rattle.cell_units.specs.Text.{clean, is_boundary, row_end, row_of, row_start};
+ghost use Rattle.cell_units.specs.Anchor.{move};
+ghost use Rattle.cell_units.specs.Record.{line_count};
+ghost use Rattle.cell_units.specs.Operation.{Replace, moved_folds, operated};
+ghost use Rattle.cell_units.specs.Inlaid.{bytes_of, inlaid, inlaid_place, placeholder};
+ghost use Rattle.cell_units.specs.Folded.{display_lines, folded_place, line_of, place_in_line, span_end, span_start};
+ghost use Rattle.cell_units.specs.Pieces.{folded_lines};
+ghost use Rattle.cell_units.specs.Touched.{touched_after, touched_before, touched_lines};
+ghost use Rattle.cell_units.specs.Worked.{buffer_piece, fold, folded_record, inlay, inlay_piece, line_texts, placeholder_piece};
+
+/// Texts whose clean form, rows, row ends and boundaries are known. It does nothing.
+pub fn worked_texts()
+    ensures crlf { clean (codes "abc" ++ 13 ∷ 10 ∷ []) ≡ codes "abc" ++ 10 ∷ [] }
+    ensures lone_returns { clean (97 ∷ 13 ∷ 13 ∷ 10 ∷ 98 ∷ 13 ∷ []) ≡ 97 ∷ 10 ∷ 10 ∷ 98 ∷ 10 ∷ [] }
+    ensures line_counts { (line_count [] ≡ 1) × (line_count (codes "abc" ++ 10 ∷ []) ≡ 2) }
+    ensures rows { let text = codes "abc" ++ 10 ∷ 100 ∷ [] in map (row_of text) (range_with_len 0 6) ≡ 0 ∷ 0 ∷ 0 ∷ 0 ∷ 1 ∷ 1 ∷ [] }
+    ensures row_starts { let text = codes "abc" ++ 10 ∷ 100 ∷ [] in map (row_start text) (range_with_len 0 6) ≡ 0 ∷ 0 ∷ 0 ∷ 0 ∷ 4 ∷ 4 ∷ [] }
+    ensures row_ends { let text = codes "abc" ++ 10 ∷ 100 ∷ [] in map (row_end text) (range_with_len 0 6) ≡ 3 ∷ 3 ∷ 3 ∷ 3 ∷ 5 ∷ 5 ∷ [] }
+    ensures combining_mark { map (is_boundary (0x65 ∷ 0xCC ∷ 0x81 ∷ 0x78 ∷ [])) (range_with_len 0 6) ≡ true ∷ true ∷ false ∷ true ∷ true ∷ false ∷ [] }
+{}
+
+/// Operations whose outcome is known; a batch goes from its last range to its first. It does nothing.
+pub fn worked_operations()
+    ensures marks { (move 3 Left 3 3 2 ≡ 3) × (move 3 Right 3 3 2 ≡ 5) }
+    ensures ranges { moved_folds 1 4 0 (fold 1 4 1 ∷ fold 3 6 2 ∷ []) ≡ fold 1 3 2 ∷ [] }
+    ensures edit_replaces { line_texts (operated (Replace 1 2 (codes "XY")) (folded_record (codes "abc") [] [])) ≡ codes "aXYc" ∷ [] }
+    ensures returns_apart { line_texts (operated (Replace 0 0 (13 ∷ [])) (folded_record (10 ∷ []) [] [])) ≡ [] ∷ [] ∷ [] ∷ [] }
+    ensures touching_insertions { let r = folded_record (codes "abcdef") (inlay 3 Left 1 (codes "<") ∷ inlay 3 Right 2 (codes ">") ∷ []) [] in
+        line_texts (operated (Replace 1 2 (codes "XY")) (operated (Replace 3 3 (codes "1")) (operated (Replace 3 3 (codes "2")) r)))
+        ≡ codes "aXYc<12>def" ∷ [] }
+    ensures inlay_between_replacements { let r = folded_record (codes "abcdef") (inlay 2 Left 1 (codes "^") ∷ []) [] in
+        line_texts (operated (Replace 1 2 (codes "X")) (operated (Replace 2 3 (codes "Y")) r)) ≡ codes "aX^Ydef" ∷ [] }
+    ensures fold_dropped { let r = folded_record (codes "abcdefgh") [] (fold 1 4 1 ∷ fold 4 6 3 ∷ []) in
+        line_texts (operated (Replace 1 4 []) r) ≡ (codes "a" ++ placeholder ++ codes "gh") ∷ [] }
+    ensures touched_by_inlay_break { let r = folded_record (codes "ab" ++ 10 ∷ codes "cd") (inlay 1 Right 1 (120 ∷ 10 ∷ 121 ∷ []) ∷ []) [] in
+        let op = Replace 2 2 (codes "z") in
+        (touched_lines (touched_before op r) r ≡ true ∷ true ∷ false ∷ [])
+        × (touched_lines (touched_after op (operated op r)) (operated op r) ≡ true ∷ true ∷ false ∷ []) }
+    ensures touched_when_hidden { let r = folded_record (97 ∷ 10 ∷ 98 ∷ 10 ∷ 99 ∷ []) [] (fold 1 4 1 ∷ []) in
+        touched_lines (touched_before (Replace 2 3 (codes "x")) r) r ≡ true ∷ [] }
+{}
+
+/// Folds, inlays and the display lines that they make. It does nothing.
+pub fn worked_lines()
+    ensures empty_text { line_texts (folded_record [] [] []) ≡ [] ∷ [] }
+    ensures inlaid_text { flat_map bytes_of (inlaid (codes "let x = 1") (inlay 5 Right 1 (codes ": i32") ∷ [])) ≡ codes "let x: i32 = 1" ++ 10 ∷ [] }
+    ensures inlaid_returns { flat_map bytes_of (inlaid (codes "ab") (inlay 1 Left 1 (120 ∷ 13 ∷ 10 ∷ 121 ∷ 13 ∷ []) ∷ [])) ≡ 97 ∷ 120 ∷ 10 ∷ 121 ∷ 10 ∷ 98 ∷ 10 ∷ [] }
+    ensures inlay_place { let inlays = inlay 3 Left 1 (codes ">") ∷ [] in (inlaid_place (codes "abc") inlays 3 Left ≡ 3) × (inlaid_place (codes "abc") inlays 3 Right ≡ 4) }
+    ensures type_inlay { folded_lines (codes "let x = 1") (inlay 5 Right 1 (codes ": i32") ∷ []) []
+        ≡ (buffer_piece (codes "let x") 0 5 ∷ inlay_piece (codes ": i32") 5 ∷ buffer_piece (codes " = 1") 5 9 ∷ []) ∷ [] }
+    ensures fold_two_line_ends { folded_lines (97 ∷ 10 ∷ 98 ∷ 10 ∷ 99 ∷ []) [] (fold 1 4 1 ∷ [])
+        ≡ (buffer_piece (codes "a") 0 1 ∷ placeholder_piece 1 4 ∷ buffer_piece (codes "c") 4 5 ∷ []) ∷ [] }
+    ensures fold_span { let text = 97 ∷ 10 ∷ 98 ∷ 10 ∷ 99 ∷ [] in
+        let lines = display_lines text [] (fold 1 4 1 ∷ []) in
+        (map (span_start text) lines ≡ 0 ∷ []) × (map (span_end text) lines ≡ 2 ∷ []) }
+    ensures function_fold { let text = codes "fn f() {" ++ 10 ∷ codes "  a" ++ 10 ∷ codes "}" ++ 10 ∷ [] in
+        let folds = fold 8 13 1 ∷ [] in
+        (line_texts (folded_record text [] folds) ≡ (codes "fn f() {" ++ placeholder ++ codes "}") ∷ [] ∷ [])
+        × (folded_place text [] folds 10 Left ≡ 8) × (folded_place text [] folds 10 Right ≡ 11) }
+    ensures fold_in_fold { line_texts (folded_record (codes "abcdef") [] (fold 1 5 1 ∷ fold 2 3 2 ∷ [])) ≡ (codes "a" ++ placeholder ++ codes "f") ∷ [] }
+    ensures inlays_at_fold_edges { let inlays = inlay 1 Right 1 (codes "<") ∷ inlay 2 Left 2 (120 ∷ 10 ∷ 121 ∷ []) ∷ inlay 4 Left 3 (codes ">") ∷ [] in
+        line_texts (folded_record (codes "abcdef") inlays (fold 1 4 1 ∷ [])) ≡ (codes "a<" ++ placeholder ++ codes ">ef") ∷ [] }
+    ensures joined_folds { line_texts (folded_record (codes "abcdefgh") [] (fold 1 4 1 ∷ fold 3 6 2 ∷ [])) ≡ (codes "a" ++ placeholder ++ codes "gh") ∷ [] }
+    ensures touching_folds { line_texts (folded_record (codes "abcdefgh") [] (fold 1 4 1 ∷ fold 4 6 3 ∷ [])) ≡ (codes "a" ++ placeholder ++ placeholder ++ codes "gh") ∷ [] }
+    ensures inlay_with_break { folded_lines (codes "ab") (inlay 1 Right 1 (120 ∷ 10 ∷ 121 ∷ []) ∷ []) []
+        ≡ (buffer_piece (codes "a") 0 1 ∷ inlay_piece (codes "x") 1 ∷ []) ∷ (inlay_piece (codes "y") 1 ∷ buffer_piece (codes "b") 1 2 ∷ []) ∷ [] }
+    ensures break_display { let inlays = inlay 1 Right 1 (120 ∷ 10 ∷ 121 ∷ []) ∷ [] in
+        (line_of (codes "ab") inlays [] 1 Left ≡ 0) × (place_in_line (codes "ab") inlays [] 1 Left ≡ 1)
+        × (line_of (codes "ab") inlays [] 1 Right ≡ 1) × (place_in_line (codes "ab") inlays [] 1 Right ≡ 1) }
+    ensures inlay_only_break { line_texts (folded_record (codes "ab") (inlay 1 Right 1 (10 ∷ []) ∷ []) []) ≡ codes "a" ∷ codes "b" ∷ [] }
+{}
