@@ -1,5 +1,5 @@
 -- Jobs, and what they give.
-use Rattle.std.specs.Prelude.{ℕ, ◌+◌, ◌≤◌, List, length, map, slice_range}
+use Rattle.std.specs.Prelude.{ℕ, ◌+◌, ◌≤◌, ◌≡◌, ◌≢◌, ◌==◌, not, All, List, [], ◌∷◌, filter, length, map, slice_range}
 use Rattle.smallvec.specs.SmallVec.{SmallVec}
 use Rattle.cell_line.specs.declared.element.Element.{Element}
 use Rattle.cell_line.specs.declared.lines.Run.{Run}
@@ -37,3 +37,28 @@ wraps_of lines run width = map (λ elements. cuts_of elements width) (lines_of_r
 -- the places that the lists of cuts hold
 abbrev pub places_of : List (SmallVec ℕ) → List (List ℕ)
 places_of wraps = map (λ cuts. cuts.items) wraps
+
+-- no job of these has this number
+abbrev pub IsFree : {N : Type 0} → ℕ → List (JobParts N) → Type 0
+IsFree number jobs = All (λ job. job.number ≢ number) jobs
+
+-- the jobs but those of this number
+abbrev pub without : {N : Type 0} → ℕ → List (JobParts N) → List (JobParts N)
+without number jobs = filter (λ job. not (number == job.number)) jobs
+
+-- all but the last job
+abbrev pub front : {N : Type 0} → List (JobParts N) → List (JobParts N)
+front [] = []
+front (job ∷ []) = []
+front (job ∷ next ∷ rest) = job ∷ front (next ∷ rest)
+
+-- the last job, if there is one
+abbrev pub last : {N : Type 0} → List (JobParts N) → List (JobParts N)
+last [] = []
+last (job ∷ []) = job ∷ []
+last (job ∷ next ∷ rest) = last (next ∷ rest)
+
+-- the jobs but those of these numbers
+abbrev pub without_each : {N : Type 0} → List (JobParts N) → List (JobParts N) → List (JobParts N)
+without_each [] jobs = jobs
+without_each (job ∷ others) jobs = without_each others (without job.number jobs)

@@ -5,6 +5,9 @@
 
 pub mod gate;
 pub mod job;
+pub mod names;
+pub mod results;
+pub mod tasks;
 pub mod wrap;
 
 pub use gate::{FreeGate, Gate};
