@@ -1,0 +1,5 @@
+pub mod Runs
+pub mod SameLines
+pub mod Weights
+pub mod Owing
+pub mod Posting

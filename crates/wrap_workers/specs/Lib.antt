@@ -1,0 +1,5 @@
+pub mod Jobs
+pub mod Finishes
+pub mod Owed
+pub mod Errands
+pub mod Posted
