@@ -1,0 +1,5 @@
+pub mod Origin
+pub mod Unique
+pub mod Inverse
+pub mod Search
+pub mod Correspondence
