@@ -3,3 +3,9 @@ pub mod Unique
 pub mod Inverse
 pub mod Search
 pub mod Correspondence
+pub mod Shift
+pub mod Answers
+pub mod Closing
+pub mod Advance
+pub mod Composition
+pub mod Merging

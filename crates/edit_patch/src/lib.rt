@@ -11,6 +11,7 @@
 
 pub mod edit;
 pub mod laws;
+mod merge;
 pub mod patch;
 
 pub use edit::Edit;

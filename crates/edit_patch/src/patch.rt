@@ -1,9 +1,11 @@
 //! Patches, as lists of edits in order.
-ghost use Rattle.std.specs.Prelude.{◌≡◌, ℕ, ◌^◌, ◌<◌, ◌↔◌, [], IsTrue, IsOk, IfOk, IfErr, IfSome};
+ghost use Rattle.std.specs.Prelude.{◌≡◌, ℕ, ◌^◌, ◌<◌, ◌↔◌, [], List, IsTrue, IsOk, IfOk, IfErr, IfSome};
+ghost use Rattle.edit_patch.specs.declared.edit.Edit.{Edit};
 ghost use Rattle.edit_patch.specs.Came.{origin_of, carry_of, inverted};
-ghost use Rattle.edit_patch.specs.Normal.{IsPatch};
+ghost use Rattle.edit_patch.specs.Normal.{IsPatch, IsComposed, AllFit};
 
 use crate::edit::Edit;
+use crate::merge::merged;
 use cell_units::{NoMemory, Refusal};
 use std::alloc::Global;
 use std::marker::Model;
@@ -56,6 +58,16 @@ impl Patch {
         ensures normal { IsPatch result.now }
     {
         self.edits.as_slice()
+    }
+
+    /// The patch of both in turn: by it a position came from where `later` and then this patch say, and it is new
+    /// where either says so.
+    pub fn compose(&self, alloc: Global, later: &Patch) -> Result<Patch, NoMemory>
+        requires { (c : List Edit) → IsComposed self.now later.now c → AllFit c }
+        ensures { IfOk result (IsComposed self.now later.now) }
+    {
+        let edits = merged(alloc, self.edits(), later.edits())?;
+        Ok(Patch { edits })
     }
 
     /// The patch back, from the new side to the old.
