@@ -2,10 +2,11 @@
 use Rattle.std.proofs.Common.{◌≡◌, ℕ, ◌+◌, ◌≤◌, List, [], ◌∷◌, length, Option, Some, None, ap, sym, refl, ◌∙◌, arith}
 use Rattle.std.specs.Prelude.{option_and_then}
 use Rattle.edit_patch.specs.declared.edit.Edit.{Edit}
-use Rattle.edit_patch.specs.Came.{origin_of}
+use Rattle.edit_patch.specs.Came.{origin_of, inverted}
 use Rattle.edit_patch.specs.Normal.{IsPatch, IsComposed}
 use Rattle.edit_patch.specs.Merge.{begun}
 use Rattle.edit_patch.proofs.Unique.{unique}
+use Rattle.edit_patch.proofs.Inverse.{inverted-patch, back, forth}
 use Rattle.edit_patch.proofs.Shift.{and_then-same, beyond, beyond-above}
 use Rattle.edit_patch.proofs.Answers.{Stands, Answers}
 use Rattle.edit_patch.proofs.Advance.{rest}
@@ -65,4 +66,24 @@ pub neutral_earlier : (a : List Edit) → IsPatch a → IsComposed [] a a
 neutral_earlier a h = record {
   normal = h;
   came = λ i. sym (and_then-ext (origin_of []) (λ j. Some j) (origin_of a i) origin_of-nil ∙ and_then-unit (origin_of a i));
+}
+
+option-ext : (x y : Option ℕ) → ((j : ℕ) → x ≡ Some j → y ≡ Some j) → ((j : ℕ) → y ≡ Some j → x ≡ Some j) → x ≡ y
+option-ext None None f g = refl
+option-ext None (Some j) f g = g j refl
+option-ext (Some j) y f g = sym (f j refl)
+
+and_then-step : (f : ℕ → Option ℕ) (o : Option ℕ) (j : ℕ) → option_and_then f o ≡ Some j → (m : ℕ) × (o ≡ Some m) × (f m ≡ Some j)
+and_then-step f None j h = absurd (cc)
+and_then-step f (Some m) j h = (m, refl, h)
+
+-- the way back from a composition goes back through the second patch first
+pub reversed : (a b c : List Edit) → IsPatch a → IsPatch b → IsComposed a b c → IsComposed (inverted b) (inverted a) (inverted c)
+reversed a b c x y h = record {
+  normal = inverted-patch c h.normal;
+  came = λ i. option-ext _ _
+      (λ j p. let s = and_then-step (origin_of a) (origin_of b j) i (sym (h.came j) ∙ forth c j i h.normal p) in
+      ap (option_and_then (origin_of (inverted b))) (back a s.0 i x s.2) ∙ back b j s.0 y s.1)
+      (λ j p. let s = and_then-step (origin_of (inverted b)) (origin_of (inverted a) i) j p in
+      back c j i h.normal (h.came j ∙ ap (option_and_then (origin_of a)) (forth b j s.0 y s.2) ∙ forth a s.0 i x s.1));
 }

@@ -19,12 +19,12 @@ any-at P e es (suc k) x l g p = inr (k, x, omega arith, g, p)
 any-cases : (P : Edit → Type 0) (e : Edit) (es : List Edit) → Any P (e ∷ es) → P e ⊎ Any P es
 any-cases P e es h = any-at P e es h.0 h.1 h.2 h.3 h.4
 
-any-map : (P : Edit → Type 0) (es : List Edit) → Any (λ e. P (flipped e)) es → Any P (map flipped es)
+pub any-map : (P : Edit → Type 0) (es : List Edit) → Any (λ e. P (flipped e)) es → Any P (map flipped es)
 any-map P [] h = absurd (let l = h.2 in omega arith)
 any-map P (e ∷ es) h =
     ⊎_elim (λ a. (0, flipped e, omega arith, refl, a)) (λ a. any-later P (flipped e) (map flipped es) (any-map P es a)) (any-cases (λ x. P (flipped x)) e es h)
 
-any-unmap : (P : Edit → Type 0) (es : List Edit) → Any P (map flipped es) → Any (λ e. P (flipped e)) es
+pub any-unmap : (P : Edit → Type 0) (es : List Edit) → Any P (map flipped es) → Any (λ e. P (flipped e)) es
 any-unmap P [] h = absurd (let l = h.2 in omega arith)
 any-unmap P (e ∷ es) h =
     ⊎_elim (λ a. (0, e, omega arith, refl, a)) (λ a. any-later (λ x. P (flipped x)) e es (any-unmap P es a)) (any-cases P (flipped e) (map flipped es) h)

@@ -9,3 +9,6 @@ pub mod Closing
 pub mod Advance
 pub mod Composition
 pub mod Merging
+pub mod Fitting
+pub mod Meeting
+pub mod Worked

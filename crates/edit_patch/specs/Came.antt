@@ -2,6 +2,10 @@
 use Rattle.std.specs.Prelude.{◌≡◌, ℕ, ◌+◌, ◌-◌, ◌<◌, ◌≤◌, ◌↔◌, List, [], ◌∷◌, Option, Some, None, Any, nat_lt, if◌then◌else◌, map}
 use Rattle.edit_patch.specs.declared.edit.Edit.{Edit}
 
+-- the edit that puts the new positions c up to d in the place of the old ones a up to b
+abbrev pub edit_of : ℕ → ℕ → ℕ → ℕ → Edit
+edit_of a b c d = record { old_start = a; old_end = b; new_start = c; new_end = d }
+
 -- where the new position i came from, behind what ends at `old` and `new`; none where it is new
 abbrev pub origin_from : ℕ → ℕ → List Edit → ℕ → Option ℕ
 origin_from old new [] i = Some (old + (i - new))
