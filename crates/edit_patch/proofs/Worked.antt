@@ -1,11 +1,13 @@
 -- The worked examples of compositions, position by position.
-use Rattle.std.proofs.Common.{◌≡◌, ℕ, ◌+◌, ◌-◌, ◌<◌, ◌≤◌, List, [], ◌∷◌, Option, Some, None, ap, sym, refl, ◌∙◌, arith, ⊎_elim}
+use Rattle.std.proofs.Common.{◌≡◌, ℕ, ◌+◌, ◌-◌, ◌<◌, ◌≤◌, List, [], ◌∷◌, Option, Some, None, ap, sym, subst, ◌^◌, refl, ◌∙◌, arith, ⊎_elim}
 use Rattle.std.specs.Prelude.{option_and_then}
 use Rattle.std.proofs.lemmas.Bool.{cases_lt}
+use Rattle.std.proofs.lemmas.List.Elements.{All-nil, All-cons}
 use Rattle.edit_patch.specs.declared.edit.Edit.{Edit}
 use Rattle.edit_patch.specs.Came.{origin_of, edit_of}
-use Rattle.edit_patch.specs.Normal.{IsPatch, IsNext, IsComposed}
+use Rattle.edit_patch.specs.Normal.{IsPatch, IsNext, IsComposed, AllFit}
 use Rattle.edit_patch.proofs.Origin.{origin-kept, origin-new, origin-past}
+use Rattle.edit_patch.proofs.Composition.{one_composition}
 
 -- what the one edit says of a position before it, inside it and behind it
 one-kept : (e : Edit) (i : ℕ) → i < e.new_start → origin_of (e ∷ []) i ≡ Some i
@@ -61,6 +63,20 @@ undone = record {
       (one-past inserted_edit (i + 2) i (omega arith) (omega arith) (omega arith))))
       (cases_lt i 3);
 }
+
+-- so what the two of each example compose to fits u32
+pub across-fits : (a b c : List Edit) (e f : Edit) → a ≡ e ∷ [] → e ≡ first_edit → b ≡ f ∷ [] → f ≡ second_edit → IsComposed a b c → AllFit c
+across-fits a b c e f ae es bf fs h =
+    let k = subst (λ (x : List Edit). IsComposed x b c) (ae ∙ ap (λ (x : Edit). x ∷ []) es) h in
+    let l = subst (λ (x : List Edit). IsComposed (first_edit ∷ []) x c) (bf ∙ ap (λ (x : Edit). x ∷ []) fs) k in
+    subst (λ (x : List Edit). AllFit x) (one_composition _ _ _ _ across l)
+    (All-cons (λ x. (x.old_end < 2 ^ 32) × (x.new_end < 2 ^ 32)) both_edit [] (omega arith, omega arith) (All-nil (λ x. (x.old_end < 2 ^ 32) × (x.new_end < 2 ^ 32))))
+
+pub undone-fits : (a b c : List Edit) (e f : Edit) → a ≡ e ∷ [] → e ≡ inserted_edit → b ≡ f ∷ [] → f ≡ deleted_edit → IsComposed a b c → AllFit c
+undone-fits a b c e f ae es bf fs h =
+    let k = subst (λ (x : List Edit). IsComposed x b c) (ae ∙ ap (λ (x : Edit). x ∷ []) es) h in
+    let l = subst (λ (x : List Edit). IsComposed (inserted_edit ∷ []) x c) (bf ∙ ap (λ (x : Edit). x ∷ []) fs) k in
+    subst (λ (x : List Edit). AllFit x) (one_composition _ _ _ _ undone l) (All-nil (λ x. (x.old_end < 2 ^ 32) × (x.new_end < 2 ^ 32)))
 
 pub touching : ¬ IsPatch (edit_of 2 4 2 5 ∷ (edit_of 4 6 5 6 ∷ []))
 touching h = let a = h.1.0 in let k : 4 + 1 ≤ 4 = a.kept in omega arith

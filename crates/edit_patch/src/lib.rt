@@ -16,3 +16,6 @@ pub mod patch;
 
 pub use edit::Edit;
 pub use patch::Patch;
+
+#[cfg(test)]
+mod tests;
