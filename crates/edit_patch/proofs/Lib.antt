@@ -1,0 +1,14 @@
+pub mod Origin
+pub mod Unique
+pub mod Inverse
+pub mod Search
+pub mod Correspondence
+pub mod Shift
+pub mod Answers
+pub mod Closing
+pub mod Advance
+pub mod Composition
+pub mod Merging
+pub mod Fitting
+pub mod Meeting
+pub mod Worked

@@ -1,0 +1,4 @@
+pub mod Came
+pub mod Normal
+pub mod Fits
+pub mod Merge

@@ -1,0 +1,21 @@
+//! Patches: which positions of a new text came from which of the old one.
+//!
+//! A patch is a list of edits. Each replaces a range of old positions by a range of new ones; all other positions are
+//! kept, and correspond in order. So a patch says of each new position where it came from, or that it is new, and
+//! this is all that it means: two patches that say the same are equal. Positions are counted in whatever the two
+//! lists hold, as bytes, lines or rows.
+//!
+//! The crate promises the exact answer of each call on patches, and laws above the definitions: what a patch says is
+//! the one correspondence in order that its edits leave, inverses go back, and patches compose to exactly one patch.
+#![tactic(auto)]
+
+pub mod edit;
+pub mod laws;
+mod merge;
+pub mod patch;
+
+pub use edit::Edit;
+pub use patch::Patch;
+
+#[cfg(test)]
+mod tests;
