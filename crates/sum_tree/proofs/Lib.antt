@@ -1,0 +1,3 @@
+pub mod Melds
+pub mod Pieces
+pub mod Raises
