@@ -103,6 +103,17 @@ module _ {T S : Type 0} where
       ∙ ap length (items_under-append (take i cs) (child_value c ∷ []) ∙ ap (λ l. items_under (take i cs) ++ l) (items-one (child_value c)))
       ∙ length-append (items_under (take i cs)) (items_in (child_value c).2)
 
+  -- the children before child i, child i, and those after it
+  pub children-split : (children : List (Child T S)) (i : ℕ) (c : Child T S) → i < length children → c ≡ get_or children i c → map child_value children ≡ take i (map child_value children) ++ (child_value c ∷ drop (i + 1) (map child_value children))
+  children-split children i c lt is =
+      sym (take-append-drop i (map child_value children)) ∙ ap (λ l. take i (map child_value children) ++ l) (children-opened children i c lt is)
+
+  -- the items before child i, those below it, and those after it
+  pub items-split : (children : List (Child T S)) (i : ℕ) (c : Child T S) → i < length children → c ≡ get_or children i c → items_under (map child_value children) ≡ items_under (take i (map child_value children)) ++ (items_in (child_value c).2 ++ items_under (drop (i + 1) (map child_value children)))
+  items-split children i c lt is =
+      let cs = map child_value children in
+      ap items_under (children-split children i c lt is) ∙ items_under-append (take i cs) (child_value c ∷ drop (i + 1) cs)
+
   pub taken-small : (cs : List (S × ℕ × Entries T S)) (i : ℕ) → length (items_under (take i cs)) ≤ length (items_under cs)
   taken-small cs i =
       let e = ap length (ap items_under (sym (take-append-drop i cs)) ∙ items_under-append (take i cs) (drop i cs)) in

@@ -29,6 +29,11 @@ module _ {T S : Type 0} where
       subst (λ k. IsLawfulInner empty joined summary (IsLawful empty joined summary k) (inner cs)) (sym s)
       (subst (IsLawfulInner empty joined summary (IsLawful empty joined summary h)) is l)
 
+  -- a node with children is no leaf
+  pub inner-high : (empty : S) (joined : S → S → S) (summary : T → S) (h : ℕ) (e : Entries T S) (cs : List (S × ℕ × Entries T S)) → IsLawful empty joined summary h e → contents e ≡ inner cs → 1 ≤ h
+  inner-high empty joined summary zero e cs l is = absurd (subst (IsLawfulLeaf empty joined summary) is l)
+  inner-high empty joined summary (suc h) e cs l is = omega arith
+
   -- a node made of such children is lawful
   pub lawful_above : (empty : S) (joined : S → S → S) (summary : T → S) (h : ℕ) (e : Entries T S) (cs : List (S × ℕ × Entries T S)) → 1 ≤ h → contents e ≡ inner cs → length cs ≤ 12 → IsChildList empty joined summary (IsLawful empty joined summary (h - 1)) 6 cs → IsLawful empty joined summary h e
   lawful_above empty joined summary zero e cs le is room children = absurd (omega arith)

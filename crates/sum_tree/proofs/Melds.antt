@@ -1,6 +1,6 @@
 -- Joining at one end of the higher tree.
-use Rattle.std.proofs.Common.{◌≡◌, ℕ, ◌+◌, ◌-◌, ◌<◌, ◌≤◌, min, max, List, [], ◌∷◌, ◌++◌, length, ap, ◌∙◌, subst, sym, refl, arith, length-append, append_assoc}
-use Rattle.sum_core.specs.Nodes.{IsLawful, IsChildList, IsChild, IsRoot, items_in, items_under, width, contents}
+use Rattle.std.proofs.Common.{◌≡◌, ℕ, ◌+◌, ◌-◌, ◌<◌, ◌≤◌, min, max, List, ◌++◌, length, ap, ◌∙◌, subst, sym, arith, length-append, append_assoc}
+use Rattle.sum_core.specs.Nodes.{IsLawful, IsChildList, IsRoot, items_in, items_under, width, contents}
 use Rattle.sum_core.specs.declared.node.Entries.{Entries}
 use Rattle.sum_tree.specs.Parts.{IsPacked, IsInner, IsParted, IsMelded}
 use Rattle.sum_core.proofs.Levels.{items-seen}
@@ -14,8 +14,8 @@ module _ {T S : Type 0} (empty : S) (joined : S → S → S) (summary : T → S)
   melded-level lh rh le re out same p =
       record {
         children = λ least six l r e. let top : lh ≡ max lh rh = omega arith in let w : least ≤ min 6 (width (contents le) + width (contents re)) = omega (arith, e same) in
-          subst (λ h. IsChildList empty joined summary (IsLawful empty joined summary h) least out) top
-          (children-weaker empty joined summary (IsLawful empty joined summary lh) least _ out w p.children);
+            subst (λ h. IsChildList empty joined summary (IsLawful empty joined summary h) least out) top
+            (children-weaker empty joined summary (IsLawful empty joined summary lh) least _ out w p.children);
         both = λ two. let top : lh ≡ max lh rh = omega arith in subst (λ h. IsChildList empty joined summary (IsLawful empty joined summary h) 6 out) top (p.both two);
         some = p.some;
         few = p.few;
@@ -37,8 +37,8 @@ module _ {T S : Type 0} (empty : S) (joined : S → S → S) (summary : T → S)
   melded-last lh rh n le re rest f pieces out lt is p d o =
       record {
         children = λ least six l r e. let top : lh ≡ max lh rh = omega arith in let w : least ≤ min 6 n = omega (arith, l lt, p.count, d.some) in
-          subst (λ h. IsChildList empty joined summary (IsLawful empty joined summary h) least out) top
-          (children-weaker empty joined summary (IsLawful empty joined summary lh) least _ out w o.children);
+            subst (λ h. IsChildList empty joined summary (IsLawful empty joined summary h) least out) top
+            (children-weaker empty joined summary (IsLawful empty joined summary lh) least _ out w o.children);
         both = λ two. let top : lh ≡ max lh rh = omega arith in subst (λ h. IsChildList empty joined summary (IsLawful empty joined summary h) 6 out) top (o.both two);
         some = o.some;
         few = o.few;
@@ -60,8 +60,8 @@ module _ {T S : Type 0} (empty : S) (joined : S → S → S) (summary : T → S)
   melded-first lh rh n le re rest f pieces out lt is p d o =
       record {
         children = λ least six l r e. let top : rh ≡ max lh rh = omega arith in let w : least ≤ min 6 n = omega (arith, r lt, p.count, d.some) in
-          subst (λ h. IsChildList empty joined summary (IsLawful empty joined summary h) least out) top
-          (children-weaker empty joined summary (IsLawful empty joined summary rh) least _ out w o.children);
+            subst (λ h. IsChildList empty joined summary (IsLawful empty joined summary h) least out) top
+            (children-weaker empty joined summary (IsLawful empty joined summary rh) least _ out w o.children);
         both = λ two. let top : rh ≡ max lh rh = omega arith in subst (λ h. IsChildList empty joined summary (IsLawful empty joined summary h) 6 out) top (o.both two);
         some = o.some;
         few = o.few;

@@ -1,12 +1,11 @@
 -- One node or two, and a node with a child taken out.
-use Rattle.std.proofs.Common.{◌≡◌, ℕ, ◌+◌, ◌-◌, ◌<◌, ◌≤◌, min, List, [], ◌∷◌, ◌++◌, map, length, ap, ◌∙◌, subst, sym, refl, arith, length-append, append_assoc, take}
+use Rattle.std.proofs.Common.{◌≡◌, ℕ, ◌+◌, ◌-◌, ◌≤◌, List, [], ◌∷◌, ◌++◌, length, ap, ◌∙◌, subst, sym, arith, length-append, append_assoc, take}
 use Rattle.std.proofs.lemmas.List.{append-nil, take_at}
-use Rattle.std.proofs.lemmas.List.Elements.{All-cons, All-nil}
 use Rattle.sum_core.specs.Nodes.{IsLawful, IsChildList, IsChild, inner, items_in, items_under, width, contents}
 use Rattle.sum_core.specs.declared.node.Entries.{Entries}
 use Rattle.sum_tree.specs.Parts.{IsPacked, IsInner, IsParted, IsCut}
 use Rattle.sum_core.proofs.Levels.{items-seen, lawful_below}
-use Rattle.sum_core.proofs.Children.{child-weaker, children-one, children-append, children-weaker, children-left, children-right, children-head, children-tail, items_under-append, items-one}
+use Rattle.sum_core.proofs.Children.{child-weaker, children-one, children-append, children-weaker, children-left, children-right, children-head, children-tail, items_under-append}
 
 module _ {T S : Type 0} (empty : S) (joined : S → S → S) (summary : T → S) where
   pub opened : (h : ℕ) (e : Entries T S) (cs : List (S × ℕ × Entries T S)) → IsLawful empty joined summary h e → contents e ≡ inner cs → IsInner empty joined summary h e cs

@@ -1,10 +1,10 @@
 -- From one node or two to a tree.
-use Rattle.std.proofs.Common.{◌≡◌, ℕ, zero, suc, ◌+◌, ◌-◌, ◌<◌, ◌≤◌, min, max, List, [], ◌∷◌, ◌++◌, length, ap, ◌∙◌, subst, sym, refl, arith}
+use Rattle.std.proofs.Common.{◌≡◌, ℕ, zero, suc, ◌+◌, ◌<◌, ◌≤◌, max, List, [], ◌∷◌, ◌++◌, length, ap, ◌∙◌, subst, sym, refl, arith}
 use Rattle.std.proofs.lemmas.List.{append-nil, nil_from_length}
 use Rattle.sum_core.specs.Nodes.{IsLawful, IsChildList, IsChild, IsRoot, entries_of, items_in, items_under, width, contents}
 use Rattle.sum_core.specs.declared.node.Entries.{Entries}
 use Rattle.sum_tree.specs.Parts.{IsMelded, IsPacked, IsRaisable}
-use Rattle.sum_tree.specs.Trees.{IsTree, IsTreeOf}
+use Rattle.sum_tree.specs.Trees.{IsTreeOf}
 use Rattle.sum_tree.specs.declared.trees.Tree.{Tree}
 use Rattle.sum_core.specs.Sums.{total}
 use Rattle.sum_core.proofs.Children.{children-head, children-weaker}

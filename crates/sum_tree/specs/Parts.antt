@@ -1,6 +1,6 @@
 -- What the parts of joining and cutting hand on. A child is shown as its stored sum, its stored count and what its node holds.
-use Rattle.std.specs.Prelude.{◌≡◌, ℕ, ◌+◌, ◌-◌, ◌<◌, ◌≤◌, List, length, ◌++◌, min, max}
-use Rattle.sum_core.specs.Nodes.{IsLawful, IsRoot, IsChildList, IsChild, inner, width, contents, items_in, items_under}
+use Rattle.std.specs.Prelude.{◌≡◌, ℕ, ◌+◌, ◌-◌, ◌<◌, ◌≤◌, List, length, ◌++◌, max}
+use Rattle.sum_core.specs.Nodes.{IsLawful, IsChildList, inner, width, contents, items_in, items_under}
 use Rattle.sum_core.specs.declared.node.Entries.{Entries}
 
 module _ {T S : Type 0} (empty : S) (joined : S → S → S) (summary : T → S) where

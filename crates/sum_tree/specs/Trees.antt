@@ -1,5 +1,5 @@
 -- What a whole tree keeps.
-use Rattle.std.specs.Prelude.{◌≡◌, ℕ, ◌^◌, ◌<◌, List, [], length, Option, None, Some}
+use Rattle.std.specs.Prelude.{◌≡◌, ◌^◌, ◌<◌, List, [], length, Option, None, Some}
 use Rattle.sum_core.specs.Sums.{total}
 use Rattle.sum_core.specs.Nodes.{IsRoot, entries_of, items_of}
 use Rattle.sum_tree.specs.declared.trees.Tree.{Tree}

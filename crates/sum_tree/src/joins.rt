@@ -5,9 +5,9 @@ ghost use Rattle.sum_core.specs.Nodes.{IsLawful, IsRoot, contents, width, entrie
 ghost use Rattle.sum_tree.specs.Parts.{IsPacked, IsMelded};
 
 use crate::open::{Parted, copy_inner, copy_leaf, take_first, take_last};
-use crate::pack::{pack_joined, pack_items};
-use std::alloc::Global;
+use crate::pack::{pack_items, pack_joined};
 use cell_units::{NoMemory, Steps};
+use std::alloc::Global;
 use sum_core::{Child, Item, Node};
 
 pub fn meld_level<T: Item>(

@@ -1,6 +1,7 @@
 //! A sum tree: a persistent list that knows the sum of its items, and finds places in it by their sums.
 #![tactic(auto)]
 
+mod find;
 mod joins;
 mod open;
 mod pack;

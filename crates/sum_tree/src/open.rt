@@ -3,8 +3,8 @@ ghost use Rattle.std.specs.Prelude.{◌≡◌, ◌+◌, ◌-◌, ◌≤◌, ◌+
 ghost use Rattle.sum_core.specs.Nodes.{IsLawful, leaf, contents, width, entries_of, child_value, items_of, items_under};
 ghost use Rattle.sum_tree.specs.Parts.{IsInner, IsParted};
 
-use std::alloc::Global;
 use cell_units::{NoMemory, Steps};
+use std::alloc::Global;
 use sum_core::{Child, Entries, Item, Node, copy_children, copy_items};
 
 #[derive(Drop)]
@@ -13,7 +13,11 @@ pub struct Parted<T: Item> {
     pub node: Node<T>,
 }
 
-pub fn copy_leaf<T: Item>(alloc: Global, node: &Node<T>, steps: &mut Steps) -> Result<Vec<T>, NoMemory>
+pub fn copy_leaf<T: Item>(
+    alloc: Global,
+    node: &Node<T>,
+    steps: &mut Steps,
+) -> Result<Vec<T>, NoMemory>
     requires { IsLawful T.Sum.empty T.Sum.joined T.summary 0 (entries_of node.now) }
     ensures opened { IfOk result (λ v. contents (entries_of node.now) ≡ leaf v.items) }
     ensures steps { steps.new ≤ steps.old + 1 }

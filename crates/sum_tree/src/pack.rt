@@ -4,8 +4,8 @@ ghost use Rattle.sum_core.specs.Sums.{total};
 ghost use Rattle.sum_core.specs.Nodes.{IsLawful, IsChildList, IsChild, contents, width, entries_of, child_value, items_in, items_under};
 ghost use Rattle.sum_tree.specs.Parts.{IsPacked};
 
-use std::alloc::Global;
 use cell_units::{NoMemory, Steps};
+use std::alloc::Global;
 use sum_core::{Child, Entries, Item, Node, Summary};
 
 const MOST: usize = 12;
@@ -38,7 +38,11 @@ fn sum_children<T: Item>(children: &[Child<T>], below: usize) -> (T::Sum, usize)
     (sum, count)
 }
 
-pub fn make_leaf<T: Item>(alloc: Global, items: Vec<T>, steps: &mut Steps) -> Result<Child<T>, NoMemory>
+pub fn make_leaf<T: Item>(
+    alloc: Global,
+    items: Vec<T>,
+    steps: &mut Steps,
+) -> Result<Child<T>, NoMemory>
     requires room { vec_len items ≤ 12 }
     requires fits { T.Sum.fits (total T.Sum.empty T.Sum.joined T.summary items.items) }
     ensures kept { IfOk result (λ c. IsChild T.Sum.empty T.Sum.joined T.summary (IsLawful T.Sum.empty T.Sum.joined T.summary 0) (vec_len items) (child_value c)) }
@@ -96,7 +100,11 @@ fn two<T: Item>(alloc: Global, left: Child<T>, right: Child<T>) -> Result<Vec<Ch
     Ok(pieces)
 }
 
-pub fn pack_items<T: Item>(alloc: Global, items: Vec<T>, steps: &mut Steps) -> Result<Vec<Child<T>>, NoMemory>
+pub fn pack_items<T: Item>(
+    alloc: Global,
+    items: Vec<T>,
+    steps: &mut Steps,
+) -> Result<Vec<Child<T>>, NoMemory>
     requires room { vec_len items ≤ 24 }
     requires fits { T.Sum.fits (total T.Sum.empty T.Sum.joined T.summary items.items) }
     ensures packed { IfOk result (λ v. IsPacked T.Sum.empty T.Sum.joined T.summary 0 (min 6 (vec_len items)) items.items (map child_value v.items)) }

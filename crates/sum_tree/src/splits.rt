@@ -5,34 +5,13 @@ ghost use Rattle.sum_core.specs.Nodes.{IsRoot, IsChildList, IsLawful, entries_of
 ghost use Rattle.sum_tree.specs.Parts.{IsCut};
 ghost use Rattle.sum_tree.specs.Trees.{IsTree, IsTreeOf};
 
+use crate::find::find_child;
 use crate::open::{copy_inner, copy_leaf};
 use crate::pack::make_leaf;
 use crate::trees::{Tree, join, raise};
 use cell_units::{NoMemory, Steps};
 use std::alloc::Global;
 use sum_core::{Child, Item, Node};
-
-// At which child the item `at` lies, and how many items there are before it.
-fn find_child<T: Item>(children: &[Child<T>], below: usize, at: usize) -> (usize, usize)
-    requires some { 1 ≤ length children.now }
-    requires children { IsChildList T.Sum.empty T.Sum.joined T.summary (IsLawful T.Sum.empty T.Sum.joined T.summary below) 6 (map child_value children.now) }
-    requires within { at ≤ length (items_under (map child_value children.now)) }
-    requires small { length (items_under (map child_value children.now)) < 2 ^ 32 }
-    ensures index { result.0 < length children.now }
-    ensures offset { result.1 ≡ length (items_under (take result.0 (map child_value children.now))) }
-    ensures low { result.1 ≤ at }
-    ensures high { at ≤ length (items_under (take (result.0 + 1) (map child_value children.now))) }
-{
-    let mut offset = 0;
-    for (index, child) in children.iter().enumerate() {
-        let next = offset + child.count;
-        if at <= next {
-            return (index, offset);
-        }
-        offset = next;
-    }
-    unreachable!()
-}
 
 #[derive(Drop)]
 pub struct Cut<T: Item> {
@@ -150,7 +129,12 @@ pub fn split_at<T: Item>(
     }
 }
 
-fn split_leaf<T: Item>(alloc: Global, node: &Node<T>, at: usize, steps: &mut Steps) -> Result<Halves<T>, NoMemory>
+fn split_leaf<T: Item>(
+    alloc: Global,
+    node: &Node<T>,
+    at: usize,
+    steps: &mut Steps,
+) -> Result<Halves<T>, NoMemory>
     requires tree { IsRoot T.Sum.empty T.Sum.joined T.summary 0 (entries_of node.now) }
     requires within { at ≤ length (items_of node.now) }
     requires fits { T.Sum.fits (total T.Sum.empty T.Sum.joined T.summary (items_of node.now)) }
@@ -167,4 +151,3 @@ fn split_leaf<T: Item>(alloc: Global, node: &Node<T>, at: usize, steps: &mut Ste
         right: Tree::over(right, 0),
     })
 }
-

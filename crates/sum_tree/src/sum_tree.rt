@@ -1,7 +1,9 @@
 //! The tree as a list of items.
-ghost use Rattle.std.specs.Prelude.{ℕ, ◌≡◌, ◌+◌, ◌*◌, ◌^◌, ◌<◌, ◌≤◌, ◌++◌, ◌∷◌, [], IfOk, OnOk, OnErr, length, vec_len, take, drop};
+ghost use Rattle.std.specs.Prelude.{ℕ, ◌≡◌, ◌+◌, ◌*◌, ◌^◌, ◌<◌, ◌≤◌, ◌++◌, ◌∷◌, [], IfOk, OnOk, OnErr, length, vec_len, take, drop, slice_get};
+ghost use Rattle.std.specs.Option.{option_copied};
 ghost use Rattle.sum_core.specs.Sums.{total};
 
+use crate::find::item_at;
 use crate::pack::make_leaf;
 use crate::splits::split_at;
 use crate::trees::{Tree, build_last, join};
@@ -70,6 +72,23 @@ impl<T: Item> SumTree<T> {
         }
     }
 
+    /// The item at place `at`, and `None` exactly where there is none.
+    pub fn get(&self, at: u32, steps: &mut Steps) -> Option<&T>
+        ensures item { option_copied result ≡ slice_get self.now at }
+        ensures steps { (h : ℕ) → length self.now < 2 * 6 ^ (h + 1) → steps.new ≤ steps.old + 64 * (h + 1) }
+    {
+        match &self.tree {
+            None => None,
+            Some(tree) => {
+                if (at as usize) < tree.count {
+                    Some(item_at(&tree.node, tree.height, at as usize, steps))
+                } else {
+                    None
+                }
+            }
+        }
+    }
+
     /// The number of levels below the root.
     pub fn height(&self) -> u32
         ensures { (h : ℕ) → length self.now < 2 * 6 ^ (h + 1) → result ≤ h }
@@ -117,7 +136,12 @@ impl<T: Item> SumTree<T> {
     }
 
     /// Adds the items of another tree at the end.
-    pub fn concat(&mut self, alloc: Global, other: SumTree<T>, steps: &mut Steps) -> Result<(), NoMemory>
+    pub fn concat(
+        &mut self,
+        alloc: Global,
+        other: SumTree<T>,
+        steps: &mut Steps,
+    ) -> Result<(), NoMemory>
         requires fits { T.Sum.fits (total T.Sum.empty T.Sum.joined T.summary (self.old ++ other)) }
         requires small { length (self.old ++ other) < 2 ^ 32 }
         ensures ok { OnOk result (self.new ≡ self.old ++ other) }
@@ -137,7 +161,12 @@ impl<T: Item> SumTree<T> {
     }
 
     /// Takes the items from place `at` on off the list.
-    pub fn split_off(&mut self, alloc: Global, at: u32, steps: &mut Steps) -> Result<SumTree<T>, NoMemory>
+    pub fn split_off(
+        &mut self,
+        alloc: Global,
+        at: u32,
+        steps: &mut Steps,
+    ) -> Result<SumTree<T>, NoMemory>
         requires { at ≤ length self.old }
         ensures ok { OnOk result (self.new ≡ take at self.old) }
         ensures tail { IfOk result (λ t. t ≡ drop at self.old) }
@@ -155,7 +184,14 @@ impl<T: Item> SumTree<T> {
     }
 
     /// Puts `items` in the place of those from place `from` to place `to`.
-    pub fn replace(&mut self, alloc: Global, from: u32, to: u32, items: Vec<T>, steps: &mut Steps) -> Result<(), NoMemory>
+    pub fn replace(
+        &mut self,
+        alloc: Global,
+        from: u32,
+        to: u32,
+        items: Vec<T>,
+        steps: &mut Steps,
+    ) -> Result<(), NoMemory>
         requires order { from ≤ to }
         requires within { to ≤ length self.old }
         requires fits { T.Sum.fits (total T.Sum.empty T.Sum.joined T.summary (take from self.old ++ items.items ++ drop to self.old)) }

@@ -88,7 +88,14 @@ pub fn join<T: Item>(
     ensures climb { steps.new + 3 * min left.now.height right.now.height ≤ steps.old + 3 * max left.now.height right.now.height + 5 }
     ensures steps { steps.new ≤ steps.old + 38 }
 {
-    let pieces = meld(alloc, &left.node, left.height, &right.node, right.height, steps)?;
+    let pieces = meld(
+        alloc,
+        &left.node,
+        left.height,
+        &right.node,
+        right.height,
+        steps,
+    )?;
     raise(alloc, pieces, left.height.max(right.height), steps)
 }
 

@@ -1,10 +1,9 @@
-use Rattle.std.proofs.Common.{◌≡◌, ◌∙◌, ◌<◌, ◌≤◌, ap, sym, subst, map, length, arith, ◌++◌, ◌+◌, ◌-◌, ◌^◌, vec_len}
+use Rattle.std.proofs.Common.{◌≡◌, ◌<◌, map, length, arith, ◌+◌, ◌-◌, vec_len}
 use Rattle.std.proofs.lemmas.List.{length-map}
-use Rattle.sum_core.specs.Sums.{total}
-use Rattle.sum_core.specs.Nodes.{entries_of, child_value, items_of, items_under, contents, width, items_in}
+use Rattle.sum_core.specs.Nodes.{entries_of, child_value}
 use Rattle.sum_core.proofs.Levels.{if_ok}
 use Rattle.sum_core.proofs.Children.{fits-left, fits-right}
-use Rattle.sum_tree.proofs.Melds.{tree-below, last-children, last-items, last-all, first-children, first-items, first-all, small-left, small-right, melded-last, melded-first, melded-level}
+use Rattle.sum_tree.proofs.Melds.{tree-below, last-children, last-all, first-children, first-all, small-left, small-right, melded-last, melded-first, melded-level}
 use Rattle.sum_tree.proofs.joins.+meld.Goals as goal
 
 pub meld-requires : goal.meld-requires
@@ -12,9 +11,22 @@ meld-requires g t c κs within =
     let m = g.T.Sum.Summary in
     let p = c.in_ok-rest.ensures.parted in
     let f = entries_of c.in_ok-rest.field-0.node in
-    let all = last-all m.empty m.joined g.T.Item.summary c.args.left_height (entries_of c.args.left.now) (entries_of c.args.right.now) (map child_value c.in_ok-rest.field-0.rest.items) f p in
-    (omega arith, (within.0, (within.1, (tree-below m.empty m.joined g.T.Item.summary (c.args.left_height - 1) f p.lawful p.wide, (c.requires.right,
-    (fits-right m.empty m.joined m.fits g.T.Item.summary g.met.T.Sum.Summary.laws _ _ _ all c.requires.fits, small-right _ _ _ _ all c.requires.small))))))
+    let all = last-all m.empty m.joined g.T.Item.summary c.args.left_height (entries_of c.args.left.now) (entries_of c.args.right.now) (map child_value c.in_ok-rest.field-0.rest.items) f p in (
+      omega arith,
+      (
+        within.0,
+        (
+          within.1,
+          (
+            tree-below m.empty m.joined g.T.Item.summary (c.args.left_height - 1) f p.lawful p.wide,
+            (
+              c.requires.right,
+              (fits-right m.empty m.joined m.fits g.T.Item.summary g.met.T.Sum.Summary.laws _ _ _ all c.requires.fits, small-right _ _ _ _ all c.requires.small),
+            ),
+          ),
+        ),
+      ),
+    )
 
 pub pack_joined-requires-clause-back : goal.pack_joined-requires-clause-back
 pack_joined-requires-clause-back g t c =
@@ -34,9 +46,22 @@ meld-requires-else-right_height-left_height g t c κs within =
     let m = g.T.Sum.Summary in
     let p = c.in_ok-rest-2.ensures.parted in
     let f = entries_of c.in_ok-rest-2.field-0.node in
-    let all = first-all m.empty m.joined g.T.Item.summary c.args.right_height (entries_of c.args.left.now) (entries_of c.args.right.now) (map child_value c.in_ok-rest-2.field-0.rest.items) f p in
-    (omega arith, (within.0, (within.1, (c.requires.left, (tree-below m.empty m.joined g.T.Item.summary (c.args.right_height - 1) f p.lawful p.wide,
-    (fits-left m.empty m.joined m.fits g.T.Item.summary g.met.T.Sum.Summary.laws _ _ _ all c.requires.fits, small-left _ _ _ _ all c.requires.small))))))
+    let all = first-all m.empty m.joined g.T.Item.summary c.args.right_height (entries_of c.args.left.now) (entries_of c.args.right.now) (map child_value c.in_ok-rest-2.field-0.rest.items) f p in (
+      omega arith,
+      (
+        within.0,
+        (
+          within.1,
+          (
+            c.requires.left,
+            (
+              tree-below m.empty m.joined g.T.Item.summary (c.args.right_height - 1) f p.lawful p.wide,
+              (fits-left m.empty m.joined m.fits g.T.Item.summary g.met.T.Sum.Summary.laws _ _ _ all c.requires.fits, small-left _ _ _ _ all c.requires.small),
+            ),
+          ),
+        ),
+      ),
+    )
 
 pub pack_joined-requires-else-right_height-left_height-clause-front : goal.pack_joined-requires-else-right_height-left_height-clause-front
 pack_joined-requires-else-right_height-left_height-clause-front g t c =

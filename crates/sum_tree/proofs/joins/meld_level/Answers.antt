@@ -1,9 +1,8 @@
-use Rattle.std.proofs.Common.{◌≡◌, ◌∙◌, ◌<◌, ap, sym, subst, map, length, arith, ◌++◌, ◌+◌, ◌^◌, vec_len}
+use Rattle.std.proofs.Common.{◌≡◌, ◌<◌, ap, sym, subst, length, arith, ◌+◌, ◌^◌, vec_len}
 use Rattle.std.proofs.lemmas.List.{length-map}
 use Rattle.sum_core.specs.Sums.{total}
-use Rattle.sum_core.specs.Nodes.{entries_of, child_value, items_of, items_under, contents, width, items_in}
-use Rattle.sum_tree.specs.Parts.{IsPacked}
-use Rattle.sum_core.proofs.Levels.{items-seen, if_ok}
+use Rattle.sum_core.specs.Nodes.{entries_of, child_value, contents, width}
+use Rattle.sum_core.proofs.Levels.{if_ok}
 use Rattle.sum_tree.proofs.Melds.{level-items, packed-as}
 use Rattle.sum_tree.proofs.joins.meld_level.Goals as goal
 

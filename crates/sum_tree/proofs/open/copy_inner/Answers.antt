@@ -1,4 +1,4 @@
-use Rattle.std.proofs.Common.{◌≡◌, ap, ◌∙◌, sym, map}
+use Rattle.std.proofs.Common.{ap, ◌∙◌, sym, map}
 use Rattle.sum_core.specs.Nodes.{entries_of, child_value, inner}
 use Rattle.sum_core.proofs.Levels.{seen, if_ok}
 use Rattle.sum_tree.proofs.Pieces.{opened}

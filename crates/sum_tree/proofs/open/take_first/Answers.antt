@@ -1,5 +1,5 @@
-use Rattle.std.proofs.Common.{◌≡◌, ◌<◌, ap, arith, map, length}
-use Rattle.sum_core.specs.Nodes.{entries_of, child_value, width}
+use Rattle.std.proofs.Common.{◌<◌, ap, arith, map, length}
+use Rattle.sum_core.specs.Nodes.{entries_of, child_value}
 use Rattle.sum_core.proofs.Children.{first-out}
 use Rattle.sum_tree.proofs.Pieces.{parted-first}
 use Rattle.sum_tree.proofs.open.take_first.Goals as goal

@@ -1,5 +1,4 @@
-use Rattle.std.proofs.Common.{◌≡◌, ◌∷◌, [], ◌∙◌, ap, map}
-use Rattle.std.proofs.lemmas.List.{map-append}
+use Rattle.std.proofs.Common.{map}
 use Rattle.sum_core.specs.Nodes.{entries_of, child_value}
 use Rattle.sum_core.proofs.Children.{values-append}
 use Rattle.sum_tree.proofs.Pieces.{parted-last}

@@ -1,4 +1,4 @@
-use Rattle.std.proofs.Common.{◌≡◌, ◌≤◌, ◌∙◌, ap, sym, map, arith, length, vec_len}
+use Rattle.std.proofs.Common.{◌≡◌, ◌∙◌, ap, sym, map, arith, length}
 use Rattle.std.proofs.lemmas.List.{length-map}
 use Rattle.sum_core.specs.Sums.{total}
 use Rattle.sum_core.specs.Nodes.{entries_of, child_value, inner, contents, items_under, width, items_in}

@@ -1,4 +1,4 @@
-use Rattle.std.proofs.Common.{◌≡◌, ◌≤◌, min, arith, vec_len, length, map, ap, length-append}
+use Rattle.std.proofs.Common.{◌≤◌, arith, vec_len, length, map, ap, length-append}
 use Rattle.sum_core.specs.Nodes.{child_value, items_under}
 use Rattle.sum_core.proofs.Levels.{if_ok}
 use Rattle.sum_core.proofs.Children.{cut, fits-left, fits-right, values-append, items-append, children-left, children-right}

@@ -1,5 +1,4 @@
-use Rattle.std.proofs.Common.{◌≡◌, ◌≤◌, min, arith, vec_len, length}
-use Rattle.sum_core.specs.Nodes.{child_value}
+use Rattle.std.proofs.Common.{◌≤◌, arith, vec_len}
 use Rattle.sum_core.proofs.Levels.{if_ok}
 use Rattle.sum_core.proofs.Children.{cut, fits-left, fits-right}
 use Rattle.sum_tree.proofs.Pieces.{packed-two}

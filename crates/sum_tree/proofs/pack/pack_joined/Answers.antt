@@ -1,5 +1,5 @@
-use Rattle.std.proofs.Common.{◌≡◌, ap, sym, subst, map, ◌++◌}
-use Rattle.sum_core.specs.Nodes.{IsChildList, IsLawful, child_value}
+use Rattle.std.proofs.Common.{sym, subst, map}
+use Rattle.sum_core.specs.Nodes.{IsChildList, child_value}
 use Rattle.sum_core.proofs.Children.{values-append, children-append}
 use Rattle.sum_tree.proofs.pack.pack_joined.Goals as goal
 

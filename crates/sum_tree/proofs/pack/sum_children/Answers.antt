@@ -1,6 +1,6 @@
-use Rattle.std.proofs.Common.{◌≡◌, ◌+◌, ◌<◌, ◌∙◌, ap, sym, subst, map, drop, arith, length, length-append}
+use Rattle.std.proofs.Common.{◌+◌, ◌∙◌, ap, sym, subst, map, drop, arith, length, length-append}
 use Rattle.sum_core.specs.Sums.{total}
-use Rattle.sum_core.specs.Nodes.{child_value, items_in, items_under, IsLawful, IsChild}
+use Rattle.sum_core.specs.Nodes.{child_value, items_in, items_under, IsLawful}
 use Rattle.sum_core.proofs.Children.{children-at, items-opened, fits-split, same-split}
 use Rattle.sum_tree.proofs.pack.sum_children.Goals as goal
 

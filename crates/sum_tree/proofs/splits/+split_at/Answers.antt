@@ -1,7 +1,7 @@
-use Rattle.std.proofs.Common.{◌≡◌, ◌<◌, ◌≤◌, ◌^◌, ◌-◌, ◌+◌, ◌∙◌, ◌++◌, List, ap, sym, subst, refl, arith, map, length, take, drop, append_assoc}
+use Rattle.std.proofs.Common.{◌≡◌, ◌-◌, ◌∙◌, ◌++◌, ap, sym, subst, refl, arith, map, take, drop}
 use Rattle.std.proofs.lemmas.List.{take-append-drop}
 use Rattle.sum_core.specs.Sums.{total}
-use Rattle.sum_core.specs.Nodes.{entries_of, child_value, items_under, items_in, items_of}
+use Rattle.sum_core.specs.Nodes.{entries_of, child_value, items_under, items_of}
 use Rattle.sum_tree.specs.Trees.{IsTreeOf}
 use Rattle.sum_core.proofs.Children.{cut-middle, fits-left, fits-right}
 use Rattle.sum_tree.proofs.Melds.{tree-below, small-left, small-right}
@@ -15,9 +15,22 @@ split_at-requires g t c κs within =
     let F = items_of c.in_ok-cut.cut.node in
     let A = items_under (map child_value c.in_ok-cut.cut.after.items) in
     let fit = fits-right m.empty m.joined m.fits g.T.Item.summary g.met.T.Sum.Summary.laws _ (items_under (map child_value c.in_ok-cut.cut.before.items)) (F ++ A) k.items_is c.requires.fits in
-    let few = small-right _ _ (items_under (map child_value c.in_ok-cut.cut.before.items)) (F ++ A) k.items_is c.requires.small in
-    (omega arith, (within.0, (within.1, (tree-below m.empty m.joined g.T.Item.summary (c.args.height - 1) (entries_of c.in_ok-cut.cut.node) k.lawful k.wide, (omega (arith, k.high, k.low),
-    (fits-left m.empty m.joined m.fits g.T.Item.summary g.met.T.Sum.Summary.laws _ F A refl fit, small-left _ _ F A refl few))))))
+    let few = small-right _ _ (items_under (map child_value c.in_ok-cut.cut.before.items)) (F ++ A) k.items_is c.requires.small in (
+      omega arith,
+      (
+        within.0,
+        (
+          within.1,
+          (
+            tree-below m.empty m.joined g.T.Item.summary (c.args.height - 1) (entries_of c.in_ok-cut.cut.node) k.lawful k.wide,
+            (
+              omega (arith, k.high, k.low),
+              (fits-left m.empty m.joined m.fits g.T.Item.summary g.met.T.Sum.Summary.laws _ F A refl fit, small-left _ _ F A refl few),
+            ),
+          ),
+        ),
+      ),
+    )
 
 pub join_before-requires-clause-low : goal.join_before-requires-clause-low
 join_before-requires-clause-low g t c =

@@ -1,6 +1,6 @@
-use Rattle.std.proofs.Common.{◌≡◌, ◌+◌, ◌<◌, ◌≤◌, ◌∙◌, ◌++◌, ◌∷◌, ap, sym, subst, map, take, arith, length, length-append}
+use Rattle.std.proofs.Common.{◌≡◌, ◌+◌, ◌<◌, ◌≤◌, ◌∙◌, ◌++◌, ap, sym, subst, map, take, arith, length}
 use Rattle.std.proofs.lemmas.List.{length-map}
-use Rattle.sum_core.specs.Nodes.{child_value, entries_of, items_in, items_under}
+use Rattle.sum_core.specs.Nodes.{child_value, entries_of, items_under}
 use Rattle.sum_core.proofs.Levels.{items-seen}
 use Rattle.sum_core.proofs.Children.{cut, first-out, values-append}
 use Rattle.sum_tree.proofs.Pieces.{cut-at}

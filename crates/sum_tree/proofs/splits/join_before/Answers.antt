@@ -1,5 +1,4 @@
-use Rattle.std.proofs.Common.{◌≡◌, ◌≤◌, ◌∙◌, refl, arith, map, length, ◌++◌}
-use Rattle.std.proofs.lemmas.List.{length-map}
+use Rattle.std.proofs.Common.{refl, map}
 use Rattle.sum_core.specs.Nodes.{child_value, items_under, items_of}
 use Rattle.sum_core.proofs.Children.{fits-left}
 use Rattle.sum_tree.proofs.splits.join_before.Goals as goal

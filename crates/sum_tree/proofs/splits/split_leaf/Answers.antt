@@ -1,4 +1,4 @@
-use Rattle.std.proofs.Common.{◌≡◌, ◌∙◌, ◌++◌}
+use Rattle.std.proofs.Common.{◌∙◌}
 use Rattle.sum_core.specs.Nodes.{entries_of}
 use Rattle.sum_core.proofs.Levels.{items-leaf}
 use Rattle.sum_core.proofs.Children.{cut, fits-left, fits-right}

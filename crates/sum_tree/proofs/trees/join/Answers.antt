@@ -1,4 +1,4 @@
-use Rattle.std.proofs.Common.{◌≡◌, ◌<◌, ◌≤◌, ◌^◌, ◌∙◌, ap, sym, subst, arith, map, length, length-append, refl}
+use Rattle.std.proofs.Common.{sym, subst, arith, map, refl}
 use Rattle.sum_tree.proofs.Melds.{small-left, small-right}
 use Rattle.sum_core.specs.Nodes.{child_value, entries_of, items_of}
 use Rattle.sum_tree.specs.Parts.{IsRaisable}

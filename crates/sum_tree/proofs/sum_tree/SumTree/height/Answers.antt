@@ -1,4 +1,4 @@
-use Rattle.std.proofs.Common.{◌≡◌, ◌<◌, ◌≤◌, ◌^◌, ◌∙◌, ap, sym, subst, arith, length, Some}
+use Rattle.std.proofs.Common.{ap, subst, arith, length}
 use Rattle.sum_core.specs.Nodes.{entries_of}
 use Rattle.sum_core.proofs.Heights.{low-at, low-root}
 use Rattle.sum_tree.specs.Trees.{IsHeld, items_held}

@@ -1,6 +1,5 @@
-use Rattle.std.proofs.Common.{◌≡◌, ◌≤◌, ◌<◌, ◌*◌, ◌^◌, ◌+◌, ◌++◌, ◌∙◌, sym, subst, arith, take, drop, length, ap, refl, append_assoc, length-append}
-use Rattle.std.proofs.lemmas.List.{length-take, length-drop}
-use Rattle.sum_core.specs.Sums.{total}
+use Rattle.std.proofs.Common.{◌≡◌, ◌≤◌, ◌++◌, ◌∙◌, sym, arith, take, drop, length, ap, refl}
+use Rattle.std.proofs.lemmas.List.{length-drop}
 use Rattle.sum_core.proofs.Children.{fits-left, fits-right}
 use Rattle.sum_tree.proofs.sum_tree.SumTree.replace.Goals as goal
 
@@ -16,8 +15,8 @@ concat-requires-clause-fits g c =
     let m = g.T.Sum.Summary in
     let front : c.split_off.new.self ≡ take c.args.from c.args.self.now = c.in_ok-back.ensures.ok ∙ ap (take c.args.from) c.in_ok-front.ensures in
     let parts : (take c.args.from c.args.self.now ++ c.args.items.items) ++ drop c.args.to c.args.self.now ≡ (c.split_off.new.self ++ c.in_ok-middle.middle) ++ drop c.args.to c.args.self.now =
-        ap (λ l. (l ++ c.args.items.items) ++ drop c.args.to c.args.self.now) (sym front)
-        ∙ ap (λ l. (c.split_off.new.self ++ l) ++ drop c.args.to c.args.self.now) (sym c.in_ok-middle.ensures.ok) in
+    ap (λ l. (l ++ c.args.items.items) ++ drop c.args.to c.args.self.now) (sym front)
+    ∙ ap (λ l. (c.split_off.new.self ++ l) ++ drop c.args.to c.args.self.now) (sym c.in_ok-middle.ensures.ok) in
     fits-left m.empty m.joined m.fits g.T.Item.summary g.met.T.Sum.Summary.laws _ (c.split_off.new.self ++ c.in_ok-middle.middle) (drop c.args.to c.args.self.now) parts c.requires.fits
 
 pub returns-in_err-back-2-clause-steps : goal.returns-in_err-back-2-clause-steps

@@ -1,4 +1,4 @@
-use Rattle.std.proofs.Common.{◌≡◌, ◌≤◌, ◌<◌, ◌*◌, ◌^◌, ◌+◌, sym, subst, arith, take, drop, length, ap}
+use Rattle.std.proofs.Common.{◌<◌, ◌*◌, ◌^◌, ◌+◌, sym, subst, arith, take, drop, length, ap}
 use Rattle.std.proofs.lemmas.List.{take-append-drop}
 use Rattle.sum_core.specs.Sums.{total}
 use Rattle.sum_core.specs.Nodes.{entries_of, items_of}

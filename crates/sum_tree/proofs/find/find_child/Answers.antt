@@ -1,8 +1,8 @@
-use Rattle.std.proofs.Common.{◌≡◌, ◌+◌, ◌<◌, ◌≤◌, ◌∙◌, ap, sym, subst, map, drop, take, arith, length, length-append}
+use Rattle.std.proofs.Common.{◌≡◌, ◌+◌, ◌≤◌, ap, map, take, arith, length}
 use Rattle.std.proofs.lemmas.List.{length-map, take_all}
-use Rattle.sum_core.specs.Nodes.{child_value, items_in, items_under, IsLawful, IsChild}
+use Rattle.sum_core.specs.Nodes.{child_value, items_under, IsLawful}
 use Rattle.sum_core.proofs.Children.{children-at, items-taken, taken-small}
-use Rattle.sum_tree.proofs.splits.find_child.Goals as goal
+use Rattle.sum_tree.proofs.find.find_child.Goals as goal
 
 pub overflow_add-next : goal.overflow_add-next
 overflow_add-next g c =

@@ -1,6 +1,6 @@
 use Rattle.std.proofs.Common.{◌≡◌, ◌<◌, ◌≤◌, length, map, take}
 use Rattle.sum_core.specs.Nodes.{items_under, child_value}
-use Rattle.sum_tree.proofs.splits.find_child.Given as goal
+use Rattle.sum_tree.proofs.find.find_child.Given as goal
 
 abbrev pub invariant-loop-index : goal.invariant-loop-index
 invariant-loop-index g l = record {
