@@ -1,0 +1,4 @@
+pub mod Counts
+pub mod Lending
+pub mod Nodes
+pub mod Sums

@@ -1,0 +1,4 @@
+pub mod Melds
+pub mod Pieces
+pub mod Places
+pub mod Raises

@@ -1,0 +1,20 @@
+-- An item of a part of a list, at its place in the whole.
+use Rattle.std.proofs.Common.{◌≡◌, ℕ, zero, suc, ◌+◌, ◌-◌, ◌≤◌, List, [], ◌∷◌, ◌++◌, length, ap, ◌∙◌, arith, zero-add, Some}
+use Rattle.std.specs.List.{slice_get}
+
+slice_get_after : {X : Type 0} (xs ys : List X) (n : ℕ) → slice_get (xs ++ ys) (length xs + n) ≡ slice_get ys n
+slice_get_after [] ys n = ap (slice_get ys) (zero-add n)
+slice_get_after (x ∷ xs) ys n =
+    let e : length (x ∷ xs) + n ≡ suc (length xs + n) = omega arith in
+    ap (slice_get (x ∷ (xs ++ ys))) e ∙ slice_get_after xs ys n
+
+slice_get_before : {X : Type 0} (xs ys : List X) (n : ℕ) (x : X) → slice_get xs n ≡ Some x → slice_get (xs ++ ys) n ≡ Some x
+slice_get_before [] ys n x e = cc
+slice_get_before (z ∷ xs) ys zero x e = e
+slice_get_before (z ∷ xs) ys (suc n) x e = slice_get_before xs ys n x e
+
+pub slice_get_within_part : {X : Type 0} (all before part after : List X) (at offset : ℕ) (x : X) → all ≡ before ++ (part ++ after) → offset ≡ length before → offset ≤ at → slice_get part (at - offset) ≡ Some x → slice_get all at ≡ Some x
+slice_get_within_part all before part after at offset x e oe low is =
+    let n : at ≡ length before + (at - offset) = omega arith in
+    ap (λ l. slice_get l at) e ∙ ap (slice_get (before ++ (part ++ after))) n
+    ∙ slice_get_after before (part ++ after) (at - offset) ∙ slice_get_before part after (at - offset) x is

@@ -1,0 +1,20 @@
+use Rattle.std.proofs.Common.{◌<◌, ◌^◌, ◌*◌, ◌+◌, ap, sym, subst, arith, length}
+use Rattle.std.proofs.lemmas.Option.{slice_get_past}
+use Rattle.sum_core.specs.Nodes.{entries_of, items_of}
+use Rattle.sum_core.proofs.Heights.{low-at}
+use Rattle.sum_tree.specs.Trees.{IsHeld, items_held}
+use Rattle.sum_tree.proofs.sum_tree.SumTree.get.Goals as goal
+
+pub returns-then-at-tree-clause-steps : goal.returns-then-at-tree-clause-steps
+returns-then-at-tree-clause-steps g c h few =
+    let m = g.T.Sum.Summary in
+    let held = subst (IsHeld m.empty m.joined g.T.Item.summary m.fits) c.in-Some.is c.self.invariant in
+    let few' : length (items_of c.in-Some.tree.node) < 2 * 6 ^ (h + 1) = omega (arith, few, ap length c.self.view_is, ap (λ o. length (items_held o)) c.in-Some.is) in
+    let low = low-at m.empty m.joined g.T.Item.summary c.in-Some.tree.height (entries_of c.in-Some.tree.node) h held.tree.root few' in
+    omega (arith, low, c.item_at.ensures.steps)
+
+pub returns-else-at-tree-clause-item : goal.returns-else-at-tree-clause-item
+returns-else-at-tree-clause-item g c =
+    let m = g.T.Sum.Summary in
+    let held = subst (IsHeld m.empty m.joined g.T.Item.summary m.fits) c.in-Some.is c.self.invariant in
+    sym (slice_get_past c.args.self.now c.args.at (omega (arith, held.tree.count_is, ap length c.self.view_is, ap (λ o. length (items_held o)) c.in-Some.is)))

@@ -1,0 +1,4 @@
+use Rattle.sum_tree.proofs.trees.+build_last.Given as goal
+
+abbrev pub decreases-build_last : goal.decreases-build_last
+decreases-build_last g l = l.count

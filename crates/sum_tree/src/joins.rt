@@ -1,0 +1,65 @@
+// Two trees of any heights as one node or two.
+ghost use Rattle.std.specs.Prelude.{◌≡◌, ◌+◌, ◌*◌, ◌-◌, ◌^◌, ◌<◌, ◌≤◌, ◌++◌, IfOk, map, length, min, max};
+ghost use Rattle.sum_core.specs.Sums.{total};
+ghost use Rattle.sum_core.specs.Nodes.{IsLawful, IsRoot, contents, width, entries_of, child_value, items_of};
+ghost use Rattle.sum_tree.specs.Parts.{IsPacked, IsMelded};
+
+use crate::open::{Parted, copy_inner, copy_leaf, take_first, take_last};
+use crate::pack::{pack_items, pack_joined};
+use cell_units::{NoMemory, Steps};
+use std::alloc::Global;
+use sum_core::{Child, Item, Node};
+
+pub fn meld_level<T: Item>(
+    alloc: Global,
+    left: &Node<T>,
+    right: &Node<T>,
+    height: usize,
+    steps: &mut Steps,
+) -> Result<Vec<Child<T>>, NoMemory>
+    requires left { IsLawful T.Sum.empty T.Sum.joined T.summary height (entries_of left.now) }
+    requires right { IsLawful T.Sum.empty T.Sum.joined T.summary height (entries_of right.now) }
+    requires fits { T.Sum.fits (total T.Sum.empty T.Sum.joined T.summary (items_of left.now ++ items_of right.now)) }
+    requires small { length (items_of left.now ++ items_of right.now) < 2 ^ 32 }
+    ensures packed { IfOk result (λ v. IsPacked T.Sum.empty T.Sum.joined T.summary height (min 6 (width (contents (entries_of left.now)) + width (contents (entries_of right.now)))) (items_of left.now ++ items_of right.now) (map child_value v.items)) }
+    ensures steps { steps.new ≤ steps.old + 4 }
+{
+    if height == 0 {
+        let mut items = copy_leaf(alloc, left, steps)?;
+        let mut more = copy_leaf(alloc, right, steps)?;
+        items.append(&mut more)?;
+        pack_items(alloc, items, steps)
+    } else {
+        let front = copy_inner(alloc, left, height, steps)?;
+        let back = copy_inner(alloc, right, height, steps)?;
+        pack_joined(alloc, front, back, height, steps)
+    }
+}
+
+pub fn meld<T: Item>(
+    alloc: Global,
+    left: &Node<T>,
+    left_height: usize,
+    right: &Node<T>,
+    right_height: usize,
+    steps: &mut Steps,
+) -> Result<Vec<Child<T>>, NoMemory>
+    requires left { IsRoot T.Sum.empty T.Sum.joined T.summary left_height (entries_of left.now) }
+    requires right { IsRoot T.Sum.empty T.Sum.joined T.summary right_height (entries_of right.now) }
+    requires fits { T.Sum.fits (total T.Sum.empty T.Sum.joined T.summary (items_of left.now ++ items_of right.now)) }
+    requires small { length (items_of left.now ++ items_of right.now) < 2 ^ 32 }
+    ensures melded { IfOk result (λ v. IsMelded T.Sum.empty T.Sum.joined T.summary left_height (entries_of left.now) right_height (entries_of right.now) (map child_value v.items)) }
+    ensures steps { steps.new + 3 * min left_height right_height ≤ steps.old + 3 * max left_height right_height + 4 }
+{
+    if left_height == right_height {
+        meld_level(alloc, left, right, left_height, steps)
+    } else if right_height < left_height {
+        let Parted { rest, node } = take_last(alloc, left, left_height, steps)?;
+        let pieces = meld(alloc, &node, left_height - 1, right, right_height, steps)?;
+        pack_joined(alloc, rest, pieces, left_height, steps)
+    } else {
+        let Parted { rest, node } = take_first(alloc, right, right_height, steps)?;
+        let pieces = meld(alloc, left, left_height, &node, right_height - 1, steps)?;
+        pack_joined(alloc, pieces, rest, right_height, steps)
+    }
+}

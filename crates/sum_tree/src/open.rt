@@ -1,0 +1,92 @@
+// A node's entries, copied out of it.
+ghost use Rattle.std.specs.Prelude.{◌≡◌, ◌+◌, ◌-◌, ◌≤◌, ◌++◌, IfOk, map};
+ghost use Rattle.sum_core.specs.Nodes.{IsLawful, leaf, contents, width, entries_of, child_value, items_of, items_under};
+ghost use Rattle.sum_tree.specs.Parts.{IsInner, IsParted};
+
+use cell_units::{NoMemory, Steps};
+use std::alloc::Global;
+use sum_core::{Child, Entries, Item, Node, copy_children, copy_items};
+
+#[derive(Drop)]
+pub struct Parted<T: Item> {
+    pub rest: Vec<Child<T>>,
+    pub node: Node<T>,
+}
+
+pub fn copy_leaf<T: Item>(
+    alloc: Global,
+    node: &Node<T>,
+    steps: &mut Steps,
+) -> Result<Vec<T>, NoMemory>
+    requires { IsLawful T.Sum.empty T.Sum.joined T.summary 0 (entries_of node.now) }
+    ensures opened { IfOk result (λ v. contents (entries_of node.now) ≡ leaf v.items) }
+    ensures steps { steps.new ≤ steps.old + 1 }
+{
+    match node.entries(steps) {
+        Entries::Leaf(items) => copy_items(alloc, items),
+        Entries::Inner(_) => unreachable!(),
+    }
+}
+
+pub fn copy_inner<T: Item>(
+    alloc: Global,
+    node: &Node<T>,
+    height: usize,
+    steps: &mut Steps,
+) -> Result<Vec<Child<T>>, NoMemory>
+    requires lawful { IsLawful T.Sum.empty T.Sum.joined T.summary height (entries_of node.now) }
+    requires is_inner { 1 ≤ height }
+    ensures opened { IfOk result (λ v. IsInner T.Sum.empty T.Sum.joined T.summary height (entries_of node.now) (map child_value v.items)) }
+    ensures steps { steps.new ≤ steps.old + 1 }
+{
+    match node.entries(steps) {
+        Entries::Leaf(_) => unreachable!(),
+        Entries::Inner(children) => copy_children(alloc, children),
+    }
+}
+
+pub fn take_last<T: Item>(
+    alloc: Global,
+    node: &Node<T>,
+    height: usize,
+    steps: &mut Steps,
+) -> Result<Parted<T>, NoMemory>
+    requires lawful { IsLawful T.Sum.empty T.Sum.joined T.summary height (entries_of node.now) }
+    requires is_inner { 1 ≤ height }
+    requires some { 1 ≤ width (contents (entries_of node.now)) }
+    ensures parted { IfOk result (λ p. IsParted T.Sum.empty T.Sum.joined T.summary height (entries_of node.now) (map child_value p.rest.items) (entries_of p.node) (items_under (map child_value p.rest.items) ++ items_of p.node)) }
+    ensures steps { steps.new ≤ steps.old + 1 }
+{
+    let mut rest = copy_inner(alloc, node, height, steps)?;
+    match rest.pop() {
+        Some(child) => Ok(Parted {
+            rest,
+            node: child.node,
+        }),
+        None => unreachable!(),
+    }
+}
+
+pub fn take_first<T: Item>(
+    alloc: Global,
+    node: &Node<T>,
+    height: usize,
+    steps: &mut Steps,
+) -> Result<Parted<T>, NoMemory>
+    requires lawful { IsLawful T.Sum.empty T.Sum.joined T.summary height (entries_of node.now) }
+    requires is_inner { 1 ≤ height }
+    requires some { 1 ≤ width (contents (entries_of node.now)) }
+    ensures parted { IfOk result (λ p. IsParted T.Sum.empty T.Sum.joined T.summary height (entries_of node.now) (map child_value p.rest.items) (entries_of p.node) (items_of p.node ++ items_under (map child_value p.rest.items))) }
+    ensures steps { steps.new ≤ steps.old + 1 }
+{
+    let mut rest = copy_inner(alloc, node, height, steps)?;
+    if rest.is_empty() {
+        unreachable!()
+    } else {
+        let child = rest.remove(0);
+        Ok(Parted {
+            rest,
+            node: child.node,
+        })
+    }
+}

@@ -1,0 +1,171 @@
+// One node or two from at most 24 entries.
+ghost use Rattle.std.specs.Prelude.{◌≡◌, ◌+◌, ◌-◌, ◌^◌, ◌<◌, ◌≤◌, ◌++◌, ◌∷◌, [], IfOk, map, length, vec_len, min};
+ghost use Rattle.sum_core.specs.Sums.{total};
+ghost use Rattle.sum_core.specs.Nodes.{IsLawful, IsChildList, IsChild, contents, width, entries_of, child_value, items_in, items_under};
+ghost use Rattle.sum_tree.specs.Parts.{IsPacked};
+
+use cell_units::{NoMemory, Steps};
+use std::alloc::Global;
+use sum_core::{Child, Entries, Item, Node, Summary};
+
+const MOST: usize = 12;
+
+fn sum_items<T: Item>(items: &[T]) -> T::Sum
+    requires { T.Sum.fits (total T.Sum.empty T.Sum.joined T.summary items.now) }
+    ensures { result ≡ total T.Sum.empty T.Sum.joined T.summary items.now }
+{
+    let mut sum = T::Sum::zero();
+    for item in items {
+        sum = sum.plus(item.sum());
+    }
+    sum
+}
+
+// The stored sums and counts of a children, added up.
+fn sum_children<T: Item>(children: &[Child<T>], below: usize) -> (T::Sum, usize)
+    requires children { IsChildList T.Sum.empty T.Sum.joined T.summary (IsLawful T.Sum.empty T.Sum.joined T.summary below) 6 (map child_value children.now) }
+    requires fits { T.Sum.fits (total T.Sum.empty T.Sum.joined T.summary (items_under (map child_value children.now))) }
+    requires small { length (items_under (map child_value children.now)) < 2 ^ 32 }
+    ensures sum { result.0 ≡ total T.Sum.empty T.Sum.joined T.summary (items_under (map child_value children.now)) }
+    ensures count { result.1 ≡ length (items_under (map child_value children.now)) }
+{
+    let mut sum = T::Sum::zero();
+    let mut count = 0;
+    for child in children {
+        sum = sum.plus(child.sum);
+        count += child.count;
+    }
+    (sum, count)
+}
+
+pub fn make_leaf<T: Item>(
+    alloc: Global,
+    items: Vec<T>,
+    steps: &mut Steps,
+) -> Result<Child<T>, NoMemory>
+    requires room { vec_len items ≤ 12 }
+    requires fits { T.Sum.fits (total T.Sum.empty T.Sum.joined T.summary items.items) }
+    ensures kept { IfOk result (λ c. IsChild T.Sum.empty T.Sum.joined T.summary (IsLawful T.Sum.empty T.Sum.joined T.summary 0) (vec_len items) (child_value c)) }
+    ensures items { IfOk result (λ c. items_in (child_value c).2 ≡ items.items) }
+    ensures steps { steps.new ≤ steps.old + 1 }
+{
+    let sum = sum_items(&items);
+    let count = items.len();
+    match Node::make(alloc, Entries::Leaf(items), steps) {
+        Ok(node) => Ok(Child { sum, count, node }),
+        Err(_) => Err(NoMemory),
+    }
+}
+
+pub fn make_inner<T: Item>(
+    alloc: Global,
+    children: Vec<Child<T>>,
+    height: usize,
+    steps: &mut Steps,
+) -> Result<Child<T>, NoMemory>
+    requires is_inner { 1 ≤ height }
+    requires children { IsChildList T.Sum.empty T.Sum.joined T.summary (IsLawful T.Sum.empty T.Sum.joined T.summary (height - 1)) 6 (map child_value children.items) }
+    requires room { vec_len children ≤ 12 }
+    requires fits { T.Sum.fits (total T.Sum.empty T.Sum.joined T.summary (items_under (map child_value children.items))) }
+    requires small { length (items_under (map child_value children.items)) < 2 ^ 32 }
+    ensures kept { IfOk result (λ c. IsChild T.Sum.empty T.Sum.joined T.summary (IsLawful T.Sum.empty T.Sum.joined T.summary height) (vec_len children) (child_value c)) }
+    ensures items { IfOk result (λ c. items_in (child_value c).2 ≡ items_under (map child_value children.items)) }
+    ensures steps { steps.new ≤ steps.old + 1 }
+{
+    let summed = sum_children(&children, height - 1);
+    match Node::make(alloc, Entries::Inner(children), steps) {
+        Ok(node) => Ok(Child {
+            sum: summed.0,
+            count: summed.1,
+            node,
+        }),
+        Err(_) => Err(NoMemory),
+    }
+}
+
+fn one<T: Item>(alloc: Global, only: Child<T>) -> Result<Vec<Child<T>>, NoMemory>
+    ensures { IfOk result (λ v. map child_value v.items ≡ child_value only ∷ []) }
+{
+    let mut pieces = Vec::new(alloc);
+    pieces.push(only)?;
+    Ok(pieces)
+}
+
+fn two<T: Item>(alloc: Global, left: Child<T>, right: Child<T>) -> Result<Vec<Child<T>>, NoMemory>
+    ensures { IfOk result (λ v. map child_value v.items ≡ child_value left ∷ child_value right ∷ []) }
+{
+    let mut pieces = Vec::with_capacity(alloc, 2)?;
+    pieces.push(left)?;
+    pieces.push(right)?;
+    Ok(pieces)
+}
+
+pub fn pack_items<T: Item>(
+    alloc: Global,
+    items: Vec<T>,
+    steps: &mut Steps,
+) -> Result<Vec<Child<T>>, NoMemory>
+    requires room { vec_len items ≤ 24 }
+    requires fits { T.Sum.fits (total T.Sum.empty T.Sum.joined T.summary items.items) }
+    ensures packed { IfOk result (λ v. IsPacked T.Sum.empty T.Sum.joined T.summary 0 (min 6 (vec_len items)) items.items (map child_value v.items)) }
+    ensures steps { steps.new ≤ steps.old + 2 }
+{
+    if items.len() <= MOST {
+        let only = make_leaf(alloc, items, steps)?;
+        one(alloc, only)
+    } else {
+        let mut items = items;
+        let rest = items.split_off(items.len() / 2)?;
+        let left = make_leaf(alloc, items, steps)?;
+        let right = make_leaf(alloc, rest, steps)?;
+        two(alloc, left, right)
+    }
+}
+
+pub fn pack_children<T: Item>(
+    alloc: Global,
+    children: Vec<Child<T>>,
+    height: usize,
+    steps: &mut Steps,
+) -> Result<Vec<Child<T>>, NoMemory>
+    requires is_inner { 1 ≤ height }
+    requires children { IsChildList T.Sum.empty T.Sum.joined T.summary (IsLawful T.Sum.empty T.Sum.joined T.summary (height - 1)) 6 (map child_value children.items) }
+    requires room { vec_len children ≤ 24 }
+    requires fits { T.Sum.fits (total T.Sum.empty T.Sum.joined T.summary (items_under (map child_value children.items))) }
+    requires small { length (items_under (map child_value children.items)) < 2 ^ 32 }
+    ensures packed { IfOk result (λ v. IsPacked T.Sum.empty T.Sum.joined T.summary height (min 6 (vec_len children)) (items_under (map child_value children.items)) (map child_value v.items)) }
+    ensures steps { steps.new ≤ steps.old + 2 }
+{
+    if children.len() <= MOST {
+        let only = make_inner(alloc, children, height, steps)?;
+        one(alloc, only)
+    } else {
+        let mut children = children;
+        let rest = children.split_off(children.len() / 2)?;
+        let left = make_inner(alloc, children, height, steps)?;
+        let right = make_inner(alloc, rest, height, steps)?;
+        two(alloc, left, right)
+    }
+}
+
+pub fn pack_joined<T: Item>(
+    alloc: Global,
+    front: Vec<Child<T>>,
+    back: Vec<Child<T>>,
+    height: usize,
+    steps: &mut Steps,
+) -> Result<Vec<Child<T>>, NoMemory>
+    requires is_inner { 1 ≤ height }
+    requires front { IsChildList T.Sum.empty T.Sum.joined T.summary (IsLawful T.Sum.empty T.Sum.joined T.summary (height - 1)) 6 (map child_value front.items) }
+    requires back { IsChildList T.Sum.empty T.Sum.joined T.summary (IsLawful T.Sum.empty T.Sum.joined T.summary (height - 1)) 6 (map child_value back.items) }
+    requires room { vec_len front + vec_len back ≤ 24 }
+    requires fits { T.Sum.fits (total T.Sum.empty T.Sum.joined T.summary (items_under (map child_value front.items) ++ items_under (map child_value back.items))) }
+    requires small { length (items_under (map child_value front.items) ++ items_under (map child_value back.items)) < 2 ^ 32 }
+    ensures packed { IfOk result (λ v. IsPacked T.Sum.empty T.Sum.joined T.summary height (min 6 (vec_len front + vec_len back)) (items_under (map child_value front.items) ++ items_under (map child_value back.items)) (map child_value v.items)) }
+    ensures steps { steps.new ≤ steps.old + 2 }
+{
+    let mut children = front;
+    let mut back = back;
+    children.append(&mut back)?;
+    pack_children(alloc, children, height, steps)
+}

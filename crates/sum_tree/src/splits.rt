@@ -1,0 +1,153 @@
+//! Cutting a tree in two.
+ghost use Rattle.std.specs.Prelude.{◌≡◌, ◌+◌, ◌*◌, ◌-◌, ◌^◌, ◌<◌, ◌≤◌, ◌++◌, IfOk, map, length, vec_len, take, drop};
+ghost use Rattle.sum_core.specs.Sums.{total};
+ghost use Rattle.sum_core.specs.Nodes.{IsRoot, IsChildList, IsLawful, entries_of, child_value, items_of, items_under};
+ghost use Rattle.sum_tree.specs.Parts.{IsCut};
+ghost use Rattle.sum_tree.specs.Trees.{IsTree, IsTreeOf};
+
+use crate::find::find_child;
+use crate::open::{copy_inner, copy_leaf};
+use crate::pack::make_leaf;
+use crate::trees::{Tree, join, raise};
+use cell_units::{NoMemory, Steps};
+use std::alloc::Global;
+use sum_core::{Child, Item, Node};
+
+#[derive(Drop)]
+pub struct Cut<T: Item> {
+    pub before: Vec<Child<T>>,
+    pub node: Node<T>,
+    pub after: Vec<Child<T>>,
+    pub offset: usize,
+}
+
+pub fn cut_children<T: Item>(
+    alloc: Global,
+    node: &Node<T>,
+    height: usize,
+    at: usize,
+    steps: &mut Steps,
+) -> Result<Cut<T>, NoMemory>
+    requires tree { IsRoot T.Sum.empty T.Sum.joined T.summary height (entries_of node.now) }
+    requires is_inner { 1 ≤ height }
+    requires within { at ≤ length (items_of node.now) }
+    requires small { length (items_of node.now) < 2 ^ 32 }
+    ensures cut { IfOk result (λ u. IsCut T.Sum.empty T.Sum.joined T.summary height (entries_of node.now) (map child_value u.before.items) (entries_of u.node) (map child_value u.after.items) at u.offset) }
+    ensures steps { steps.new ≤ steps.old + 1 }
+{
+    let mut before = copy_inner(alloc, node, height, steps)?;
+    let found = find_child(&before, height - 1, at);
+    let mut after = before.split_off(found.0)?;
+    let child = after.remove(0);
+    Ok(Cut {
+        before,
+        node: child.node,
+        after,
+        offset: found.1,
+    })
+}
+
+// The children of children of a height, and then the tree's items.
+pub fn join_before<T: Item>(
+    alloc: Global,
+    children: Vec<Child<T>>,
+    below: usize,
+    tree: Tree<T>,
+    steps: &mut Steps,
+) -> Result<Tree<T>, NoMemory>
+    requires children { IsChildList T.Sum.empty T.Sum.joined T.summary (IsLawful T.Sum.empty T.Sum.joined T.summary below) 6 (map child_value children.items) }
+    requires room { vec_len children ≤ 12 }
+    requires low { below < 2 ^ 32 }
+    requires tree { IsTree T.Sum.empty T.Sum.joined T.summary tree }
+    requires fits { T.Sum.fits (total T.Sum.empty T.Sum.joined T.summary (items_under (map child_value children.items) ++ items_of tree.node)) }
+    requires small { length (items_under (map child_value children.items) ++ items_of tree.node) < 2 ^ 32 }
+    ensures put { IfOk result (λ t. IsTreeOf T.Sum.empty T.Sum.joined T.summary t (items_under (map child_value children.items) ++ items_of tree.node)) }
+    ensures steps { steps.new ≤ steps.old + 39 }
+{
+    if children.is_empty() {
+        Ok(tree)
+    } else {
+        let left = raise(alloc, children, below, steps)?;
+        join(alloc, &left, &tree, steps)
+    }
+}
+
+pub fn join_after<T: Item>(
+    alloc: Global,
+    tree: Tree<T>,
+    children: Vec<Child<T>>,
+    below: usize,
+    steps: &mut Steps,
+) -> Result<Tree<T>, NoMemory>
+    requires children { IsChildList T.Sum.empty T.Sum.joined T.summary (IsLawful T.Sum.empty T.Sum.joined T.summary below) 6 (map child_value children.items) }
+    requires room { vec_len children ≤ 12 }
+    requires low { below < 2 ^ 32 }
+    requires tree { IsTree T.Sum.empty T.Sum.joined T.summary tree }
+    requires fits { T.Sum.fits (total T.Sum.empty T.Sum.joined T.summary (items_of tree.node ++ items_under (map child_value children.items))) }
+    requires small { length (items_of tree.node ++ items_under (map child_value children.items)) < 2 ^ 32 }
+    ensures put { IfOk result (λ t. IsTreeOf T.Sum.empty T.Sum.joined T.summary t (items_of tree.node ++ items_under (map child_value children.items))) }
+    ensures steps { steps.new ≤ steps.old + 39 }
+{
+    if children.is_empty() {
+        Ok(tree)
+    } else {
+        let right = raise(alloc, children, below, steps)?;
+        join(alloc, &tree, &right, steps)
+    }
+}
+
+#[derive(Drop)]
+pub struct Halves<T: Item> {
+    pub left: Tree<T>,
+    pub right: Tree<T>,
+}
+
+pub fn split_at<T: Item>(
+    alloc: Global,
+    node: &Node<T>,
+    height: usize,
+    at: usize,
+    steps: &mut Steps,
+) -> Result<Halves<T>, NoMemory>
+    requires tree { IsRoot T.Sum.empty T.Sum.joined T.summary height (entries_of node.now) }
+    requires within { at ≤ length (items_of node.now) }
+    requires fits { T.Sum.fits (total T.Sum.empty T.Sum.joined T.summary (items_of node.now)) }
+    requires small { length (items_of node.now) < 2 ^ 32 }
+    ensures left { IfOk result (λ p. IsTreeOf T.Sum.empty T.Sum.joined T.summary p.left (take at (items_of node.now))) }
+    ensures right { IfOk result (λ p. IsTreeOf T.Sum.empty T.Sum.joined T.summary p.right (drop at (items_of node.now))) }
+    ensures steps { steps.new ≤ steps.old + 79 * height + 3 }
+{
+    if height == 0 {
+        split_leaf(alloc, node, at, steps)
+    } else {
+        let cut = cut_children(alloc, node, height, at, steps)?;
+        let middle = cut.node;
+        let parts = split_at(alloc, &middle, height - 1, at - cut.offset, steps)?;
+        let left = join_before(alloc, cut.before, height - 1, parts.left, steps)?;
+        let right = join_after(alloc, parts.right, cut.after, height - 1, steps)?;
+        Ok(Halves { left, right })
+    }
+}
+
+fn split_leaf<T: Item>(
+    alloc: Global,
+    node: &Node<T>,
+    at: usize,
+    steps: &mut Steps,
+) -> Result<Halves<T>, NoMemory>
+    requires tree { IsRoot T.Sum.empty T.Sum.joined T.summary 0 (entries_of node.now) }
+    requires within { at ≤ length (items_of node.now) }
+    requires fits { T.Sum.fits (total T.Sum.empty T.Sum.joined T.summary (items_of node.now)) }
+    ensures left { IfOk result (λ p. IsTreeOf T.Sum.empty T.Sum.joined T.summary p.left (take at (items_of node.now))) }
+    ensures right { IfOk result (λ p. IsTreeOf T.Sum.empty T.Sum.joined T.summary p.right (drop at (items_of node.now))) }
+    ensures steps { steps.new ≤ steps.old + 3 }
+{
+    let mut items = copy_leaf(alloc, node, steps)?;
+    let rest = items.split_off(at)?;
+    let left = make_leaf(alloc, items, steps)?;
+    let right = make_leaf(alloc, rest, steps)?;
+    Ok(Halves {
+        left: Tree::over(left, 0),
+        right: Tree::over(right, 0),
+    })
+}

@@ -1,0 +1,212 @@
+//! The tree as a list of items.
+ghost use Rattle.std.specs.Prelude.{ℕ, ◌≡◌, ◌+◌, ◌*◌, ◌^◌, ◌<◌, ◌≤◌, ◌++◌, ◌∷◌, [], IfOk, OnOk, OnErr, length, vec_len, take, drop, slice_get};
+ghost use Rattle.std.specs.Option.{option_copied};
+ghost use Rattle.sum_core.specs.Sums.{total};
+
+use crate::find::item_at;
+use crate::pack::make_leaf;
+use crate::splits::split_at;
+use crate::trees::{Tree, build_last, join};
+use cell_units::{NoMemory, Steps};
+use std::alloc::Global;
+use std::marker::Model;
+use sum_core::{Item, Summary};
+
+/// A list of fewer than 2^32 items that knows their sum. Copies share what they have in common, and no later change of
+/// the one is seen by another. A call that is refused for want of memory leaves the list as it was.
+///
+/// The bounds on the steps of a call are given for each h such that n is less than 2 * 6^(h + 1). The least such h
+/// is the greatest height of a tree of n items.
+#[derive(Drop)]
+pub struct SumTree<T: Item> {
+    tree: Option<Tree<T>>,
+}
+
+impl<T: Item> Model for SumTree<T> {
+    ghost use Rattle.std.specs.Prelude.{List};
+    ghost use Rattle.sum_tree.specs.Trees.{items_held, IsHeld};
+
+    ghost Value = { List T };
+
+    ghost view = { λ t. items_held t.tree };
+
+    ghost invariant = { λ t. IsHeld T.Sum.empty T.Sum.joined T.summary T.Sum.fits t.tree };
+}
+
+impl<T: Item> SumTree<T> {
+    /// An empty list. It takes no memory.
+    pub fn new(_alloc: Global) -> SumTree<T>
+        ensures { result ≡ [] }
+    {
+        SumTree { tree: None }
+    }
+
+    /// An equal list.
+    pub fn share(&self) -> Result<SumTree<T>, NoMemory>
+        ensures { IfOk result (λ t. t ≡ self.now) }
+    {
+        let tree = match &self.tree {
+            None => None,
+            Some(tree) => Some(tree.share()?),
+        };
+        Ok(SumTree { tree })
+    }
+
+    /// The number of items.
+    pub fn len(&self) -> u32
+        ensures { result ≡ length self.now }
+    {
+        match &self.tree {
+            None => 0,
+            Some(tree) => tree.count as u32,
+        }
+    }
+
+    /// The sum of all items.
+    pub fn sum(&self) -> T::Sum
+        ensures { result ≡ total T.Sum.empty T.Sum.joined T.summary self.now }
+    {
+        match &self.tree {
+            None => T::Sum::zero(),
+            Some(tree) => tree.sum,
+        }
+    }
+
+    /// The item at place `at`, and `None` exactly where there is none.
+    pub fn get(&self, at: u32, steps: &mut Steps) -> Option<&T>
+        ensures item { option_copied result ≡ slice_get self.now at }
+        ensures steps { (h : ℕ) → length self.now < 2 * 6 ^ (h + 1) → steps.new ≤ steps.old + 64 * (h + 1) }
+    {
+        match &self.tree {
+            None => None,
+            Some(tree) => {
+                if (at as usize) < tree.count {
+                    Some(item_at(&tree.node, tree.height, at as usize, steps))
+                } else {
+                    None
+                }
+            }
+        }
+    }
+
+    /// The number of levels below the root.
+    pub fn height(&self) -> u32
+        ensures { (h : ℕ) → length self.now < 2 * 6 ^ (h + 1) → result ≤ h }
+    {
+        match &self.tree {
+            None => 0,
+            Some(tree) => tree.height as u32,
+        }
+    }
+
+    /// A tree of these items. Its time is linear in their number.
+    pub fn from_vec(alloc: Global, items: Vec<T>, steps: &mut Steps) -> Result<SumTree<T>, NoMemory>
+        requires fits { T.Sum.fits (total T.Sum.empty T.Sum.joined T.summary items.items) }
+        requires small { length items.items < 2 ^ 32 }
+        ensures ok { IfOk result (λ t. t ≡ items.items) }
+        ensures steps { steps.new ≤ steps.old + 4 * (length items.items + 1) }
+    {
+        let mut items = items;
+        let count = items.len();
+        if count == 0 {
+            Ok(SumTree { tree: None })
+        } else {
+            let tree = build_last(alloc, &mut items, count, steps)?;
+            Ok(SumTree { tree: Some(tree) })
+        }
+    }
+
+    /// Adds an item at the end.
+    pub fn push(&mut self, alloc: Global, item: T, steps: &mut Steps) -> Result<(), NoMemory>
+        requires fits { T.Sum.fits (total T.Sum.empty T.Sum.joined T.summary (self.old ++ item ∷ [])) }
+        requires small { length (self.old ++ item ∷ []) < 2 ^ 32 }
+        ensures ok { OnOk result (self.new ≡ self.old ++ item ∷ []) }
+        ensures err { OnErr result (self.new ≡ self.old) }
+        ensures steps { (h : ℕ) → length (self.old ++ item ∷ []) < 2 * 6 ^ (h + 1) → steps.new ≤ steps.old + 128 * (h + 1) }
+    {
+        let mut items = Vec::new(alloc);
+        items.push(item)?;
+        let single = Tree::over(make_leaf(alloc, items, steps)?, 0);
+        let tree = match &self.tree {
+            None => single,
+            Some(tree) => join(alloc, tree, &single, steps)?,
+        };
+        self.tree = Some(tree);
+        Ok(())
+    }
+
+    /// Adds the items of another tree at the end.
+    pub fn concat(
+        &mut self,
+        alloc: Global,
+        other: SumTree<T>,
+        steps: &mut Steps,
+    ) -> Result<(), NoMemory>
+        requires fits { T.Sum.fits (total T.Sum.empty T.Sum.joined T.summary (self.old ++ other)) }
+        requires small { length (self.old ++ other) < 2 ^ 32 }
+        ensures ok { OnOk result (self.new ≡ self.old ++ other) }
+        ensures err { OnErr result (self.new ≡ self.old) }
+        ensures steps { (h : ℕ) → length (self.old ++ other) < 2 * 6 ^ (h + 1) → steps.new ≤ steps.old + 128 * (h + 1) }
+    {
+        let SumTree { tree: back } = other;
+        let Some(back) = back else {
+            return Ok(());
+        };
+        let tree = match &self.tree {
+            None => back,
+            Some(front) => join(alloc, front, &back, steps)?,
+        };
+        self.tree = Some(tree);
+        Ok(())
+    }
+
+    /// Takes the items from place `at` on off the list.
+    pub fn split_off(
+        &mut self,
+        alloc: Global,
+        at: u32,
+        steps: &mut Steps,
+    ) -> Result<SumTree<T>, NoMemory>
+        requires { at ≤ length self.old }
+        ensures ok { OnOk result (self.new ≡ take at self.old) }
+        ensures tail { IfOk result (λ t. t ≡ drop at self.old) }
+        ensures err { OnErr result (self.new ≡ self.old) }
+        ensures steps { (h : ℕ) → length self.old < 2 * 6 ^ (h + 1) → steps.new ≤ steps.old + 128 * (h + 1) }
+    {
+        let Some(tree) = &self.tree else {
+            return Ok(SumTree { tree: None });
+        };
+        let parts = split_at(alloc, &tree.node, tree.height, at as usize, steps)?;
+        self.tree = Some(parts.left);
+        Ok(SumTree {
+            tree: Some(parts.right),
+        })
+    }
+
+    /// Puts `items` in the place of those from place `from` to place `to`.
+    pub fn replace(
+        &mut self,
+        alloc: Global,
+        from: u32,
+        to: u32,
+        items: Vec<T>,
+        steps: &mut Steps,
+    ) -> Result<(), NoMemory>
+        requires order { from ≤ to }
+        requires within { to ≤ length self.old }
+        requires fits { T.Sum.fits (total T.Sum.empty T.Sum.joined T.summary (take from self.old ++ items.items ++ drop to self.old)) }
+        requires small { length (take from self.old ++ items.items ++ drop to self.old) < 2 ^ 32 }
+        ensures ok { OnOk result (self.new ≡ take from self.old ++ items.items ++ drop to self.old) }
+        ensures err { OnErr result (self.new ≡ self.old) }
+        ensures steps { (h : ℕ) → length self.old < 2 * 6 ^ (h + 1) → length (take from self.old ++ items.items ++ drop to self.old) < 2 * 6 ^ (h + 1) → steps.new ≤ steps.old + 800 * (h + 1) + 4 * (length items.items + 1) }
+    {
+        let middle = SumTree::from_vec(alloc, items, steps)?;
+        let mut front = self.share()?;
+        let mut back = front.split_off(alloc, from, steps)?;
+        let back = back.split_off(alloc, to - from, steps)?;
+        front.concat(alloc, middle, steps)?;
+        front.concat(alloc, back, steps)?;
+        *self = front;
+        Ok(())
+    }
+}
