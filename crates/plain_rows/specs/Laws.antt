@@ -1,0 +1,23 @@
+-- What the definitions of spots mean, in other words.
+use Rattle.std.specs.Prelude.{IsTrue, List}
+use Rattle.std.specs.List.{All, Contains}
+use Rattle.cell_units.specs.declared.place.Spot.{Spot}
+use Rattle.cell_units.specs.Record.{Record}
+use Rattle.plain_rows.specs.Spots.{spot_le, valid_spots}
+
+-- the spot is that of some position
+abbrev pub IsValidSpot : Record → Spot → Type 0
+IsValidSpot r s = Contains (valid_spots r) s
+
+-- the spot is one of these, and at or before each of them
+abbrev pub IsLeast : List Spot → Spot → Type 0
+IsLeast spots s = Contains spots s × All (λ t. IsTrue (spot_le s t)) spots
+
+-- the spot is one of these, and each of them is at or before it
+abbrev pub IsGreatest : List Spot → Spot → Type 0
+IsGreatest spots s = Contains spots s × All (λ t. IsTrue (spot_le t s)) spots
+
+-- where a valid spot is at or before d, the nearest one is too, and is the greatest such
+abbrev pub IsNearestBefore : Record → Spot → Spot → Type 0
+IsNearestBefore r d nearest =
+    (s : Spot) → IsValidSpot r s → IsTrue (spot_le s d) → IsTrue (spot_le nearest d) × IsTrue (spot_le s nearest)
