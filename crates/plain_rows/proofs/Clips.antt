@@ -17,10 +17,10 @@ use Rattle.plain_rows.proofs.Lists.{IsFirst, all-contained, contains-cases, cont
 spot_le-refl : (s : Spot) → spot_le s s ≡ true
 spot_le-refl s = grind (arith, nat_tests)
 
-spot_le-total : (s t : Spot) → spot_le s t ≡ false → spot_le t s ≡ true
+pub spot_le-total : (s t : Spot) → spot_le s t ≡ false → spot_le t s ≡ true
 spot_le-total s t h = grind (arith, nat_tests, h)
 
-spot_le-trans : (s t u : Spot) → spot_le s t ≡ true → spot_le t u ≡ true → spot_le s u ≡ true
+pub spot_le-trans : (s t u : Spot) → spot_le s t ≡ true → spot_le t u ≡ true → spot_le s u ≡ true
 spot_le-trans s t u h k = grind (arith, nat_tests, h, k)
 
 spot_le-antisym : (s t : Spot) → spot_le s t ≡ true → spot_le t s ≡ true → s ≡ t
@@ -29,13 +29,13 @@ spot_le-antisym s t h k =
     let cols : s.col ≡ t.col = grind (arith, nat_tests, h, k, rows) in
     λ i. record { row = rows i; col = cols i }
 
-abbrev spot_ge : Spot → Spot → Bool
+abbrev pub spot_ge : Spot → Spot → Bool
 spot_ge s t = spot_le t s
 
-least-first : (spots : List Spot) → IsFirst spot_le spots (least spots)
+pub least-first : (spots : List Spot) → IsFirst spot_le spots (least spots)
 least-first spots = first_by-first spot_le spot_le-refl spot_le-total spot_le-trans spots
 
-greatest-first : (spots : List Spot) → IsFirst spot_ge spots (greatest spots)
+pub greatest-first : (spots : List Spot) → IsFirst spot_ge spots (greatest spots)
 greatest-first spots = first_by-first spot_ge spot_le-refl (λ s t. spot_le-total t s) (λ s t u h k. spot_le-trans u t s k h) spots
 
 pub least-is : (spots : List Spot) (s : Spot) → least spots ≡ Some s → IsLeast spots s
@@ -63,16 +63,16 @@ end-position text =
     two-contained (filter (is_boundary text) (range_with_len 0 (n + 1))) n
     (contains-filtered (is_boundary text) (range_with_len 0 (n + 1)) n at_end (or_left (n == n) _ here))
 
-some-valid : (r : Record) → Contains (valid_spots r) (show r (length r.text) Left)
+pub some-valid : (r : Record) → Contains (valid_spots r) (show r (length r.text) Left)
 some-valid r = contains-mapped (λ (p : ℕ × Bias). show r p.0 p.1) (positions r.text) (length r.text, Left) (end-position r.text)
 
-abbrev left_of : List Spot → Spot → Spot
+abbrev pub left_of : List Spot → Spot → Spot
 left_of spots d = unwrap_or (option_or (greatest (at_or_before d spots)) (least spots)) origin
 
-abbrev right_of : List Spot → Spot → Spot
+abbrev pub right_of : List Spot → Spot → Spot
 right_of spots d = unwrap_or (option_or (greatest (past d spots)) (option_or (least (at_or_after d spots)) (greatest spots))) origin
 
-abbrev row_of_spot : List Spot → Spot → List Spot
+abbrev pub row_of_spot : List Spot → Spot → List Spot
 row_of_spot spots d = filter (λ s. s.row == d.row) spots
 
 past-contained : (spots : List Spot) (d s : Spot) → Contains (past d spots) s → Contains spots s
@@ -81,7 +81,7 @@ past-contained spots d s m = go (nat_lt 0 (length (at_or_after d (row_of_spot sp
   go true m = absurd (contains-none s m)
   go false m = (contains-unfiltered (λ s. s.row == d.row) spots s m).0
 
-left-valid : (spots : List Spot) (d w : Spot) → Contains spots w → Contains spots (left_of spots d)
+pub left-valid : (spots : List Spot) (d w : Spot) → Contains spots w → Contains spots (left_of spots d)
 left-valid spots d w m = go (greatest (at_or_before d spots)) (greatest-first (at_or_before d spots)) (least spots) (least-first spots) where
   go : (a : Option Spot) → IsFirst spot_ge (at_or_before d spots) a → (b : Option Spot) → IsFirst spot_le spots b → Contains spots (unwrap_or (option_or a b) origin)
   go (Some s) h b k = (contains-unfiltered (λ s. spot_le s d) spots s h.0).0
@@ -134,12 +134,16 @@ unfolding clip
 clip-own r s Left m = left-own (valid_spots r) s m
 clip-own r s Right m = right-own (valid_spots r) s m
 
+-- a spot of the list that is at or before d is at or before the nearest one
+pub left_nearest : (spots : List Spot) (d s : Spot) → Contains spots s → spot_le s d ≡ true → (spot_le (left_of spots d) d ≡ true) × (spot_le s (left_of spots d) ≡ true)
+left_nearest spots d s m h = go (greatest (at_or_before d spots)) (greatest-first (at_or_before d spots)) where
+  kept : Contains (at_or_before d spots) s
+  kept = contains-filtered (λ t. spot_le t d) spots s m h
+
+  go : (a : Option Spot) → IsFirst spot_ge (at_or_before d spots) a → (spot_le (unwrap_or (option_or a (least spots)) origin) d ≡ true) × (spot_le s (unwrap_or (option_or a (least spots)) origin) ≡ true)
+  go (Some t) k = ((contains-unfiltered (λ t. spot_le t d) spots t k.0).1, all-contained (λ u. spot_ge t u ≡ true) (at_or_before d spots) s k.1 kept)
+  go None k = absurd (contains-none s (subst (λ (l : List Spot). Contains l s) k kept))
+
 pub clip-nearest_before : (r : Record) (d : Spot) → IsNearestBefore r d (clip r d Left)
 unfolding clip
-clip-nearest_before r d s m h = go (greatest (at_or_before d (valid_spots r))) (greatest-first (at_or_before d (valid_spots r))) where
-  kept : Contains (at_or_before d (valid_spots r)) s
-  kept = contains-filtered (λ t. spot_le t d) (valid_spots r) s m h
-
-  go : (a : Option Spot) → IsFirst spot_ge (at_or_before d (valid_spots r)) a → (spot_le (unwrap_or (option_or a (least (valid_spots r))) origin) d ≡ true) × (spot_le s (unwrap_or (option_or a (least (valid_spots r))) origin) ≡ true)
-  go (Some t) k = ((contains-unfiltered (λ t. spot_le t d) (valid_spots r) t k.0).1, all-contained (λ u. spot_ge t u ≡ true) (at_or_before d (valid_spots r)) s k.1 kept)
-  go None k = absurd (contains-none s (subst (λ (l : List Spot). Contains l s) k kept))
+clip-nearest_before r d s m h = left_nearest (valid_spots r) d s m h

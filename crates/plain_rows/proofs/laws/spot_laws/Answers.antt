@@ -1,5 +1,6 @@
 use Rattle.plain_rows.proofs.Clips.{clip-nearest_before, clip-own, clip-valid, greatest-is, least-is}
 use Rattle.plain_rows.specs.Spots.{clip}
+use Rattle.plain_rows.proofs.NearestAfter.{clip-nearest_after, clip-rises}
 use Rattle.plain_rows.proofs.laws.spot_laws.Goals as goal
 
 pub returns-clause-least : goal.returns-clause-least
@@ -19,3 +20,9 @@ returns-clause-clip_once c = λ r d bias later. clip-own r (clip r d bias) later
 
 pub returns-clause-nearest_before : goal.returns-clause-nearest_before
 returns-clause-nearest_before c = clip-nearest_before
+
+pub returns-clause-nearest_after : goal.returns-clause-nearest_after
+returns-clause-nearest_after c = clip-nearest_after
+
+pub returns-clause-clip_rises : goal.returns-clause-clip_rises
+returns-clause-clip_rises c = clip-rises
