@@ -5,11 +5,11 @@ ghost use Rattle.cell_units.specs.declared.place.Side.TheVariants.{Above, Below}
 ghost use Rattle.cell_units.specs.Operation.{Replace, operated};
 ghost use Rattle.cell_units.specs.Inlaid.{placeholder};
 ghost use Rattle.cell_units.specs.Text.{clean};
-ghost use Rattle.cell_units.specs.Worked.{fold, folded_record, inlay, settled};
+ghost use Rattle.cell_units.specs.Worked.{block, fold, folded_record, inlay, settled};
 ghost use Rattle.cell_line.specs.Wrapping.{cuts_of, indent_of};
 ghost use Rattle.plain_rows.specs.Rows.{rows_of};
 ghost use Rattle.plain_rows.specs.Spots.{back, clip, elements_at, show};
-ghost use Rattle.plain_rows.specs.Worked.{block, block_row, head, marked, more, ordinary_source, spot, ten_lines};
+ghost use Rattle.plain_rows.specs.Worked.{block_row, head, marked, more, ordinary_source, spot, ten_lines};
 
 /// Lines of which the elements and cuts are known. It does nothing.
 pub fn worked_elements()
