@@ -1,11 +1,13 @@
 -- Joined folds are what offsets show.
-use Rattle.std.proofs.Common.{◌≡◌, ℕ, ◌+◌, ◌<◌, ◌≤◌, zero, suc, Bool, true, false, ltb, leb, List, [], ◌∷◌, min, max, sym, ◌∙◌, subst, inl, inr, arith, ◌⊎◌, ◌&&◌}
+use Rattle.std.proofs.Common.{ap, refl, if◌then◌else◌, ◌++◌, length, append-nil, ◌≡◌, ℕ, ◌+◌, ◌<◌, ◌≤◌, zero, suc, Bool, true, false, ltb, leb, List, [], ◌∷◌, min, max, sym, ◌∙◌, subst, inl, inr, arith, ◌⊎◌, ◌&&◌}
 use Rattle.std.specs.List.{All, Contains, list_any}
 use Rattle.std.proofs.lemmas.Bool.{cases_Bool, false≢true, cases_lt, lt-ltb, le-leb, ltb-true, leb-true, and_parts, and_from}
 use Rattle.std.proofs.lemmas.List.Elements.{All-cons, All-nil}
 use Rattle.std.proofs.lemmas.List.Folds.{Any-from_list_any, list_any-from_Any}
-use Rattle.cell_units.specs.Record.{Fold}
-use Rattle.cell_units.specs.Folded.{inside, covered}
+use Rattle.cell_units.specs.Record.{Fold, Inlay}
+use Rattle.cell_units.specs.Inlaid.{Byte, Hidden, Token, inlays_at, show_each}
+use Rattle.cell_units.specs.Laws.{ShowPlaceholder, ShowsAsInlaid}
+use Rattle.cell_units.specs.Folded.{inside, covered, shown}
 use Rattle.cell_units.specs.Joined.{Chain, One, Join, IsJoined, ShowsOnePlaceholder, ShowsPlaceholder}
 
 any_from : (p : Fold → Bool) (f : Fold) (folds : List Fold) → Contains folds f → p f ≡ true → list_any p folds ≡ true
@@ -114,3 +116,32 @@ module _ (folds : List Fold) where
           at : (f : Fold) → Contains folds f → f.start ≤ o → o < f.end → (f.start < o) ⊎ (o ≤ f.start) → f.start ≡ o
           at f m x y (inl l) = absurd (omega (arith, outside o f is.1 m l))
           at f m x y (inr l) = omega arith
+
+  covered_inside : (o : ℕ) → covered folds o ≡ false → inside folds o ≡ false
+  covered_inside o h = not_inside o (λ f m x y. false≢true (sym h ∙ covered_by o f m (omega (arith, x)) y))
+
+  module _ (inlays : List Inlay) where
+    -- bytes at offsets strictly inside show nothing
+    inside-shows_none : (o : ℕ) (bytes : List ℕ) → ((k : ℕ) → o ≤ k → k < o + length bytes → inside folds k ≡ true) → show_each (shown inlays folds) o bytes ≡ []
+    inside-shows_none o [] h = refl
+    inside-shows_none o (b ∷ bytes) h =
+        ap (λ (t : Bool). (if t then [] else (inlays_at inlays o ++ (if covered folds o then Hidden o else Byte o b) ∷ [])) ++ show_each (shown inlays folds) (o + 1) bytes) (h o (omega arith) (omega arith))
+        ∙ inside-shows_none (o + 1) bytes (λ k l u. h k (omega (arith, l)) (omega (arith, u)))
+
+    shown-start : (o b : ℕ) → ShowsPlaceholder folds o → shown inlays folds o b ≡ inlays_at inlays o ++ Hidden o ∷ []
+    shown-start o b is =
+        ap (λ (t : Bool). if t then [] else (inlays_at inlays o ++ (if covered folds o then Hidden o else Byte o b) ∷ [])) is.1
+        ∙ ap (λ (t : Bool). inlays_at inlays o ++ (if t then Hidden o else Byte o b) ∷ []) is.0
+
+    pub IsJoined-hides : (s e : ℕ) → IsJoined folds s e → ShowPlaceholder inlays folds s e
+    IsJoined-hides s e j [] l = absurd (let lt = (chain_covered s e j.chain).1 in omega (arith, lt, l))
+    IsJoined-hides s e j (b ∷ bytes) l =
+        let is = IsJoined-shows s e j in
+        ap (λ (rest : List Token). shown inlays folds s b ++ rest) (inside-shows_none (s + 1) bytes (λ k x y. is.2 k (omega (arith, x)) (omega (arith, y, l))))
+        ∙ append-nil (shown inlays folds s b)
+        ∙ shown-start s b (is.0, is.1)
+
+    pub shown-inlaid : (o : ℕ) → covered folds o ≡ false → ShowsAsInlaid inlays folds o
+    shown-inlaid o h b =
+        ap (λ (t : Bool). if t then [] else (inlays_at inlays o ++ (if covered folds o then Hidden o else Byte o b) ∷ [])) (covered_inside o h)
+        ∙ ap (λ (t : Bool). inlays_at inlays o ++ (if t then Hidden o else Byte o b) ∷ []) h

@@ -2,6 +2,7 @@
 use Rattle.std.specs.Prelude.{ℕ, List, [], length, map, filter, flat_map, not}
 use Rattle.std.specs.List.{range_with_len}
 use Rattle.cell_units.specs.declared.place.Bias.{Bias}
+use Rattle.cell_units.specs.declared.place.Side.{Side}
 use Rattle.cell_units.specs.declared.piece.Piece.{Piece}
 use Rattle.cell_units.specs.declared.piece.PieceKind.TheVariants.{Buffer, Inlay, Placeholder}
 use Rattle.cell_units.specs.Record as records
@@ -14,6 +15,9 @@ inlay offset bias id text = record { offset = offset; bias = bias; id = id; text
 
 abbrev pub fold : ℕ → ℕ → ℕ → Fold
 fold start end id = record { start = start; end = end; id = id }
+
+abbrev pub block : ℕ → ℕ → Side → List (List ℕ) → Block
+block offset id side lines = record { offset = offset; id = id; side = side; lines = lines }
 
 -- a mark for each display line, at the width
 abbrev pub settled_marks : List ℕ → List records.Inlay → List Fold → ℕ → List Mark

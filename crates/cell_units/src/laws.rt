@@ -1,10 +1,11 @@
 //! What the definitions mean in other words.
-ghost use Rattle.std.specs.Prelude.{◌≡◌, ℕ, List};
+ghost use Rattle.std.specs.Prelude.{◌≡◌, ℕ, false, List};
 ghost use Rattle.std.specs.Str.{IsUtf8};
 ghost use Rattle.cell_units.specs.Text.{clean};
-ghost use Rattle.cell_units.specs.Record.{Fold};
+ghost use Rattle.cell_units.specs.Record.{Fold, Inlay};
+ghost use Rattle.cell_units.specs.Folded.{covered};
 ghost use Rattle.cell_units.specs.Joined.{IsJoined, ShowsOnePlaceholder, ShowsPlaceholder};
-ghost use Rattle.cell_units.specs.Laws.{HasNoReturn, TellsBoundaries};
+ghost use Rattle.cell_units.specs.Laws.{HasNoReturn, ShowPlaceholder, ShowsAsInlaid, TellsBoundaries};
 
 /// Laws of every text. Call it where one of them is wanted; it does nothing.
 pub fn text_laws()
@@ -14,8 +15,10 @@ pub fn text_laws()
     ensures boundaries { (text : List ℕ) → IsUtf8 text → TellsBoundaries text }
 {}
 
-/// Laws of every list of folds: placeholders are the joined folds. It does nothing.
+/// Laws of every list of folds: placeholders are the joined folds, and the rest is shown as without folds. It does nothing.
 pub fn fold_laws()
     ensures joined_is_shown { (folds : List Fold) (start end : ℕ) → IsJoined folds start end → ShowsOnePlaceholder folds start end }
     ensures shown_is_joined { (folds : List Fold) (offset : ℕ) → ShowsPlaceholder folds offset → (end : ℕ) × IsJoined folds offset end }
+    ensures joined_hides { (inlays : List Inlay) (folds : List Fold) (start end : ℕ) → IsJoined folds start end → ShowPlaceholder inlays folds start end }
+    ensures rest_is_inlaid { (inlays : List Inlay) (folds : List Fold) (offset : ℕ) → covered folds offset ≡ false → ShowsAsInlaid inlays folds offset }
 {}

@@ -2,15 +2,16 @@
 ghost use Rattle.std.specs.Prelude.{◌≡◌, ◌++◌, List, [], ◌∷◌, codes, flat_map, map, true, false};
 ghost use Rattle.std.specs.List.{range_with_len};
 ghost use Rattle.cell_units.specs.declared.place.Bias.TheVariants.{Left, Right};
+ghost use Rattle.cell_units.specs.declared.place.Side.TheVariants.{Above};
 ghost use Rattle.cell_units.specs.Text.{clean, is_boundary, row_end, row_of, row_start};
 ghost use Rattle.cell_units.specs.Anchor.{move};
 ghost use Rattle.cell_units.specs.Record.{line_count};
-ghost use Rattle.cell_units.specs.Operation.{Replace, moved_folds, operated};
+ghost use Rattle.cell_units.specs.Operation.{Replace, moved_blocks, moved_folds, moved_inlays, operated};
 ghost use Rattle.cell_units.specs.Inlaid.{bytes_of, inlaid, inlaid_place, placeholder};
 ghost use Rattle.cell_units.specs.Folded.{display_lines, folded_place, line_of, place_in_line, span_end, span_start};
 ghost use Rattle.cell_units.specs.Pieces.{folded_lines};
 ghost use Rattle.cell_units.specs.Touched.{touched_after, touched_before, touched_lines};
-ghost use Rattle.cell_units.specs.Worked.{buffer_piece, fold, folded_record, inlay, inlay_piece, line_texts, placeholder_piece};
+ghost use Rattle.cell_units.specs.Worked.{block, buffer_piece, fold, folded_record, inlay, inlay_piece, line_texts, placeholder_piece};
 
 /// Texts whose clean form, rows, row ends and boundaries are known. It does nothing.
 pub fn worked_texts()
@@ -34,6 +35,13 @@ pub fn worked_operations()
         ≡ codes "aXYc<12>def" ∷ [] }
     ensures inlay_between_replacements { let r = folded_record (codes "abcdef") (inlay 2 Left 1 (codes "^") ∷ []) [] in
         line_texts (operated (Replace 1 2 (codes "X")) (operated (Replace 2 3 (codes "Y")) r)) ≡ codes "aX^Ydef" ∷ [] }
+    ensures fold_edges { (moved_folds 1 1 1 (fold 1 3 1 ∷ []) ≡ fold 2 4 1 ∷ []) × (moved_folds 3 3 1 (fold 1 3 1 ∷ []) ≡ fold 1 3 1 ∷ [])
+        × (moved_folds 2 4 1 (fold 1 3 1 ∷ []) ≡ fold 1 3 1 ∷ []) × (moved_folds 1 3 2 (fold 1 3 1 ∷ []) ≡ []) }
+    ensures folds_sorted_again { moved_folds 1 3 0 (fold 1 6 1 ∷ fold 2 5 2 ∷ []) ≡ fold 1 3 2 ∷ fold 1 4 1 ∷ [] }
+    ensures inlays_sorted_again { moved_inlays 1 2 0 (inlay 1 Right 1 (codes "x") ∷ inlay 2 Left 2 (codes "y") ∷ []) ≡ inlay 1 Left 2 (codes "y") ∷ inlay 1 Right 1 (codes "x") ∷ [] }
+    ensures block_stays_with_row { moved_blocks 0 0 2 (block 0 1 Above (codes "x" ∷ []) ∷ []) ≡ block 2 1 Above (codes "x" ∷ []) ∷ [] }
+    ensures cleaned_length { let r = folded_record (codes "ab") (inlay 1 Left 1 (codes "<") ∷ []) [] in
+        line_texts (operated (Replace 0 0 (13 ∷ 10 ∷ [])) r) ≡ [] ∷ codes "a<b" ∷ [] }
     ensures fold_dropped { let r = folded_record (codes "abcdefgh") [] (fold 1 4 1 ∷ fold 4 6 3 ∷ []) in
         line_texts (operated (Replace 1 4 []) r) ≡ (codes "a" ++ placeholder ++ codes "gh") ∷ [] }
     ensures touched_by_inlay_break { let r = folded_record (codes "ab" ++ 10 ∷ codes "cd") (inlay 1 Right 1 (120 ∷ 10 ∷ 121 ∷ []) ∷ []) [] in

@@ -1,3 +1,4 @@
 pub mod Rows
 pub mod Spots
 pub mod Worked
+pub mod Laws

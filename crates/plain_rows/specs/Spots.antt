@@ -78,13 +78,15 @@ spot_le s t = in_order s.row t.row (nat_le s.col t.col)
 abbrev pub is_spot : Spot → Spot → Bool
 is_spot s t = (s.row == t.row) && (s.col == t.col)
 
+-- the one that comes first by the order: x, or the other where there is one and it comes before x
+abbrev pub earlier : {X : Type 0} → (X → X → Bool) → X → Option X → X
+earlier le x None = x
+earlier le x (Some y) = if le x y then x else y
+
 -- the first of a list by an order, if it has any
 abbrev pub first_by : {X : Type 0} → (X → X → Bool) → List X → Option X
 first_by le [] = None
-first_by {X} le (x ∷ xs) = Some (before (first_by le xs)) where
-  before : Option X → X
-  before None = x
-  before (Some y) = if le x y then x else y
+first_by le (x ∷ xs) = Some (earlier le x (first_by le xs))
 
 abbrev pub least : List Spot → Option Spot
 least spots = first_by spot_le spots

@@ -1,12 +1,11 @@
--- Rows, blocks and spots that are known, for worked rows.
+-- Rows and spots that are known, for worked rows.
 use Rattle.std.specs.Prelude.{ℕ, ◌+◌, List, [], ◌∷◌, ◌++◌, codes, flat_map, slice_set}
 use Rattle.std.specs.List.{range_with_len}
 use Rattle.cell_units.specs.declared.place.Bias.TheVariants.{Right}
 use Rattle.cell_units.specs.declared.place.Side.TheVariants.{Above}
-use Rattle.cell_units.specs.declared.place.Side.{Side}
 use Rattle.cell_units.specs.declared.place.Spot.{Spot}
-use Rattle.cell_units.specs.Record.{Block, Fold, Mark, Record}
-use Rattle.cell_units.specs.Worked.{inlay, settled}
+use Rattle.cell_units.specs.Record.{Fold, Mark, Record}
+use Rattle.cell_units.specs.Worked.{block, inlay, settled}
 use Rattle.plain_rows.specs.Rows.{Row, block_kind, head_kind, more_kind}
 
 abbrev pub head : List ℕ → Row
@@ -17,9 +16,6 @@ more text = record { kind = more_kind; text = text }
 
 abbrev pub block_row : List ℕ → Row
 block_row text = record { kind = block_kind; text = text }
-
-abbrev pub block : ℕ → ℕ → Side → List (List ℕ) → Block
-block offset id side lines = record { offset = offset; id = id; side = side; lines = lines }
 
 abbrev pub spot : ℕ → ℕ → Spot
 spot row col = record { row = row; col = col }

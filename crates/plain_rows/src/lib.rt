@@ -4,4 +4,5 @@
 //! spots, the nearest valid spots and the offsets are known.
 #![tactic(auto)]
 
+pub mod laws;
 pub mod worked;

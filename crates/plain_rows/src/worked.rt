@@ -1,14 +1,25 @@
 //! Worked rows of the definitions: records of which the rows and the spots are known.
-ghost use Rattle.std.specs.Prelude.{◌≡◌, ◌++◌, List, [], ◌∷◌, codes, length, replicate};
+ghost use Rattle.std.specs.Prelude.{◌≡◌, ◌++◌, List, [], ◌∷◌, codes, length, map, replicate};
 ghost use Rattle.cell_units.specs.declared.place.Bias.TheVariants.{Left, Right};
 ghost use Rattle.cell_units.specs.declared.place.Side.TheVariants.{Above, Below};
 ghost use Rattle.cell_units.specs.Operation.{Replace, operated};
 ghost use Rattle.cell_units.specs.Inlaid.{placeholder};
 ghost use Rattle.cell_units.specs.Text.{clean};
-ghost use Rattle.cell_units.specs.Worked.{fold, folded_record, inlay, settled};
+ghost use Rattle.cell_units.specs.Worked.{block, fold, folded_record, inlay, settled};
+ghost use Rattle.cell_line.specs.Wrapping.{cuts_of, indent_of};
 ghost use Rattle.plain_rows.specs.Rows.{rows_of};
-ghost use Rattle.plain_rows.specs.Spots.{back, clip, show};
-ghost use Rattle.plain_rows.specs.Worked.{block, block_row, head, marked, more, ordinary_source, spot, ten_lines};
+ghost use Rattle.plain_rows.specs.Spots.{back, clip, elements_at, show};
+ghost use Rattle.plain_rows.specs.Worked.{block_row, head, marked, more, ordinary_source, spot, ten_lines};
+
+/// Lines of which the elements and cuts are known. It does nothing.
+pub fn worked_elements()
+    ensures tab_elements { map (λ e. e.cells) (elements_at (folded_record (9 ∷ codes "ab") [] []) 0) ≡ 4 ∷ 1 ∷ 1 ∷ [] }
+    ensures hello_cuts { let es = elements_at (folded_record (codes "hello world") [] []) 0 in (cuts_of es 5 ≡ 6 ∷ []) × (indent_of es 5 ≡ 0) }
+    ensures function_fold { length (elements_at (folded_record (codes "fn f() {" ++ 10 ∷ codes "  a" ++ 10 ∷ codes "}" ++ 10 ∷ []) [] (fold 8 13 1 ∷ [])) 0) ≡ 10 }
+    ensures combining_mark { map (λ e. e.cells) (elements_at (folded_record (0x65 ∷ 0xCC ∷ 0x81 ∷ 0x78 ∷ []) [] []) 0) ≡ 1 ∷ 1 ∷ [] }
+    ensures zero_width_space { map (λ e. e.cells) (elements_at (folded_record (97 ∷ 0xE2 ∷ 0x80 ∷ 0x8B ∷ 98 ∷ []) [] []) 0) ≡ 1 ∷ 0 ∷ 1 ∷ [] }
+    ensures emoji { map (λ e. e.cells) (elements_at (settled (120 ∷ 0xF0 ∷ 0x9F ∷ 0x98 ∷ 0x80 ∷ 121 ∷ []) [] [] [] 2) 0) ≡ 1 ∷ 2 ∷ 1 ∷ [] }
+{}
 
 /// Records of which the rows are known. It does nothing.
 pub fn worked_rows()

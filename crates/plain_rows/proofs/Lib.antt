@@ -1,0 +1,4 @@
+pub mod Computing
+pub mod Lists
+pub mod Clips
+pub mod NearestAfter
