@@ -12,7 +12,7 @@ use Rattle.edit_patch.specs.Fits.{added_count, removed_count, Fits}
 use Rattle.edit_patch.proofs.Origin.{origin-kept, origin-new, origin-past, origin-behind, above}
 use Rattle.edit_patch.proofs.Inverse.{forth}
 
-abbrev IsInside : ℕ → ℕ → Edit → Type 0
+abbrev pub IsInside : ℕ → ℕ → Edit → Type 0
 IsInside old new e = (e.old_end ≤ old) × (e.new_end ≤ new)
 
 -- the edits lie within lists of these lengths, and behind (o, n) the lengths agree with them

@@ -1,9 +1,9 @@
 //! Laws above the definitions, and worked examples of them. These functions do nothing: each one's contract is the law.
-ghost use Rattle.std.specs.Prelude.{◌≡◌, ◌↔◌, ℕ, ◌^◌, ◌<◌, ◌≤◌, List, [], ◌∷◌, Option, Some, None, length};
+ghost use Rattle.std.specs.Prelude.{◌≡◌, ◌↔◌, ℕ, ◌+◌, ◌^◌, ◌<◌, ◌≤◌, List, [], ◌∷◌, ◌++◌, Option, Some, None, length};
 ghost use Rattle.edit_patch.specs.declared.edit.Edit.{Edit};
 ghost use Rattle.edit_patch.specs.Came.{origin_of, carry_of, Came, CorrespondsInOrder, inverted, edit_of};
 ghost use Rattle.edit_patch.specs.Normal.{IsPatch, IsComposed, AllFit};
-ghost use Rattle.edit_patch.specs.Fits.{Fits, HaveCommon, MeetsOld, MeetsNew};
+ghost use Rattle.edit_patch.specs.Fits.{Fits, replacement, HaveCommon, MeetsOld, MeetsNew};
 
 /// What a patch says of positions is the one correspondence in order that its edits leave.
 pub fn correspondence_in_order()
@@ -45,6 +45,12 @@ pub fn fitting<T>()
     ensures inverse { (a : List Edit) (old new : List T) → IsPatch a → Fits a old new → Fits (inverted a) new old }
     ensures composed { (a b c : List Edit) (old mid new : List T) → IsPatch a → IsPatch b → IsComposed a b c → Fits a old mid → Fits b mid new → Fits c old new }
     ensures small { (a : List Edit) (old new : List T) → Fits a old new → length old < 2 ^ 32 → length new < 2 ^ 32 → AllFit a }
+{}
+
+/// One replacement is a patch, and fits the list before it and the list after it.
+pub fn replacing<T>()
+    ensures normal { (start end count : ℕ) → start ≤ end → IsPatch (replacement start end count) }
+    ensures fits { (before removed added after : List T) → Fits (replacement (length before) (length before + length removed) (length added)) (before ++ removed ++ after) (before ++ added ++ after) }
 {}
 
 /// Ranges that are not backwards have a place in common where neither is behind the other. What an edit meets in the
