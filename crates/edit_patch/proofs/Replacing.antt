@@ -1,13 +1,13 @@
 -- The patch of one replacement fits the lists before and after it.
-use Rattle.std.proofs.Common.{◌≡◌, ℕ, zero, suc, ◌+◌, ◌-◌, ◌<◌, ◌≤◌, Bool, true, false, ltb, ◌||◌, List, [], ◌∷◌, ◌++◌, length, Option, Some, None, ap, sym, subst, refl, ◌∙◌, arith, inl, inr, ◌⊎◌, ⊎_elim, length-append}
-use Rattle.std.specs.Prelude.{All, slice_get, sum_by}
+use Rattle.std.proofs.Common.{◌≡◌, ℕ, zero, suc, ◌+◌, ◌-◌, ◌<◌, ◌≤◌, Bool, true, false, ltb, ◌||◌, List, [], ◌∷◌, ◌++◌, length, ap, sym, subst, refl, ◌∙◌, arith, inl, inr, ◌⊎◌, ⊎_elim, length-append}
+use Rattle.std.specs.Prelude.{slice_get}
 use Rattle.std.proofs.lemmas.Bool.{cases_lt, cases_Bool, cond-true, cond-false, or_cases, or_parts, ltb-true, ltb-false}
 use Rattle.std.proofs.lemmas.List.{nil_from_length}
 use Rattle.std.proofs.lemmas.List.Elements.{All-nil, All-cons}
 use Rattle.std.proofs.lemmas.List.Sums.{sum_by-cons}
 use Rattle.edit_patch.specs.declared.edit.Edit.{Edit}
-use Rattle.edit_patch.specs.Came.{origin_of, Came, edit_of}
-use Rattle.edit_patch.specs.Normal.{IsNext, IsPatch}
+use Rattle.edit_patch.specs.Came.{Came, edit_of}
+use Rattle.edit_patch.specs.Patch.{IsPatch}
 use Rattle.edit_patch.specs.Fits.{added_count, removed_count, Fits, replacement}
 use Rattle.edit_patch.proofs.Origin.{origin-kept, origin-new, origin-past}
 use Rattle.edit_patch.proofs.Fitting.{IsInside, fits-none}

@@ -2,7 +2,7 @@
 ghost use Rattle.std.specs.Prelude.{◌≡◌, ◌↔◌, ℕ, ◌+◌, ◌^◌, ◌<◌, ◌≤◌, List, [], ◌∷◌, ◌++◌, Option, Some, None, length};
 ghost use Rattle.edit_patch.specs.declared.edit.Edit.{Edit};
 ghost use Rattle.edit_patch.specs.Came.{origin_of, carry_of, Came, CorrespondsInOrder, inverted, edit_of};
-ghost use Rattle.edit_patch.specs.Normal.{IsPatch, IsComposed, AllFit};
+ghost use Rattle.edit_patch.specs.Patch.{IsPatch, IsComposed, AllFit};
 ghost use Rattle.edit_patch.specs.Fits.{Fits, replacement, HaveCommon, MeetsOld, MeetsNew};
 
 /// What a patch says of positions is the one correspondence in order that its edits leave.
@@ -60,7 +60,7 @@ pub fn meeting()
     ensures inverse { (a : List Edit) (first last : ℕ) → MeetsNew (inverted a) first last ↔ MeetsOld a first last }
 {}
 
-/// An insertion of one position, of which the next patch deletes the end with what follows it.
+/// Of the new positions of a replacement the next patch deletes all but the first, and the position behind them.
 pub fn delete_across_an_edge()
     ensures composed { IsComposed (edit_of 2 4 2 5 ∷ []) (edit_of 3 6 3 3 ∷ []) (edit_of 2 5 2 3 ∷ []) }
     ensures new { origin_of (edit_of 2 5 2 3 ∷ []) 2 ≡ None }
