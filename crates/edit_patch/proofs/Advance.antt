@@ -1,14 +1,14 @@
 -- Going on to the next edit of a merge, and taking it.
-use Rattle.std.proofs.Common.{◌≡◌, ℕ, ◌+◌, ◌-◌, ◌<◌, ◌≤◌, max, Bool, true, false, cond, ltb, List, [], ◌∷◌, ◌++◌, length, zero, suc, ap, sym, subst, refl, ◌∙◌, arith, inl, inr, ⊎_elim, ◌⊎◌, append-nil}
+use Rattle.std.proofs.Common.{◌≡◌, ℕ, ◌+◌, ◌<◌, ◌≤◌, List, [], ◌∷◌, ◌++◌, length, zero, suc, sym, subst, arith, inl, inr, ⊎_elim, ◌⊎◌, append-nil}
 use Rattle.std.proofs.lemmas.Bool.{lt-ltb, le-ltb, cases_lt, cond-true, cond-false}
 use Rattle.edit_patch.specs.declared.edit.Edit.{Edit}
 use Rattle.edit_patch.specs.declared.merge.Front.{Front}
-use Rattle.edit_patch.specs.Normal.{IsNext, IsPatchFrom}
+use Rattle.edit_patch.specs.Patch.{IsPatchFrom}
 use Rattle.edit_patch.specs.Merge.{reach_of, place_at, open_edit, opened_at, advanced, passed, with_first, with_second}
 use Rattle.edit_patch.proofs.Origin.{nearer}
 use Rattle.edit_patch.proofs.Shift.{IsShift}
-use Rattle.edit_patch.proofs.Answers.{Stands, Answers, AnswersBehind, answers-first, answers-second, behind-end, behind-opened}
-use Rattle.edit_patch.proofs.Closing.{Ends, ends, close}
+use Rattle.edit_patch.proofs.Answers.{Stands, Answers, answers-first, answers-second, behind-end, behind-opened}
+use Rattle.edit_patch.proofs.Closing.{ends, close}
 
 -- no edit of the first patch begins before the middle place
 abbrev pub IsFirstLater : ℕ → List Edit → Type 0

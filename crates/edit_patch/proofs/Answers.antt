@@ -1,13 +1,13 @@
 -- What the rest of a merge has to answer, and how it does step by step.
-use Rattle.std.proofs.Common.{◌≡◌, ℕ, ◌+◌, ◌-◌, ◌<◌, ◌≤◌, max, List, [], ◌∷◌, Option, Some, None, ap, sym, subst, refl, ◌∙◌, arith, inl, inr, ⊎_elim, ◌⊎◌}
+use Rattle.std.proofs.Common.{◌≡◌, ℕ, ◌+◌, ◌-◌, ◌<◌, ◌≤◌, max, List, [], ◌∷◌, Option, Some, None, ap, sym, ◌∙◌, arith, ⊎_elim}
 use Rattle.std.specs.Prelude.{option_and_then}
 use Rattle.std.proofs.lemmas.Bool.{cases_lt}
 use Rattle.edit_patch.specs.declared.edit.Edit.{Edit}
 use Rattle.edit_patch.specs.declared.merge.Front.{Front}
 use Rattle.edit_patch.specs.Came.{origin_from}
-use Rattle.edit_patch.specs.Normal.{IsNext, IsPatchFrom}
-use Rattle.edit_patch.specs.Merge.{reach_of, place_at, opened_at, with_first, with_second}
-use Rattle.edit_patch.proofs.Origin.{origin-kept, origin-new, origin-past, nearer}
+use Rattle.edit_patch.specs.Patch.{IsNext, IsPatchFrom}
+use Rattle.edit_patch.specs.Merge.{reach_of, with_first, with_second}
+use Rattle.edit_patch.proofs.Origin.{origin-kept, origin-new, origin-past}
 use Rattle.edit_patch.proofs.Shift.{IsShift, early, pass, and_then-some, and_then-none, and_then-same, beyond, beyond-below, beyond-above}
 
 -- xs and ys are left of the two patches, and the front is in order

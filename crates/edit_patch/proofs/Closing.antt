@@ -1,11 +1,11 @@
 -- Closing the open edit of a merge.
-use Rattle.std.proofs.Common.{◌≡◌, ℕ, ◌+◌, ◌-◌, ◌<◌, ◌≤◌, max, Bool, true, false, cond, ltb, ◌||◌, List, [], ◌∷◌, ◌++◌, Option, Some, None, ap, sym, subst, refl, ◌∙◌, arith, inl, inr, ⊎_elim, ◌⊎◌}
+use Rattle.std.proofs.Common.{◌≡◌, ℕ, ◌+◌, ◌-◌, ◌<◌, ◌≤◌, max, Bool, true, false, cond, ltb, ◌||◌, List, [], ◌∷◌, ◌++◌, None, ap, sym, subst, ◌∙◌, arith, inl, inr, ⊎_elim, ◌⊎◌}
 use Rattle.std.specs.Prelude.{option_and_then}
 use Rattle.std.proofs.lemmas.Bool.{cases_lt, cases_Bool, cond-true, cond-false, or_cases, or_parts, ltb-true, ltb-false}
 use Rattle.edit_patch.specs.declared.edit.Edit.{Edit}
 use Rattle.edit_patch.specs.declared.merge.Front.{Front}
 use Rattle.edit_patch.specs.Came.{origin_from}
-use Rattle.edit_patch.specs.Normal.{IsNext, IsPatchFrom}
+use Rattle.edit_patch.specs.Patch.{IsPatchFrom}
 use Rattle.edit_patch.specs.Merge.{reach_of, place_at, open_edit}
 use Rattle.edit_patch.proofs.Origin.{origin-new, origin-past, nearer}
 use Rattle.edit_patch.proofs.Shift.{IsShift, early, pass, and_then-some, and_then-none, and_then-same, beyond, beyond-below, beyond-above}

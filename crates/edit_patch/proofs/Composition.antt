@@ -1,9 +1,9 @@
 -- Two patches compose to exactly one, and composing is associative with `none` as neutral.
-use Rattle.std.proofs.Common.{◌≡◌, ℕ, ◌+◌, ◌≤◌, List, [], ◌∷◌, length, Option, Some, None, ap, sym, refl, ◌∙◌, arith}
+use Rattle.std.proofs.Common.{◌≡◌, ℕ, ◌+◌, List, [], length, Option, Some, None, ap, sym, refl, ◌∙◌, arith}
 use Rattle.std.specs.Prelude.{option_and_then}
 use Rattle.edit_patch.specs.declared.edit.Edit.{Edit}
 use Rattle.edit_patch.specs.Came.{origin_of, inverted}
-use Rattle.edit_patch.specs.Normal.{IsPatch, IsComposed}
+use Rattle.edit_patch.specs.Patch.{IsPatch, IsComposed}
 use Rattle.edit_patch.specs.Merge.{begun}
 use Rattle.edit_patch.proofs.Unique.{unique}
 use Rattle.edit_patch.proofs.Inverse.{inverted-patch, back, forth}

@@ -1,10 +1,10 @@
 -- What a patch says is the one correspondence in order that its edits leave.
-use Rattle.std.proofs.Common.{◌≡◌, ℕ, zero, suc, ◌+◌, ◌-◌, ◌<◌, ◌≤◌, List, [], ◌∷◌, map, length, Option, Some, None, ap, sym, subst, refl, ◌∙◌, arith, inl, inr, ⊎_elim, ◌⊎◌, ◌↔◌}
+use Rattle.std.proofs.Common.{◌≡◌, ℕ, zero, suc, ◌+◌, ◌-◌, ◌<◌, ◌≤◌, List, [], ◌∷◌, map, length, Option, Some, None, ap, sym, subst, refl, ◌∙◌, arith, inl, inr, ⊎_elim, ◌⊎◌}
 use Rattle.std.specs.Prelude.{Any, slice_index_or}
 use Rattle.std.proofs.lemmas.Bool.{cases_lt, cases_order}
 use Rattle.edit_patch.specs.declared.edit.Edit.{Edit}
 use Rattle.edit_patch.specs.Came.{origin_from, origin_of, Came, IsNew, IsReplaced, CorrespondsInOrder, flipped, inverted}
-use Rattle.edit_patch.specs.Normal.{IsNext, IsPatchFrom, IsPatch}
+use Rattle.edit_patch.specs.Patch.{IsPatchFrom, IsPatch}
 use Rattle.edit_patch.proofs.Origin.{origin-kept, origin-new, origin-past, above}
 use Rattle.edit_patch.proofs.Inverse.{inverted-patch, back, forth}
 

@@ -1,18 +1,18 @@
 -- Patches that fit lists, also one after the other and backwards.
-use Rattle.std.proofs.Common.{◌≡◌, ℕ, ◌+◌, ◌-◌, ◌^◌, ◌<◌, ◌≤◌, List, [], ◌∷◌, map, length, Option, Some, None, ap, sym, subst, refl, ◌∙◌, arith, ⊎_elim}
+use Rattle.std.proofs.Common.{◌≡◌, ℕ, ◌+◌, ◌-◌, ◌^◌, ◌<◌, ◌≤◌, List, [], ◌∷◌, length, Option, Some, None, ap, sym, refl, ◌∙◌, arith, ⊎_elim}
 use Rattle.std.specs.Prelude.{All, slice_get, sum_by, option_and_then}
 use Rattle.std.proofs.lemmas.Bool.{cases_lt}
 use Rattle.std.proofs.lemmas.List.Elements.{All-nil, All-cons, All-head, All-tail, All-map, All-weaker}
 use Rattle.std.proofs.lemmas.List.Sums.{sum_by-cons}
 use Rattle.std.proofs.lemmas.Option.{slice_get_within, slice_get_cases}
 use Rattle.edit_patch.specs.declared.edit.Edit.{Edit}
-use Rattle.edit_patch.specs.Came.{origin_from, origin_of, Came, flipped, inverted}
-use Rattle.edit_patch.specs.Normal.{IsNext, IsPatchFrom, IsPatch, IsComposed, AllFit}
+use Rattle.edit_patch.specs.Came.{origin_from, origin_of, flipped, inverted}
+use Rattle.edit_patch.specs.Patch.{IsPatchFrom, IsPatch, IsComposed, AllFit}
 use Rattle.edit_patch.specs.Fits.{added_count, removed_count, Fits}
 use Rattle.edit_patch.proofs.Origin.{origin-kept, origin-new, origin-past, origin-behind, above}
 use Rattle.edit_patch.proofs.Inverse.{forth}
 
-abbrev IsInside : ℕ → ℕ → Edit → Type 0
+abbrev pub IsInside : ℕ → ℕ → Edit → Type 0
 IsInside old new e = (e.old_end ≤ old) × (e.new_end ≤ new)
 
 -- the edits lie within lists of these lengths, and behind (o, n) the lengths agree with them

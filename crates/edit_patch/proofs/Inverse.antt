@@ -1,9 +1,9 @@
 -- The way back: the inverse of a patch is a patch, by which i came from j exactly where by the patch j came from i.
-use Rattle.std.proofs.Common.{◌≡◌, ℕ, ◌+◌, ◌-◌, ◌<◌, ◌≤◌, List, [], ◌∷◌, map, Option, Some, None, ap, sym, subst, refl, ◌∙◌, arith, ⊎_elim}
+use Rattle.std.proofs.Common.{◌≡◌, ℕ, ◌+◌, ◌-◌, ◌≤◌, List, [], ◌∷◌, map, Some, ap, sym, subst, refl, ◌∙◌, arith, ⊎_elim}
 use Rattle.std.proofs.lemmas.Bool.{cases_lt}
 use Rattle.edit_patch.specs.declared.edit.Edit.{Edit}
-use Rattle.edit_patch.specs.Came.{origin_from, origin_of, Came, flipped, inverted}
-use Rattle.edit_patch.specs.Normal.{IsNext, IsPatchFrom, IsPatch}
+use Rattle.edit_patch.specs.Came.{origin_from, Came, flipped, inverted}
+use Rattle.edit_patch.specs.Patch.{IsPatchFrom, IsPatch}
 use Rattle.edit_patch.proofs.Origin.{origin-kept, origin-new, origin-past, above}
 
 inverted-from : (gap o n : ℕ) (es : List Edit) → IsPatchFrom gap o n es → IsPatchFrom gap n o (map flipped es)

@@ -12,3 +12,4 @@ pub mod Merging
 pub mod Fitting
 pub mod Meeting
 pub mod Worked
+pub mod Replacing

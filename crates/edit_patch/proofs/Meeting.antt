@@ -1,5 +1,5 @@
 -- Ranges with a place in common.
-use Rattle.std.proofs.Common.{◌≡◌, ℕ, ◌+◌, ◌<◌, ◌≤◌, max, List, arith, ◌↔◌}
+use Rattle.std.proofs.Common.{ℕ, ◌≤◌, max, List, arith, ◌↔◌}
 use Rattle.edit_patch.specs.declared.edit.Edit.{Edit}
 use Rattle.edit_patch.specs.Came.{inverted}
 use Rattle.edit_patch.specs.Fits.{HaveCommon, MeetsOld, MeetsNew}

@@ -1,5 +1,5 @@
 -- What holds all through a merge.
-use Rattle.std.proofs.Common.{◌≡◌, ℕ, ◌+◌, ◌-◌, ◌^◌, ◌<◌, ◌≤◌, max, Bool, true, false, ltb, ◌||◌, List, [], ◌∷◌, ◌++◌, length, drop, get_or, zero, suc, ap, sym, subst, refl, ◌∙◌, arith, ⊎_elim, append_assoc, append-nil, add-one, drop-cons}
+use Rattle.std.proofs.Common.{◌≡◌, ℕ, ◌+◌, ◌^◌, ◌<◌, ◌≤◌, Bool, true, false, ltb, ◌||◌, List, [], ◌∷◌, ◌++◌, length, drop, get_or, suc, sym, subst, arith, ⊎_elim, append_assoc, append-nil, add-one, drop-cons}
 use Rattle.std.specs.Prelude.{All}
 use Rattle.std.proofs.lemmas.Bool.{cases_Bool, cond-true, or_parts, ltb-false}
 use Rattle.std.proofs.lemmas.List.{drop_all}
@@ -7,7 +7,7 @@ use Rattle.std.proofs.lemmas.List.Elements.{All-head}
 use Rattle.edit_patch.specs.declared.edit.Edit.{Edit}
 use Rattle.edit_patch.specs.declared.merge.Place.{Place}
 use Rattle.edit_patch.specs.declared.merge.Front.{Front}
-use Rattle.edit_patch.specs.Normal.{IsNext, IsPatchFrom, IsPatch, IsComposed, AllFit}
+use Rattle.edit_patch.specs.Patch.{IsPatch, IsComposed, AllFit}
 use Rattle.edit_patch.specs.Merge.{begun, reach_of, place_at, open_edit, opened_at, advanced, passed, with_first, with_second, IsBounded, IsClosable, CanAdvance}
 use Rattle.edit_patch.proofs.Answers.{Stands, Answers}
 use Rattle.edit_patch.proofs.Advance.{IsFirstLater, IsSecondLater, stands-opened, answers-opened, answers-end, stands-first, answers-first_taken, stands-second, answers-second_taken, rest}

@@ -1,9 +1,9 @@
 -- Where a position came from, by cases at the next edit.
-use Rattle.std.proofs.Common.{◌≡◌, ℕ, ◌+◌, ◌-◌, ◌<◌, ◌≤◌, List, [], ◌∷◌, Option, Some, None, ap, sym, ◌∙◌, arith, ⊎_elim}
+use Rattle.std.proofs.Common.{◌≡◌, ℕ, ◌+◌, ◌-◌, ◌<◌, ◌≤◌, List, [], ◌∷◌, Some, None, ap, sym, ◌∙◌, arith, ⊎_elim}
 use Rattle.std.proofs.lemmas.Bool.{lt-ltb, le-ltb, cases_lt, cond-true, cond-false}
 use Rattle.edit_patch.specs.declared.edit.Edit.{Edit}
 use Rattle.edit_patch.specs.Came.{origin_from}
-use Rattle.edit_patch.specs.Normal.{IsNext, IsPatchFrom}
+use Rattle.edit_patch.specs.Patch.{IsPatchFrom}
 
 -- before the edit
 pub origin-kept : (o n : ℕ) (e : Edit) (es : List Edit) (i : ℕ) → i < e.new_start → origin_from o n (e ∷ es) i ≡ Some (o + (i - n))

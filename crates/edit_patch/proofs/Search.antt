@@ -1,5 +1,5 @@
 -- A position's origin, by the last edit that begins at the position or before it.
-use Rattle.std.proofs.Common.{◌≡◌, ℕ, zero, suc, ◌+◌, ◌-◌, ◌<◌, ◌≤◌, Bool, List, [], ◌∷◌, map, take, length, get_or, Option, Some, None, true, false, cond, ltb, leb, ap, sym, subst, refl, ◌∙◌, arith, ⊎_elim}
+use Rattle.std.proofs.Common.{◌≡◌, ℕ, zero, suc, ◌+◌, ◌-◌, ◌<◌, ◌≤◌, Bool, List, [], ◌∷◌, take, length, get_or, Option, Some, None, true, false, cond, ltb, leb, ap, sym, subst, refl, ◌∙◌, arith}
 use Rattle.std.specs.Prelude.{slice_get, option_map}
 use Rattle.std.specs.List.Sorted.{IsPartitionPoint, IsPartitionedBy, IsNonDecreasingBy}
 use Rattle.std.specs.Fn.{Called, ComputesKey}
@@ -11,7 +11,7 @@ use Rattle.std.proofs.lemmas.List.Sorted.{IsPartitionedBy-leb, IsPartitionPoint-
 use Rattle.std.proofs.lemmas.Option.{slice_get-map, slice_get-get_or, slice_get_within, get_or_from_slice_get}
 use Rattle.edit_patch.specs.declared.edit.Edit.{Edit}
 use Rattle.edit_patch.specs.Came.{origin_from, origin_of, carry_of, flipped, inverted}
-use Rattle.edit_patch.specs.Normal.{IsNext, IsPatchFrom, IsPatch}
+use Rattle.edit_patch.specs.Patch.{IsPatchFrom, IsPatch}
 use Rattle.edit_patch.proofs.Origin.{origin-kept, origin-past}
 use Rattle.edit_patch.proofs.Inverse.{inverted-patch, twice}
 

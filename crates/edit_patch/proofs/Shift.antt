@@ -4,7 +4,7 @@ use Rattle.std.specs.Prelude.{option_and_then}
 use Rattle.std.proofs.lemmas.Bool.{lt-ltb, le-ltb, cases_lt, cond-true, cond-false}
 use Rattle.edit_patch.specs.declared.edit.Edit.{Edit}
 use Rattle.edit_patch.specs.Came.{origin_from}
-use Rattle.edit_patch.specs.Normal.{IsNext, IsPatchFrom}
+use Rattle.edit_patch.specs.Patch.{IsPatchFrom}
 use Rattle.edit_patch.proofs.Origin.{origin-kept, origin-new, origin-past}
 
 -- (o2, n2) is (o, n), or so many kept positions later

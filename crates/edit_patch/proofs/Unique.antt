@@ -1,9 +1,9 @@
 -- No two patches say the same of each position.
-use Rattle.std.proofs.Common.{◌≡◌, ℕ, ◌+◌, ◌-◌, ◌<◌, ◌≤◌, List, [], ◌∷◌, Option, Some, None, ap, sym, refl, ◌∙◌, arith, ⊎_elim}
+use Rattle.std.proofs.Common.{◌≡◌, ℕ, ◌+◌, ◌-◌, ◌<◌, ◌≤◌, List, [], ◌∷◌, Some, ap, sym, refl, ◌∙◌, arith, ⊎_elim}
 use Rattle.std.proofs.lemmas.Bool.{cases_lt, cases_order}
 use Rattle.edit_patch.specs.declared.edit.Edit.{Edit}
 use Rattle.edit_patch.specs.Came.{origin_from, origin_of}
-use Rattle.edit_patch.specs.Normal.{IsNext, IsPatchFrom, IsPatch}
+use Rattle.edit_patch.specs.Patch.{IsPatchFrom, IsPatch}
 use Rattle.edit_patch.proofs.Origin.{origin-kept, origin-new, origin-past, origin-behind}
 
 -- where an edit begins, the positions no longer correspond by the shift before it

@@ -1,11 +1,11 @@
 -- The worked examples of compositions, position by position.
-use Rattle.std.proofs.Common.{◌≡◌, ℕ, ◌+◌, ◌-◌, ◌<◌, ◌≤◌, List, [], ◌∷◌, Option, Some, None, ap, sym, subst, ◌^◌, refl, ◌∙◌, arith, ⊎_elim}
+use Rattle.std.proofs.Common.{◌≡◌, ℕ, ◌+◌, ◌<◌, ◌≤◌, List, [], ◌∷◌, Option, Some, None, ap, sym, subst, ◌^◌, refl, ◌∙◌, arith, ⊎_elim}
 use Rattle.std.specs.Prelude.{option_and_then}
 use Rattle.std.proofs.lemmas.Bool.{cases_lt}
 use Rattle.std.proofs.lemmas.List.Elements.{All-nil, All-cons}
 use Rattle.edit_patch.specs.declared.edit.Edit.{Edit}
 use Rattle.edit_patch.specs.Came.{origin_of, edit_of}
-use Rattle.edit_patch.specs.Normal.{IsPatch, IsNext, IsComposed, AllFit}
+use Rattle.edit_patch.specs.Patch.{IsPatch, IsComposed, AllFit}
 use Rattle.edit_patch.proofs.Origin.{origin-kept, origin-new, origin-past}
 use Rattle.edit_patch.proofs.Composition.{one_composition}
 

@@ -6,7 +6,8 @@ use Rattle.edit_patch.specs.declared.edit.Edit.{Edit}
 abbrev pub edit_of : ℕ → ℕ → ℕ → ℕ → Edit
 edit_of a b c d = record { old_start = a; old_end = b; new_start = c; new_end = d }
 
--- where the new position i came from, behind what ends at `old` and `new`; none where it is new
+-- where the new position i came from, behind what ends at `old` and `new`: before the next edit as far behind `old`
+-- as it is behind `new`, inside that edit from nowhere, and behind it where the other edits say
 abbrev pub origin_from : ℕ → ℕ → List Edit → ℕ → Option ℕ
 origin_from old new [] i = Some (old + (i - new))
 origin_from old new (e ∷ es) i =
@@ -35,11 +36,11 @@ pub record CorrespondsInOrder (es : List Edit) (f : ℕ → Option ℕ) : Type 0
   pub stays : (j : ℕ) → ((i : ℕ) × (f i ≡ Some j)) ↔ (¬ IsReplaced es j)
   pub order : (h i j k : ℕ) → h < i → f h ≡ Some j → f i ≡ Some k → j < k
 
--- an edit seen from the new side
+-- an edit with its sides changed over
 abbrev pub flipped : Edit → Edit
 flipped e = record { old_start = e.new_start; old_end = e.new_end; new_start = e.old_start; new_end = e.old_end }
 
--- a patch seen from the new side
+-- the patch that leads back
 abbrev pub inverted : List Edit → List Edit
 inverted es = map flipped es
 

@@ -1,7 +1,7 @@
 -- When a patch fits two lists, and what its edits meet.
-use Rattle.std.specs.Prelude.{◌≡◌, ℕ, ◌+◌, ◌-◌, ◌<◌, ◌≤◌, List, All, Any, length, slice_get, sum_by}
+use Rattle.std.specs.Prelude.{◌≡◌, ℕ, ◌+◌, ◌-◌, ◌<◌, ◌≤◌, ◌||◌, List, [], ◌∷◌, All, Any, length, nat_lt, slice_get, sum_by, if◌then◌else◌}
 use Rattle.edit_patch.specs.declared.edit.Edit.{Edit}
-use Rattle.edit_patch.specs.Came.{Came}
+use Rattle.edit_patch.specs.Came.{Came, edit_of}
 
 -- how many positions an edit takes away, and how many it puts in their place
 abbrev pub removed_count : Edit → ℕ
@@ -27,3 +27,8 @@ MeetsOld es first last = Any (λ e. HaveCommon e.old_start e.old_end first last)
 -- the same in the new text
 abbrev pub MeetsNew : List Edit → ℕ → ℕ → Type 0
 MeetsNew es first last = Any (λ e. HaveCommon e.new_start e.new_end first last) es
+
+-- the patch that puts `count` positions in the place of those from `start` up to `end`: no edit where nothing replaces nothing
+abbrev pub replacement : ℕ → ℕ → ℕ → List Edit
+replacement start end count =
+    if nat_lt start end || nat_lt 0 count then edit_of start end start (start + count) ∷ [] else []

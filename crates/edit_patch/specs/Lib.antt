@@ -1,4 +1,4 @@
 pub mod Came
-pub mod Normal
+pub mod Patch
 pub mod Fits
 pub mod Merge

@@ -45,7 +45,7 @@ with_first f e = record f { first = record { old = e.old_end; new = e.new_end } 
 abbrev pub with_second : Front → Edit → Front
 with_second f e = record f { second = record { old = e.old_end; new = e.new_end } }
 
--- sums of places fit a u64
+-- no sum of places passes a u64
 pub record IsBounded (f : Front) : Type 0 where
   pub first_old : f.first.old < f.first.new + 2 ^ 32
   pub first_new : f.first.new < 2 ^ 32

@@ -13,9 +13,9 @@ pub struct Edit {
 
 impl Edit {
     ghost use Rattle.edit_patch.specs.Came.{flipped};
-    ghost use Rattle.edit_patch.specs.Normal.{IsNext};
+    ghost use Rattle.edit_patch.specs.Patch.{IsNext};
 
-    /// The same edit, seen from the new side.
+    /// The edit with its sides changed over.
     pub(crate) fn flip(&self) -> Edit
         ensures { result ≡ flipped self.now }
     {

@@ -1,9 +1,9 @@
 //! Laws above the definitions, and worked examples of them. These functions do nothing: each one's contract is the law.
-ghost use Rattle.std.specs.Prelude.{◌≡◌, ◌↔◌, ℕ, ◌^◌, ◌<◌, ◌≤◌, List, [], ◌∷◌, Option, Some, None, length};
+ghost use Rattle.std.specs.Prelude.{◌≡◌, ◌↔◌, ℕ, ◌+◌, ◌^◌, ◌<◌, ◌≤◌, List, [], ◌∷◌, ◌++◌, Option, Some, None, length};
 ghost use Rattle.edit_patch.specs.declared.edit.Edit.{Edit};
 ghost use Rattle.edit_patch.specs.Came.{origin_of, carry_of, Came, CorrespondsInOrder, inverted, edit_of};
-ghost use Rattle.edit_patch.specs.Normal.{IsPatch, IsComposed, AllFit};
-ghost use Rattle.edit_patch.specs.Fits.{Fits, HaveCommon, MeetsOld, MeetsNew};
+ghost use Rattle.edit_patch.specs.Patch.{IsPatch, IsComposed, AllFit};
+ghost use Rattle.edit_patch.specs.Fits.{Fits, replacement, HaveCommon, MeetsOld, MeetsNew};
 
 /// What a patch says of positions is the one correspondence in order that its edits leave.
 pub fn correspondence_in_order()
@@ -47,6 +47,12 @@ pub fn fitting<T>()
     ensures small { (a : List Edit) (old new : List T) → Fits a old new → length old < 2 ^ 32 → length new < 2 ^ 32 → AllFit a }
 {}
 
+/// One replacement is a patch, and fits the list before it and the list after it.
+pub fn replacing<T>()
+    ensures normal { (start end count : ℕ) → start ≤ end → IsPatch (replacement start end count) }
+    ensures fits { (before removed added after : List T) → Fits (replacement (length before) (length before + length removed) (length added)) (before ++ removed ++ after) (before ++ added ++ after) }
+{}
+
 /// Ranges that are not backwards have a place in common where neither is behind the other. What an edit meets in the
 /// old text its inverse meets in the new one.
 pub fn meeting()
@@ -54,7 +60,7 @@ pub fn meeting()
     ensures inverse { (a : List Edit) (first last : ℕ) → MeetsNew (inverted a) first last ↔ MeetsOld a first last }
 {}
 
-/// An insertion of one position, of which the next patch deletes the end with what follows it.
+/// Of the new positions of a replacement the next patch deletes all but the first, and the position behind them.
 pub fn delete_across_an_edge()
     ensures composed { IsComposed (edit_of 2 4 2 5 ∷ []) (edit_of 3 6 3 3 ∷ []) (edit_of 2 5 2 3 ∷ []) }
     ensures new { origin_of (edit_of 2 5 2 3 ∷ []) 2 ≡ None }

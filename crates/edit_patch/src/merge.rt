@@ -3,10 +3,10 @@
 //! The edits of both are taken by where they begin in the middle text, which is the new one of the first patch and the
 //! old one of the second. Those whose closed middle ranges touch make one edit of the result, or none where it is empty
 //! on both sides, as where an insertion is deleted again. Between two of these both patches keep a middle position, so
-//! no edit of the result has to be joined or dropped later: one pass is enough.
+//! no edit of the result has to be joined or dropped later, and one pass is enough.
 ghost use Rattle.std.specs.Prelude.{◌≡◌, ℕ, ◌^◌, ◌<◌, ◌++◌, [], List, IfOk};
 ghost use Rattle.edit_patch.specs.declared.edit.Edit.{Edit};
-ghost use Rattle.edit_patch.specs.Normal.{IsPatch, IsComposed, AllFit};
+ghost use Rattle.edit_patch.specs.Patch.{IsPatch, IsComposed, AllFit};
 
 use crate::edit::Edit;
 use cell_units::NoMemory;
@@ -73,7 +73,7 @@ impl Front {
         }
     }
 
-    /// The front at which another edit begins, at a middle place.
+    /// The front where another edit is open, which begins at the middle place.
     fn opened_at(&self, middle: u64) -> Front
         requires bounded { IsBounded self.now }
         requires reached { reach_of self.now ≤ middle }
@@ -181,7 +181,7 @@ impl Merge {
     }
 }
 
-/// The edits of the patch that composes two. Linear in their lengths together.
+/// The edits of the patch that composes two. Each step takes one edit of either.
 pub fn merged(alloc: Global, first: &[Edit], second: &[Edit]) -> Result<Vec<Edit>, NoMemory>
     requires first { IsPatch first.now }
     requires second { IsPatch second.now }

@@ -2,7 +2,7 @@
 ghost use Rattle.std.specs.Prelude.{◌≡◌, ℕ, ◌^◌, ◌<◌, ◌↔◌, [], List, IsTrue, IsOk, IfOk, IfErr, IfSome};
 ghost use Rattle.edit_patch.specs.declared.edit.Edit.{Edit};
 ghost use Rattle.edit_patch.specs.Came.{origin_of, carry_of, inverted};
-ghost use Rattle.edit_patch.specs.Normal.{IsPatch, IsComposed, AllFit};
+ghost use Rattle.edit_patch.specs.Patch.{IsPatch, IsComposed, AllFit};
 
 use crate::edit::Edit;
 use crate::merge::merged;
@@ -11,7 +11,7 @@ use std::alloc::Global;
 use std::marker::Model;
 
 /// A list of edits in order, none empty on both sides, with at least one kept position between neighbours, and as many
-/// kept positions before and between edits on the old side as on the new.
+/// kept positions before and between edits on the old side as on the new. Contracts see it as that list.
 #[derive(Drop)]
 pub struct Patch {
     edits: Vec<Edit>,
@@ -20,7 +20,7 @@ pub struct Patch {
 impl Model for Patch {
     ghost use Rattle.std.specs.Prelude.{List};
     ghost use Rattle.edit_patch.specs.declared.edit.Edit.{Edit};
-    ghost use Rattle.edit_patch.specs.Normal.{IsPatch};
+    ghost use Rattle.edit_patch.specs.Patch.{IsPatch};
 
     ghost Value = { List Edit };
 
@@ -60,8 +60,8 @@ impl Patch {
         self.edits.as_slice()
     }
 
-    /// The patch of both in turn: by it a position came from where `later` and then this patch say, and it is new
-    /// where either says so.
+    /// The patch of this one and then `later`: a position came from where `later` and then this one say, and is new
+    /// where either says so. All positions of the result must be u32. It takes one pass over both.
     pub fn compose(&self, alloc: Global, later: &Patch) -> Result<Patch, NoMemory>
         requires { (c : List Edit) → IsComposed self.now later.now c → AllFit c }
         ensures { IfOk result (IsComposed self.now later.now) }
@@ -70,7 +70,7 @@ impl Patch {
         Ok(Patch { edits })
     }
 
-    /// The patch back, from the new side to the old.
+    /// The patch that leads back, from the new positions to the old ones.
     pub fn invert(&self, alloc: Global) -> Result<Patch, NoMemory>
         ensures { IfOk result (λ p. p ≡ inverted self.now) }
     {
@@ -81,7 +81,7 @@ impl Patch {
         Ok(Patch { edits })
     }
 
-    /// The old position that the new one came from. `None` exactly where it is new.
+    /// The old position that the new one came from, which must be a u32. `None` exactly where it is new.
     pub fn origin(&self, new: u32) -> Option<u32>
         requires { IfSome (origin_of self.now new) (λ j. j < 2 ^ 32) }
         ensures { result ≡ origin_of self.now new }
@@ -95,7 +95,7 @@ impl Patch {
         }
     }
 
-    /// The new position that the old one went to. `None` exactly where it was replaced.
+    /// The new position that the old one went to, which must be a u32. `None` exactly where it was replaced.
     pub fn carry(&self, old: u32) -> Option<u32>
         requires { IfSome (carry_of self.now old) (λ i. i < 2 ^ 32) }
         ensures { result ≡ carry_of self.now old }

@@ -2,7 +2,7 @@
 ghost use Rattle.std.specs.Prelude.{◌≡◌, [], ◌∷◌, IfOk};
 ghost use Rattle.edit_patch.specs.declared.edit.Edit.{Edit};
 ghost use Rattle.edit_patch.specs.Came.{edit_of};
-ghost use Rattle.edit_patch.specs.Normal.{IsPatch};
+ghost use Rattle.edit_patch.specs.Patch.{IsPatch};
 
 use crate::edit::Edit;
 use crate::patch::Patch;
@@ -10,15 +10,14 @@ use cell_units::Refusal;
 use std::alloc::Global;
 use std::test::Fail;
 
-/// The edit that puts the new positions `c` up to `d` in the place of the old ones `a` up to `b`.
-fn edit(a: u32, b: u32, c: u32, d: u32) -> Edit
-    ensures { result ≡ edit_of a b c d }
+fn edit(old_start: u32, old_end: u32, new_start: u32, new_end: u32) -> Edit
+    ensures { result ≡ edit_of old_start old_end new_start new_end }
 {
     Edit {
-        old_start: a,
-        old_end: b,
-        new_start: c,
-        new_end: d,
+        old_start,
+        old_end,
+        new_start,
+        new_end,
     }
 }
 

@@ -1,8 +1,7 @@
-use Rattle.std.proofs.Common.{◌≡◌, ℕ, List, [], drop, ap, subst, sym, ◌∙◌, refl, arith}
+use Rattle.std.proofs.Common.{List, [], subst, sym, arith}
 use Rattle.std.proofs.lemmas.List.{drop_all}
 use Rattle.edit_patch.specs.declared.edit.Edit.{Edit}
-use Rattle.edit_patch.specs.Normal.{IsComposed}
-use Rattle.edit_patch.proofs.Advance.{IsFirstLater}
+use Rattle.edit_patch.specs.Patch.{IsComposed}
 use Rattle.edit_patch.proofs.Merging.{Merging, merging-end, closable-end, can_take_first, takes_first, can_take_second, takes_second, first-later_past, first-later_end, second-later_at}
 use Rattle.edit_patch.proofs.merge.merged.Goals as goal
 use Rattle.edit_patch.proofs.merge.merged.Goals.{then-loop-taken-test+else-first-taken, else-loop-taken-test}

@@ -1,5 +1,5 @@
 use Rattle.std.proofs.Common.{◌↔◌, drop}
-use Rattle.edit_patch.specs.Normal.{IsPatch, IsPatchFrom}
+use Rattle.edit_patch.specs.Patch.{IsPatch, IsPatchFrom}
 use Rattle.edit_patch.proofs.patch.is_patch.Given as goal
 
 abbrev pub invariant-loop-edit : goal.invariant-loop-edit

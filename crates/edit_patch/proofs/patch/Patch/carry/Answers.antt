@@ -1,4 +1,4 @@
-use Rattle.std.proofs.Common.{◌≡◌, ℕ, ◌^◌, ◌<◌, ◌+◌, ◌-◌, ap, subst, sym, ◌∙◌, arith, rules}
+use Rattle.std.proofs.Common.{◌^◌, ◌<◌, ◌+◌, ◌-◌, ap, subst, sym, ◌∙◌, arith, rules}
 use Rattle.std.specs.Prelude.{IfSome}
 use Rattle.edit_patch.specs.Came.{carry_of}
 use Rattle.edit_patch.proofs.Search.{rising_old, split, old_start, carry-first, carry-inside, carry-outside}

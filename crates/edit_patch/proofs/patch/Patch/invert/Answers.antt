@@ -1,7 +1,7 @@
 use Rattle.std.proofs.Common.{◌≡◌, ◌∙◌, List, ap, subst, sym, take_all}
 use Rattle.edit_patch.specs.declared.edit.Edit.{Edit}
 use Rattle.edit_patch.specs.Came.{inverted}
-use Rattle.edit_patch.specs.Normal.{IsPatch}
+use Rattle.edit_patch.specs.Patch.{IsPatch}
 use Rattle.edit_patch.proofs.Inverse.{inverted-patch}
 use Rattle.edit_patch.proofs.patch.Patch.invert.Goals as goal
 

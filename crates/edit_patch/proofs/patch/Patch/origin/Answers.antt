@@ -1,4 +1,4 @@
-use Rattle.std.proofs.Common.{◌≡◌, ℕ, ◌^◌, ◌<◌, ◌+◌, ◌-◌, ap, subst, sym, ◌∙◌, arith, rules}
+use Rattle.std.proofs.Common.{◌^◌, ◌<◌, ◌+◌, ◌-◌, ap, subst, sym, ◌∙◌, arith, rules}
 use Rattle.std.specs.Prelude.{IfSome}
 use Rattle.edit_patch.specs.Came.{origin_of}
 use Rattle.edit_patch.proofs.Search.{rising, split, new_start, origin-first, origin-inside, origin-outside}
