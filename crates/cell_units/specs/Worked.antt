@@ -19,10 +19,13 @@ fold start end id = record { start = start; end = end; id = id }
 abbrev pub block : ℕ → ℕ → Side → List (List ℕ) → Block
 block offset id side lines = record { offset = offset; id = id; side = side; lines = lines }
 
+abbrev pub mark : ℕ → ℕ → Mark
+mark stamp width = record { stamp = stamp; width = width }
+
 -- a mark for each display line, at the width
 abbrev pub settled_marks : List ℕ → List records.Inlay → List Fold → ℕ → List Mark
 settled_marks text inlays folds width =
-    map (λ n. record { stamp = n; width = width }) (range_with_len 0 (length (display_lines text inlays folds)))
+    map (λ n. mark n width) (range_with_len 0 (length (display_lines text inlays folds)))
 
 -- the record of these lists, each sorted, at tab size 4, each line of which stands wrapped at the width
 abbrev pub settled : List ℕ → List records.Inlay → List Fold → List Block → ℕ → Record

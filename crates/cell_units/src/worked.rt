@@ -5,19 +5,23 @@ ghost use Rattle.cell_units.specs.declared.place.Bias.TheVariants.{Left, Right};
 ghost use Rattle.cell_units.specs.declared.place.Side.TheVariants.{Above};
 ghost use Rattle.cell_units.specs.Text.{clean, is_boundary, row_end, row_of, row_start};
 ghost use Rattle.cell_units.specs.Anchor.{move};
-ghost use Rattle.cell_units.specs.Record.{line_count};
+ghost use Rattle.cell_units.specs.Record.{line_count, opened, plain_marks};
 ghost use Rattle.cell_units.specs.Operation.{Replace, moved_blocks, moved_folds, moved_inlays, operated};
 ghost use Rattle.cell_units.specs.Inlaid.{bytes_of, inlaid, inlaid_place, placeholder};
 ghost use Rattle.cell_units.specs.Folded.{display_lines, folded_place, line_of, place_in_line, span_end, span_start};
 ghost use Rattle.cell_units.specs.Pieces.{folded_lines};
 ghost use Rattle.cell_units.specs.Touched.{touched_after, touched_before, touched_lines};
-ghost use Rattle.cell_units.specs.Worked.{block, buffer_piece, fold, folded_record, inlay, inlay_piece, line_texts, placeholder_piece};
+ghost use Rattle.cell_units.specs.Worked.{block, buffer_piece, fold, folded_record, inlay, inlay_piece, line_texts, mark, placeholder_piece};
 
 /// Texts whose clean form, rows, row ends and boundaries are known. It does nothing.
 pub fn worked_texts()
     ensures crlf { clean (codes "abc" ++ 13 ∷ 10 ∷ []) ≡ codes "abc" ++ 10 ∷ [] }
     ensures lone_returns { clean (97 ∷ 13 ∷ 13 ∷ 10 ∷ 98 ∷ 13 ∷ []) ≡ 97 ∷ 10 ∷ 10 ∷ 98 ∷ 10 ∷ [] }
     ensures line_counts { (line_count [] ≡ 1) × (line_count (codes "abc" ++ 10 ∷ []) ≡ 2) }
+    ensures opened_text { let r = opened (codes "ab" ++ 10 ∷ []) in
+        (r.marks ≡ mark 0 0 ∷ mark 1 0 ∷ []) × (r.next_stamp ≡ 2) × (r.tab ≡ 4) × (r.width ≡ 80)
+        × (r.inlays ≡ []) × (r.folds ≡ []) × (r.blocks ≡ []) }
+    ensures fresh_marks { plain_marks 5 2 ≡ mark 5 0 ∷ mark 6 0 ∷ [] }
     ensures rows { let text = codes "abc" ++ 10 ∷ 100 ∷ [] in map (row_of text) (range_with_len 0 6) ≡ 0 ∷ 0 ∷ 0 ∷ 0 ∷ 1 ∷ 1 ∷ [] }
     ensures row_starts { let text = codes "abc" ++ 10 ∷ 100 ∷ [] in map (row_start text) (range_with_len 0 6) ≡ 0 ∷ 0 ∷ 0 ∷ 0 ∷ 4 ∷ 4 ∷ [] }
     ensures row_ends { let text = codes "abc" ++ 10 ∷ 100 ∷ [] in map (row_end text) (range_with_len 0 6) ≡ 3 ∷ 3 ∷ 3 ∷ 3 ∷ 5 ∷ 5 ∷ [] }
@@ -44,6 +48,10 @@ pub fn worked_operations()
         line_texts (operated (Replace 0 0 (13 ∷ 10 ∷ [])) r) ≡ [] ∷ codes "a<b" ∷ [] }
     ensures fold_dropped { let r = folded_record (codes "abcdefgh") [] (fold 1 4 1 ∷ fold 4 6 3 ∷ []) in
         line_texts (operated (Replace 1 4 []) r) ≡ (codes "a" ++ placeholder ++ codes "gh") ∷ [] }
+    ensures touched_rows { let r = folded_record (97 ∷ 10 ∷ 98 ∷ 10 ∷ 99 ∷ 10 ∷ 100 ∷ []) [] [] in
+        let op = Replace 2 5 (120 ∷ 13 ∷ 10 ∷ 121 ∷ 13 ∷ 10 ∷ 122 ∷ []) in
+        (touched_lines (touched_before op r) r ≡ false ∷ true ∷ true ∷ false ∷ [])
+        × (touched_lines (touched_after op (operated op r)) (operated op r) ≡ false ∷ true ∷ true ∷ true ∷ false ∷ []) }
     ensures touched_by_inlay_break { let r = folded_record (codes "ab" ++ 10 ∷ codes "cd") (inlay 1 Right 1 (120 ∷ 10 ∷ 121 ∷ []) ∷ []) [] in
         let op = Replace 2 2 (codes "z") in
         (touched_lines (touched_before op r) r ≡ true ∷ true ∷ false ∷ [])
@@ -72,6 +80,11 @@ pub fn worked_lines()
     ensures fold_in_fold { line_texts (folded_record (codes "abcdef") [] (fold 1 5 1 ∷ fold 2 3 2 ∷ [])) ≡ (codes "a" ++ placeholder ++ codes "f") ∷ [] }
     ensures inlays_at_fold_edges { let inlays = inlay 1 Right 1 (codes "<") ∷ inlay 2 Left 2 (120 ∷ 10 ∷ 121 ∷ []) ∷ inlay 4 Left 3 (codes ">") ∷ [] in
         line_texts (folded_record (codes "abcdef") inlays (fold 1 4 1 ∷ [])) ≡ (codes "a<" ++ placeholder ++ codes ">ef") ∷ [] }
+    ensures hidden_inlay_place { let inlays = inlay 1 Right 1 (codes "<") ∷ inlay 2 Left 2 (codes "x") ∷ [] in
+        let folds = fold 1 4 1 ∷ [] in
+        (folded_place (codes "abcdef") inlays folds 2 Left ≡ 2) × (folded_place (codes "abcdef") inlays folds 2 Right ≡ 5) }
+    ensures neighbour_inlays { folded_lines (codes "ab") (inlay 1 Left 1 (codes "x") ∷ inlay 1 Left 2 (codes "y") ∷ []) []
+        ≡ (buffer_piece (codes "a") 0 1 ∷ inlay_piece (codes "x") 1 ∷ inlay_piece (codes "y") 1 ∷ buffer_piece (codes "b") 1 2 ∷ []) ∷ [] }
     ensures joined_folds { line_texts (folded_record (codes "abcdefgh") [] (fold 1 4 1 ∷ fold 3 6 2 ∷ [])) ≡ (codes "a" ++ placeholder ++ codes "gh") ∷ [] }
     ensures touching_folds { line_texts (folded_record (codes "abcdefgh") [] (fold 1 4 1 ∷ fold 4 6 3 ∷ [])) ≡ (codes "a" ++ placeholder ++ placeholder ++ codes "gh") ∷ [] }
     ensures inlay_with_break { folded_lines (codes "ab") (inlay 1 Right 1 (120 ∷ 10 ∷ 121 ∷ []) ∷ []) []

@@ -46,6 +46,8 @@ pub fn worked_rows()
     ensures inlay_only_break { rows_of (folded_record (codes "ab") (inlay 1 Right 1 (10 ∷ []) ∷ []) []) ≡ head (codes "a") ∷ head (codes "b") ∷ [] }
     ensures block_at_placeholder { rows_of (settled (97 ∷ 10 ∷ 98 ∷ 10 ∷ 99 ∷ []) [] (fold 1 4 1 ∷ []) (block 2 1 Above (codes "-- b" ∷ []) ∷ []) 80) ≡ block_row (codes "-- b") ∷ head (codes "a" ++ placeholder ++ codes "c") ∷ [] }
     ensures blocks_around_inlay_break { rows_of (settled (codes "ab") (inlay 2 Right 1 (120 ∷ 10 ∷ 121 ∷ []) ∷ []) [] (block 0 1 Above (codes "up" ∷ []) ∷ block 0 2 Below (codes "down" ∷ []) ∷ []) 80) ≡ block_row (codes "up") ∷ head (codes "abx") ∷ head (codes "y") ∷ block_row (codes "down") ∷ [] }
+    ensures block_above_inlay_break { rows_of (settled (codes "ab") (inlay 0 Right 1 (120 ∷ 10 ∷ 121 ∷ []) ∷ []) [] (block 0 1 Above (codes "up" ∷ []) ∷ []) 80) ≡ block_row (codes "up") ∷ head (codes "x") ∷ head (codes "yab") ∷ [] }
+    ensures tab_of_eight { rows_of (record (folded_record (9 ∷ codes "ab") [] []) { tab = 8 }) ≡ head (codes "        ab") ∷ [] }
     ensures ordinary_source { rows_of (ordinary_source []) ≡ head (codes "fn main() {") ∷ head (codes "    let total: u32 = ") ∷ more (codes "    items.iter().sum();") ∷ block_row (codes "-- prints it") ∷ head (codes "    println!(" ++ 34 ∷ codes "{total}" ++ 34 ∷ codes ");") ∷ head (codes "}") ∷ head [] ∷ [] }
     ensures ordinary_source_folded { rows_of (ordinary_source (fold 11 67 1 ∷ [])) ≡ block_row (codes "-- prints it") ∷ head (codes "fn main() {" ++ placeholder ++ codes "}") ∷ head [] ∷ [] }
     ensures point_edit { rows_of (operated (Replace 1 3 (codes "e")) (folded_record (104 ∷ 0xC3 ∷ 0xA9 ∷ codes "llo" ++ 10 ∷ codes "x") [] [])) ≡ head (codes "hello") ∷ head (codes "x") ∷ [] }

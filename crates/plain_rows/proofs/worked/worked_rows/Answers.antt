@@ -121,3 +121,11 @@ returns-clause-ten_lines c = refl
 pub returns-clause-changed_back : goal.returns-clause-changed_back
 unfolding plain_rows
 returns-clause-changed_back c = refl
+
+pub returns-clause-block_above_inlay_break : goal.returns-clause-block_above_inlay_break
+unfolding plain_rows
+returns-clause-block_above_inlay_break c = refl
+
+pub returns-clause-tab_of_eight : goal.returns-clause-tab_of_eight
+unfolding plain_rows
+returns-clause-tab_of_eight c = refl
