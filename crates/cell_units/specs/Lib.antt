@@ -10,6 +10,7 @@ pub mod Inlaid
 pub mod Folded
 pub mod Pieces
 pub mod Touched
+pub mod BufferLines
 pub mod Joined
 pub mod Laws
 pub mod Worked
