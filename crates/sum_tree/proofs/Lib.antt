@@ -1,4 +1,6 @@
+pub mod Descents
 pub mod Melds
 pub mod Pieces
 pub mod Places
+pub mod Prefixes
 pub mod Raises
