@@ -10,6 +10,7 @@ use Rattle.sum_tree.specs.Trees.{IsTree}
 use Rattle.sum_tree.specs.declared.trees.Tree.{Tree}
 use Rattle.sum_tree.specs.declared.path.Aim.{Aim}
 use Rattle.sum_tree.specs.declared.path.Aim.TheVariants.{Item, Sum}
+use Rattle.sum_tree.specs.declared.path.Ahead.{Ahead}
 use Rattle.sum_tree.specs.declared.path.Place.{Place}
 use Rattle.sum_tree.specs.declared.path.Found.{Found}
 use Rattle.sum_tree.specs.declared.path.Path.{Path}
@@ -29,37 +30,41 @@ module _ {T S : Type 0} where
   height_seen None = 0
   height_seen (Some tree) = tree.now.height
 
-  module _ {D : Type 0} (empty : S) (joined : S → S → S) (summary : T → S) (measure : S → D) where
-    -- A lawful node below which lie the `count` items from item `first` on. `start` is the measure of those before.
-    pub record IsPlace (items : List T) (p : Place T D S) : Type 0 where
-      pub lawful : IsLawful empty joined summary p.height p.entries.now
-      pub below : drop p.first items ≡ items_in p.entries.now ++ drop (p.first + p.count) items
-      pub count_is : p.count ≡ length (items_in p.entries.now)
-      pub within : p.first + p.count ≤ length items
-      pub start_is : p.start ≡ measure_to empty joined summary measure items p.first
-
-    -- Places of heights that fall by one, from a root of this height, where `depth` of them stand before.
-    abbrev pub ArePlaces : List T → ℕ → ℕ → List (Place T D S) → Type 0
-    ArePlaces items height depth [] = Unit {0}
-    ArePlaces items height depth (p ∷ ps) = IsPlace items p × (p.height + depth ≡ height) × ArePlaces items height (depth + 1) ps
-
+  module _ (empty : S) (joined : S → S → S) (summary : T → S) where
+    -- there is no tree, or a lawful one
     abbrev pub IsTreeSeen : Option (Bor (Tree T S)) → Type 0
     IsTreeSeen None = Unit {0}
     IsTreeSeen (Some tree) = IsTree empty joined summary tree.now
 
+    -- A lawful node below which lie the `count` items from item `first` on.
+    pub record IsPlace (items : List T) (p : Place T S) : Type 0 where
+      pub lawful : IsLawful empty joined summary p.height p.entries.now
+      pub below : drop p.first items ≡ items_in p.entries.now ++ drop (p.first + p.count) items
+      pub count_is : p.count ≡ length (items_in p.entries.now)
+      pub within : p.first + p.count ≤ length items
+
+    -- Places of heights that fall by one, from a root of this height, where `depth` of them stand before.
+    abbrev pub ArePlaces : List T → ℕ → ℕ → List (Option (Place T S)) → Type 0
+    ArePlaces items height depth [] = Unit {0}
+    ArePlaces items height depth (None ∷ ps) = ⊥
+    ArePlaces items height depth (Some p ∷ ps) = IsPlace items p × (p.height + depth ≡ height) × ArePlaces items height (depth + 1) ps
+
     -- A path down a lawful tree, with room for all its heights.
-    pub record IsPath (fits : S → Type 0) (path : Path T D S) : Type 0 where
+    pub record IsPath (fits : S → Type 0) (path : Path T S) : Type 0 where
       pub tree : IsTreeSeen path.root
       pub sum_fits : fits (total empty joined summary (items_seen path.root))
       pub small : length (items_seen path.root) < 2 ^ 32
       pub places : ArePlaces (items_seen path.root) (height_seen path.root) 0 path.places.items
       pub room : path.places.capacity ≡ 16
 
-    -- A place within which the aim is met, and not before.
-    pub record IsAhead (cmp : D → D → Ordering) (items : List T) (aim : Aim D) (p : Place T D S) : Type 0 where
-      pub place : IsPlace items p
-      pub not_before : 0 < p.first → is_met cmp aim p.first p.start ≡ false
-      pub met : is_met cmp aim (p.first + p.count) (measure_to empty joined summary measure items (p.first + p.count)) ≡ true
+  module _ {D : Type 0} (empty : S) (joined : S → S → S) (summary : T → S) (measure : S → D) where
+    -- A place within which the aim is met, and not before, with the measure of the items before it.
+    pub record IsAhead (cmp : D → D → Ordering) (items : List T) (aim : Aim D) (a : Ahead T D S) : Type 0 where
+      pub place : IsPlace empty joined summary items a.place
+      pub some : 0 < a.place.count
+      pub start_is : a.start ≡ measure_to empty joined summary measure items a.place.first
+      pub not_before : 0 < a.place.first → is_met cmp aim a.place.first a.start ≡ false
+      pub met : is_met cmp aim (a.place.first + a.place.count) (measure_to empty joined summary measure items (a.place.first + a.place.count)) ≡ true
 
     -- The first item with which the aim is met, and the measures before and through it.
     pub record IsFound (cmp : D → D → Ordering) (items : List T) (aim : Aim D) (found : Found T D S) : Type 0 where

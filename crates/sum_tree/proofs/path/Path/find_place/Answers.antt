@@ -3,6 +3,7 @@ use Rattle.std.proofs.lemmas.List.{length-map, take_all}
 use Rattle.sum_core.specs.Sums.{total}
 use Rattle.sum_core.specs.Nodes.{child_value, items_in, items_under, IsLawful}
 use Rattle.sum_core.proofs.Children.{children-at}
+use Rattle.sum_core.proofs.Heights.{some-below}
 use Rattle.sum_core.proofs.Levels.{lawful_below, inner-high, items-seen}
 use Rattle.sum_tree.specs.Cursors.{measure_to}
 use Rattle.sum_tree.specs.Paths.{is_met, items_seen}
@@ -39,8 +40,8 @@ plus-end-requires g c =
     (subst (λ v. d.fits_with v (d.measure (total m.empty m.joined g.T.Item.summary (items_in (child_value k).2)))) (sym c.loop-child.invariant.start_is)
     (measure-more-fits m.empty m.joined m.fits g.T.Item.summary g.met.T.Sum.Summary.laws d.joined_with d.fits_with d.measure g.D.Ord.cmp g.met.D.Dimension.dimension_laws all (items_in (child_value k).2) _ c.loop-child.first c.requires.path.sum_fits ahead))
 
-pub overflow_sub-result : goal.overflow_sub-result
-overflow_sub-result g c =
+pub overflow_sub-place : goal.overflow_sub-place
+overflow_sub-place g c =
     let m = g.T.Sum.Summary in
     inner-high m.empty m.joined g.T.Item.summary c.args.top.now.height c.args.top.now.entries.now (map child_value c.args.children.now) c.requires.place.lawful c.requires.children
 
@@ -77,8 +78,9 @@ returns-then-is_met-clause-found g c =
           ∙ ap (λ f. items_in f ++ drop (c.loop-child.first + c.child-item.result.count) all) (sym c.entries.ensures.value);
         count_is = here.count_is ∙ ap (λ f. length (items_in f)) (sym c.entries.ensures.value);
         within = child-within all e c.args.children.now n c.args.top.now.count c.loop-child.first i c.child-item.result.count k c.requires.place.within c.requires.place.count_is c.requires.children c.loop-child-test.true c.child-item.is here.count_is c.loop-child.invariant.first_is;
-        start_is = c.loop-child.invariant.start_is;
       };
+      start_is = c.loop-child.invariant.start_is;
+      some = omega (arith, here.count_is, some-below m.empty m.joined g.T.Item.summary (c.args.top.now.height - 1) (child_value k).2 here.below here.wide);
       not_before = c.loop-child.invariant.not_before;
       met = ap (is_met g.D.Ord.cmp c.args.aim.now (c.loop-child.first + c.child-item.result.count)) (sym end) ∙ sym c.is_met.ensures ∙ c.if-is_met.true;
     }
