@@ -1,5 +1,5 @@
 -- An item of a part of a list, at its place in the whole.
-use Rattle.std.proofs.Common.{◌≡◌, ℕ, zero, suc, ◌+◌, ◌-◌, ◌≤◌, List, [], ◌∷◌, ◌++◌, length, ap, ◌∙◌, arith, zero-add, Some}
+use Rattle.std.proofs.Common.{◌≡◌, ℕ, zero, suc, ◌+◌, ◌-◌, ◌≤◌, List, [], ◌∷◌, ◌++◌, length, drop, ap, ◌∙◌, arith, zero-add, Some}
 use Rattle.std.specs.List.{slice_get}
 
 slice_get_after : {X : Type 0} (xs ys : List X) (n : ℕ) → slice_get (xs ++ ys) (length xs + n) ≡ slice_get ys n
@@ -18,3 +18,10 @@ slice_get_within_part all before part after at offset x e oe low is =
     let n : at ≡ length before + (at - offset) = omega arith in
     ap (λ l. slice_get l at) e ∙ ap (slice_get (before ++ (part ++ after))) n
     ∙ slice_get_after before (part ++ after) (at - offset) ∙ slice_get_before part after (at - offset) x is
+
+-- the item at the head of what follows a place
+pub slice_get-ahead : {X : Type 0} (all : List X) (n : ℕ) (x : X) (rest : List X) → drop n all ≡ x ∷ rest → slice_get all n ≡ Some x
+slice_get-ahead [] zero x rest e = cc
+slice_get-ahead [] (suc n) x rest e = cc
+slice_get-ahead (y ∷ all) zero x rest e = cc
+slice_get-ahead (y ∷ all) (suc n) x rest e = slice_get-ahead all n x rest e

@@ -1,2 +1,4 @@
+pub mod Cursors
 pub mod Parts
+pub mod Paths
 pub mod Trees

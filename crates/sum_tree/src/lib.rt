@@ -5,6 +5,7 @@ mod find;
 mod joins;
 mod open;
 mod pack;
+mod path;
 mod splits;
 mod sum_tree;
 mod trees;
