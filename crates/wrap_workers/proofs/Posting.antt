@@ -121,8 +121,8 @@ module _ {N : Type 0} where
         settled r tasks (subst (λ (h : Option (Right N)). AreTasksAt h tasks) none o.5),
         o.6,
         each_snoc o.0 (Some r) o.2 o.3 (set posts pass w) (worker_post (Some r))
-        (each_set o.0 (Some r) o.2 o.3 posts pass w (λ j u apart e. absurd (alone posts pass j u v (o.8 none) at e apart)) (refl, (λ _. here)))
-        (λ j. (refl, (λ c. absurd (off c)))),
+            (each_set o.0 (Some r) o.2 o.3 posts pass w (λ j u apart e. absurd (alone posts pass j u v (o.8 none) at e apart)) (refl, (λ _. here)))
+            (λ j. (refl, (λ c. absurd (off c)))),
         (λ e. absurd (some_home r e)),
       )
 
@@ -138,8 +138,8 @@ module _ {N : Type 0} where
         o.5,
         o.6,
         each_snoc o.0 o.1 o.2 o.3 (set posts pass v) (worker_post v.home)
-        (each_set o.0 o.1 o.2 o.3 posts pass v (λ j u apart e. o.7 j u e) mine)
-        (λ j. (mine.0, (λ c. absurd (off c)))),
+            (each_set o.0 o.1 o.2 o.3 posts pass v (λ j u apart e. o.7 j u e) mine)
+            (λ j. (mine.0, (λ c. absurd (off c)))),
         (λ e. absurd (some_home r (sym is ∙ mine.0 ∙ e))),
       )
 
@@ -164,8 +164,8 @@ module _ {N : Type 0} where
           at-append o.1 tasks (x ∷ []) o.5 (subst (λ (h : Option (Right N)). IsTaskAt h x) mine.0 home, tt),
           errand_more v tasks x (subst (λ (b : Bool). b ≡ false → AreErrands tasks) (sym here.2) o.6),
           each_set o.0 o.1 w.next w.stopped posts pass w
-          (λ j u apart e. ((o.7 j u e).0, (λ c. absurd (apart (((o.7 j u e).1 c).0 ∙ sym here.0)))))
-          (after_home v x ∙ mine.0, (λ _. (here.0, refl, refl))),
+              (λ j u apart e. ((o.7 j u e).0, (λ c. absurd (apart (((o.7 j u e).1 c).0 ∙ sym here.0)))))
+              (after_home v x ∙ mine.0, (λ _. (here.0, refl, refl))),
           (λ e. absurd (some_home r (sym is ∙ mine.0 ∙ e))),
         ),
         refl,
