@@ -46,7 +46,7 @@ module _ {N : Type 0} where
       one zero v e = subst (FitsHand 0 [] 0) (some-injective _ _ e) ((λ _. (refl, refl)), tt)
       one (suc pass) v e = absurd (some-ne-none v (sym e))
 
-  one_more : (n : ℕ) (out : Jobs N) (j : JobParts N) → times n out ≤ 1 → times j.number out ≡ 0 → times n (out ++ j ∷ []) ≤ 1
+  pub one_more : (n : ℕ) (out : Jobs N) (j : JobParts N) → times n out ≤ 1 → times j.number out ≡ 0 → times n (out ++ j ∷ []) ≤ 1
   one_more n out j le new = by (n == j.number) refl
     where
       by : (b : Bool) → (n == j.number) ≡ b → times n (out ++ j ∷ []) ≤ 1

@@ -197,3 +197,8 @@ module _ {N : Type 0} where
 
   pub were_posted : (pass : ℕ) (v : Post N) → Learns Posted pass v (λ tasks. WerePosted tasks)
   were_posted pass v tasks posts o at = (posts, o)
+
+  pub settles_named : (pass : ℕ) (v : Post N) (r : Right N) (named : Option (Right N)) → named ≡ Some r → v.crew ≡ true → v.home ≡ None →
+      Forks Posted pass v (crew_post named v.next v.stopped) (worker_post named)
+  settles_named pass v r named is crew none =
+      subst (λ (o : Option (Right N)). Forks Posted pass v (crew_post o v.next v.stopped) (worker_post o)) (sym is) (settles pass v r crew none)

@@ -10,13 +10,16 @@ ghost use Rattle.wrap_workers.specs.Errands.{IsRightTo, Right};
 ghost use Rattle.wrap_workers.specs.Posted.{IsErrand, IsHome, IsNext, IsTaskAt, WerePosted, after_put, crew_post, serial_of};
 ghost use Rattle.wrap_workers.specs.Crewed.{IsLast};
 
+use crate::gate::Gate;
 use crate::job::{Finished, Job};
 use crate::names::Names;
 use crate::results::{
     Counts, Hires, Lends, Results, Retires, Returns, Right, Rights, Sends, Takes,
 };
 use crate::tasks::{Errand, Gets, Place, Puts, Task, Tasks, Waiting};
+use crate::wrap::do_job;
 use cell_line::Lines;
+use std::alloc::Global;
 use std::marker::Brand;
 use std::sync::Wait;
 
@@ -93,6 +96,29 @@ pub(crate) fn retire<N: Lines>(rights: &Rights<N>, hand: &mut Right<N>, job: &Jo
 {
     rights.learn_as::<Counts>(hand);
     rights.another::<Retires>(hand);
+}
+
+/// The crew itself does the job of its last right, and passes the gate: the job is out no more.
+pub(crate) fn do_here<N: Lines, G: Gate>(
+    alloc: Global,
+    gate: &G,
+    rights: &Rights<N>,
+    hand: &mut Right<N>,
+    job: Job<N>,
+) -> Finished<N>
+    requires channel { IsSeatAt (sends_on rights.now) hand.old }
+    requires crew { (view hand.old).crew ≡ true }
+    requires last { IsLast (view hand.old).rights job }
+    ensures channel { IsSeatAt (sends_on rights.now) hand.new }
+    ensures hand { view hand.new ≡ crew_hand (view hand.old).serial (without job.number (view hand.old).out) (front (view hand.old).rights) }
+    ensures out { Contains (view hand.old).out job }
+    ensures job { job_of result ≡ job }
+{
+    let number = job.number();
+    retire(rights, hand, &job);
+    let finished = do_job(alloc, job);
+    gate.pass(number);
+    finished
 }
 
 /// Takes a result, if there is one at a moment of the call.
