@@ -105,10 +105,13 @@ module _ {N : Type 0} where
   serial_is v serial out rights is = ap (λ (u : Hand N). u.serial) is
 
   -- what was taken off, in the words of a contract
-  pub taken_off : (out before now : List (JobParts N)) (job given : JobParts N) → Contains out job → now ≡ without job.number out →
-      out ≡ before → given ≡ job → IsTakenOff given before now
-  taken_off out before now job given at is same own =
-      subst (λ (y : List (JobParts N) × JobParts N). IsTakenOff y.1 y.0 now) (λ k. (same k, sym own k)) (at, is)
+  pub taken_off : (v : Hand N) (kept : List (JobParts N)) (count workers room : ℕ) (before now : List (JobParts N)) (job given : JobParts N) →
+      IsCrewHand v kept count workers room → Contains v.out job → now ≡ without job.number v.out →
+      v.out ≡ before → given ≡ job → IsTakenOff given before now
+  taken_off v kept count workers room before now job given i at is same own =
+      let one = weigh_without (λ _. 1) job.number v.out (out_once v.out job i.distinct at) in
+      let shorter : length now + 1 ≡ length v.out = omega (arith, ap length is, one, length_weighs v.out, length_weighs (without job.number v.out)) in
+      subst (λ (y : List (JobParts N) × JobParts N). IsTakenOff y.1 y.0 now) (λ k. (same k, sym own k)) (at, is, shorter)
 
   module _ {Q M L A : Type 0} (c : Rows (Badge (Key (Finished N))) (Doing (Finished N) (Hand N)) Q M (Key (Finished N)) L A) where
     -- a right of the known home is a pass of the queue, and the other way round

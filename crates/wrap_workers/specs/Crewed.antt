@@ -1,5 +1,5 @@
 -- What a contract sees of a crew.
-use Rattle.std.specs.Prelude.{◌≡◌, ℕ, ◌*◌, ◌≤◌, true, false, Contains, List, [], ◌∷◌, ◌++◌, length, Option, Some}
+use Rattle.std.specs.Prelude.{◌≡◌, ℕ, ◌+◌, ◌*◌, ◌≤◌, true, false, Contains, List, [], ◌∷◌, ◌++◌, length, Option, Some}
 use Rattle.crossbeam_channel.specs.Claims.{Pass, view, IsSeatAt}
 use Rattle.crossbeam_channel.specs.declared.flavors.array.Rows.{Rows}
 use Rattle.crossbeam_channel.specs.declared.flavors.array.Key.{Key}
@@ -21,7 +21,8 @@ pub record Crewed (N : Type 0) : Type 0 where
 
 -- the job was one of those that were out, and the others still are
 abbrev pub IsTakenOff : {N : Type 0} → JobParts N → List (JobParts N) → List (JobParts N) → Type 0
-IsTakenOff job before after = Contains before job × (after ≡ without job.number before)
+IsTakenOff job before after =
+    Contains before job × (after ≡ without job.number before) × (length after + 1 ≡ length before)
 
 -- the job is the last of these
 abbrev pub IsLast : {N : Type 0} → List (JobParts N) → JobParts N → Type 0

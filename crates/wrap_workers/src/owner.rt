@@ -52,13 +52,15 @@ impl<N: Lines> Crew<N> {
     ghost use Rattle.crossbeam_channel.specs.Fifo.{Held};
     ghost use Rattle.wrap_workers.specs.Jobs.{IsFree, JobParts};
     ghost use Rattle.wrap_workers.specs.Finishes.{job_of};
-    ghost use Rattle.wrap_workers.specs.Owed.{WereOwed};
+    ghost use Rattle.wrap_workers.specs.Owed.{AreDistinct, WereOwed};
     ghost use Rattle.wrap_workers.specs.Posted.{WerePosted};
     ghost use Rattle.wrap_workers.specs.Crewed.{IsTakenOff};
 
-    /// How many jobs are out.
+    /// How many jobs are out. They have distinct numbers, and there are two for each worker at most.
     pub fn out(&self) -> u32
-        ensures { result ≡ length self.now.out }
+        ensures value { result ≡ length self.now.out }
+        ensures distinct { AreDistinct self.now.out }
+        ensures most { length self.now.out ≤ 2 * self.now.workers }
     {
         self.count
     }

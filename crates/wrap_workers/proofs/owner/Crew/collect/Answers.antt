@@ -4,7 +4,7 @@ use Rattle.crossbeam_channel.specs.Claims.{view, IsSeatAt}
 use Rattle.crossbeam_channel.specs.Fifo.{Held}
 use Rattle.wrap_workers.specs.Finishes.{job_of}
 use Rattle.wrap_workers.specs.Owed.{WereOwed}
-use Rattle.wrap_workers.proofs.Crews.{hand_taken, post_same, serial_is}
+use Rattle.wrap_workers.proofs.Crews.{hand_taken, post_same, serial_is, taken_off}
 use Rattle.wrap_workers.proofs.owner.Crew.collect.Goals as goal
 
 pub invariant_of-self-in-Some : goal.invariant_of-self-in-Some
@@ -21,7 +21,7 @@ invariant_of-self-in-Some g c =
       i.4,
       post_same _ _ v.serial w.serial i.5 refl (omega (arith, serial_is w v.serial _ _ e.some.0)),
       hand_taken v w s.kept.items s.kept.items v.rights s.count s.workers (vec_capacity s.kept) (vec_capacity s.kept) (job_of c.in-Some.finished)
-      i.6 e.some.1 e.some.0 i.6.rights refl,
+          i.6 e.some.1 e.some.0 i.6.rights refl,
       i.7,
       i.8,
     )
@@ -29,3 +29,10 @@ invariant_of-self-in-Some g c =
 pub returns-in-None-clause-empty : goal.returns-in-None-clause-empty
 returns-in-None-clause-empty g c =
     subst (λ out. Held 0 (λ results. WereOwed out results)) (ap (λ crewed. crewed.out) c.self.view_is) c.in-None.ensures.none.1
+
+pub returns-in-Some-clause-some : goal.returns-in-Some-clause-some
+returns-in-Some-clause-some g c =
+    let s = c.self.inside in
+    let e = c.in-Some.ensures.some in
+    taken_off (view s.hand) s.kept.items s.count s.workers (vec_capacity s.kept) _ _ _ _ c.self.invariant.6
+    e.1 (ap (λ w. w.out) e.0) (ap (λ crewed. crewed.out) c.self.view_is) refl

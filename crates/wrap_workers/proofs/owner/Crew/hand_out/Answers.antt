@@ -31,7 +31,7 @@ invariant_of-self g c =
       (i.4.0, ap (λ p. p.home) same ∙ i.4.1, i.4.2),
       post_same _ _ v.serial w.serial i.5 same (omega (arith, serial_is u (v.serial + 1) _ _ c.hire-errand.ensures.hand, serial_is w u.serial _ _ c.take_back-job.ensures.hand)),
       hand_returned u w s.kept.items c.push_reserved.new.self.items (s.count + 1) s.workers room (vec_capacity c.push_reserved.new.self) c.in-Some.back.job
-      hired c.take_back-job.ensures.hand pushed c.push_reserved.ensures.capacity,
+          hired c.take_back-job.ensures.hand pushed c.push_reserved.ensures.capacity,
       i.7,
       i.8,
     )
