@@ -3,3 +3,4 @@ pub mod SameLines
 pub mod Weights
 pub mod Owing
 pub mod Posting
+pub mod Crews

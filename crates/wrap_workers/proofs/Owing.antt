@@ -1,17 +1,20 @@
 -- Each step keeps the rule of the results.
-use Rattle.std.proofs.Common.{◌≡◌, ◌≢◌, ℕ, zero, suc, ◌+◌, ◌≤◌, ◌==◌, Bool, true, false, true≢false, Contains, List, [], ◌∷◌, ◌++◌, length, set, eqb-true, sym, refl, ap, ◌∙◌, subst, ⊎_elim, arith}
+use Rattle.std.proofs.Common.{◌≡◌, ◌≢◌, ℕ, zero, suc, ◌+◌, ◌≤◌, ◌==◌, Bool, true, false, true≢false, Contains, List, [], ◌∷◌, ◌++◌, length, set, eqb-true, sym, refl, ap, ◌∙◌, subst, ⊎_elim, arith, Option, Some, option_to_list}
 use Rattle.std.specs.Prelude.{if◌then◌else◌}
 use Rattle.std.proofs.lemmas.List.Elements.{Contains-push}
 use mathlib.Core.Option.{some, some-ne-none, some-injective}
 use lib.ListN.{get_elem?}
+use Rattle.crossbeam_channel.specs.Claims.{view}
 use Rattle.crossbeam_channel.specs.Fifo.{Pushes, Pops, Forks, Merges, Learns}
 use Rattle.atomic_table.proofs.Lists.{at_set, at_snoc, set_else}
 use Rattle.wrap_workers.specs.declared.job.Finished.{Finished}
 use Rattle.wrap_workers.specs.declared.results.Hand.{Hand}
-use Rattle.wrap_workers.specs.Jobs.{JobParts, without}
+use Rattle.wrap_workers.specs.Jobs.{JobParts, front, last, without, without_each}
 use Rattle.wrap_workers.specs.Finishes.{job_of}
-use Rattle.wrap_workers.specs.Owed.{weigh, weigh_results, weigh_rights, one_at, times, ContainsEach, AreOfJobs, AreDistinct, WereOwed, crew_hand, right_of, spent, FitsHand, Owed}
-use Rattle.wrap_workers.proofs.Weights.{weigh-append, results-append, rights_set, rights_snoc, rights_le, one_at-same, weigh_without, each_without, results_without, each_more, results_more, each-append, results_of-append, each-front, each-back, length_weighs}
+use Rattle.wrap_workers.specs.Owed.{weigh, weigh_results, weigh_rights, one_at, times, ContainsEach, AreOfJobs, AreDistinct, WereOwed, crew_hand, right_of, right_to, spent, FitsHand, Owed}
+use Rattle.wrap_workers.specs.Errands.{IsRightTo, Right}
+use Rattle.wrap_workers.specs.Crewed.{IsLast}
+use Rattle.wrap_workers.proofs.Weights.{weigh-append, results-append, rights_set, rights_snoc, rights_le, one_at-same, weigh_without, each_without, results_without, each_more, results_more, each-append, results_of-append, each-front, each-back, front_snoc, last_snoc, length_weighs}
 
 off : false ≡ true → ⊥
 off e = true≢false (sym e)
@@ -43,7 +46,7 @@ module _ {N : Type 0} where
       one zero v e = subst (FitsHand 0 [] 0) (some-injective _ _ e) ((λ _. (refl, refl)), tt)
       one (suc pass) v e = absurd (some-ne-none v (sym e))
 
-  one_more : (n : ℕ) (out : Jobs N) (j : JobParts N) → times n out ≤ 1 → times j.number out ≡ 0 → times n (out ++ j ∷ []) ≤ 1
+  pub one_more : (n : ℕ) (out : Jobs N) (j : JobParts N) → times n out ≤ 1 → times j.number out ≡ 0 → times n (out ++ j ∷ []) ≤ 1
   one_more n out j le new = by (n == j.number) refl
     where
       by : (b : Bool) → (n == j.number) ≡ b → times n (out ++ j ∷ []) ≤ 1
@@ -75,8 +78,8 @@ module _ {N : Type 0} where
           results_more v.out j items (subst (λ (l : Jobs N). AreOfJobs l items) (sym here.1) o.2.2),
         ),
         each_snoc o.0 now (set hands pass w) (right_of v.serial j)
-        (each_set o.0 now hands pass w (λ i u apart e. ((λ c. absurd (apart (((o.3 i u e).0 c).0 ∙ sym here.0))), to u.rights (o.3 i u e).1)) ((λ _. (here.0, refl)), to v.rights mine.1))
-        (λ i. ((λ c. absurd (off c)), (Contains-push v.out j, tt))),
+            (each_set o.0 now hands pass w (λ i u apart e. ((λ c. absurd (apart (((o.3 i u e).0 c).0 ∙ sym here.0))), to u.rights (o.3 i u e).1)) ((λ _. (here.0, refl)), to v.rights mine.1))
+            (λ i. ((λ c. absurd (off c)), (Contains-push v.out j, tt))),
       )
 
   -- a result is sent
@@ -165,8 +168,8 @@ module _ {N : Type 0} where
           o.2.2,
         ),
         each_snoc o.0 o.1 (set hands pass w) (right_of v.serial j)
-        (each_set o.0 o.1 hands pass w (λ i u apart e. o.3 i u e) ((λ _. here), each-front o.1 rest (j ∷ []) own))
-        (λ i. ((λ c. absurd (off c)), each-back o.1 rest (j ∷ []) own)),
+            (each_set o.0 o.1 hands pass w (λ i u apart e. o.3 i u e) ((λ _. here), each-front o.1 rest (j ∷ []) own))
+            (λ i. ((λ c. absurd (off c)), each-back o.1 rest (j ∷ []) own)),
       )
 
   -- the crew's pass takes in a right
@@ -222,6 +225,43 @@ module _ {N : Type 0} where
           results_without n v.out items no_result (subst (λ (l : Jobs N). AreOfJobs l items) (sym here.1) o.2.2),
         ),
         each_snoc o.0 now vs spent
-        (each_set o.0 now hands pass w (λ i u apart e. ((λ c. absurd (apart (((o.3 i u e).0 c).0 ∙ sym here.0))), to i u apart e)) ((λ _. (here.0, refl)), mine_now))
-        (λ i. ((λ c. absurd (off c)), tt)),
+            (each_set o.0 now hands pass w (λ i u apart e. ((λ c. absurd (apart (((o.3 i u e).0 c).0 ∙ sym here.0))), to i u apart e)) ((λ _. (here.0, refl)), mine_now))
+            (λ i. ((λ c. absurd (off c)), tt)),
       )
+
+  -- ---- the same in the words of the passes' moves
+
+  pub hires_named : (pass : ℕ) (v : Hand N) (j : JobParts N) (named : Option (JobParts N)) → named ≡ Some j → v.crew ≡ true → times j.number v.out ≡ 0 →
+      Forks Owed pass v (crew_hand (v.serial + 1) (v.out ++ option_to_list named) v.rights) (right_to v.serial (option_to_list named))
+  hires_named pass v j named is crew new =
+      subst (λ (o : Option (JobParts N)). Forks Owed pass v (crew_hand (v.serial + 1) (v.out ++ option_to_list o) v.rights) (right_to v.serial (option_to_list o)))
+      (sym is) (hires pass v j crew new)
+
+  pub lends_last : (pass : ℕ) (v : Hand N) (j : JobParts N) → v.crew ≡ true → IsLast v.rights j →
+      Forks Owed pass v (crew_hand (v.serial + 1) v.out (front v.rights)) (right_to v.serial (last v.rights))
+  lends_last pass v j crew is =
+      let fronts : is.0 ≡ front v.rights = sym (ap front is.1 ∙ front_snoc is.0 j) in
+      let lasts : j ∷ [] ≡ last v.rights = sym (ap last is.1 ∙ last_snoc is.0 j) in
+      subst (λ (y : Jobs N × Jobs N). Forks Owed pass v (crew_hand (v.serial + 1) v.out y.0) (right_to v.serial y.1))
+      (λ i. (fronts i, lasts i)) (lends pass v j is.0 crew is.1)
+
+  pub retires_last : (pass : ℕ) (v : Hand N) (j : JobParts N) → v.crew ≡ true → IsLast v.rights j →
+      Forks Owed pass v (crew_hand v.serial (without_each (last v.rights) v.out) (front v.rights)) spent
+  retires_last pass v j crew is =
+      let fronts : is.0 ≡ front v.rights = sym (ap front is.1 ∙ front_snoc is.0 j) in
+      let lasts : j ∷ [] ≡ last v.rights = sym (ap last is.1 ∙ last_snoc is.0 j) in
+      subst (λ (y : Jobs N × Jobs N). Forks Owed pass v (crew_hand v.serial (without_each y.1 v.out) y.0) spent)
+      (λ i. (fronts i, lasts i)) (retires pass v j is.0 crew is.1)
+
+  pub last_is : (rights : Jobs N) (j : JobParts N) → IsLast rights j → last rights ≡ j ∷ []
+  last_is rights j is = ap last is.1 ∙ last_snoc is.0 j
+
+  pub last_out : (out rights : Jobs N) (j : JobParts N) → ContainsEach out rights → IsLast rights j → Contains out j
+  last_out out rights j all is = (each-back out is.0 (j ∷ []) (subst (ContainsEach out) is.1 all)).0
+
+  -- the pass has the right to the job's result
+  pub is_right_to : (right : Right N) (serial : ℕ) (j : JobParts N) → view right ≡ right_of serial j → IsRightTo right j
+  is_right_to right serial j is = is ∙ ap (λ (n : ℕ). right_of n j) (sym (ap (λ (v : Hand N). v.serial) is))
+
+  pub right_serial : (right : Right N) (serial : ℕ) (j : JobParts N) → view right ≡ right_of serial j → (view right).serial ≡ serial
+  right_serial right serial j is = ap (λ (v : Hand N). v.serial) is

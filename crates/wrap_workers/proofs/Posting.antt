@@ -121,8 +121,8 @@ module _ {N : Type 0} where
         settled r tasks (subst (λ (h : Option (Right N)). AreTasksAt h tasks) none o.5),
         o.6,
         each_snoc o.0 (Some r) o.2 o.3 (set posts pass w) (worker_post (Some r))
-        (each_set o.0 (Some r) o.2 o.3 posts pass w (λ j u apart e. absurd (alone posts pass j u v (o.8 none) at e apart)) (refl, (λ _. here)))
-        (λ j. (refl, (λ c. absurd (off c)))),
+            (each_set o.0 (Some r) o.2 o.3 posts pass w (λ j u apart e. absurd (alone posts pass j u v (o.8 none) at e apart)) (refl, (λ _. here)))
+            (λ j. (refl, (λ c. absurd (off c)))),
         (λ e. absurd (some_home r e)),
       )
 
@@ -138,8 +138,8 @@ module _ {N : Type 0} where
         o.5,
         o.6,
         each_snoc o.0 o.1 o.2 o.3 (set posts pass v) (worker_post v.home)
-        (each_set o.0 o.1 o.2 o.3 posts pass v (λ j u apart e. o.7 j u e) mine)
-        (λ j. (mine.0, (λ c. absurd (off c)))),
+            (each_set o.0 o.1 o.2 o.3 posts pass v (λ j u apart e. o.7 j u e) mine)
+            (λ j. (mine.0, (λ c. absurd (off c)))),
         (λ e. absurd (some_home r (sym is ∙ mine.0 ∙ e))),
       )
 
@@ -164,8 +164,8 @@ module _ {N : Type 0} where
           at-append o.1 tasks (x ∷ []) o.5 (subst (λ (h : Option (Right N)). IsTaskAt h x) mine.0 home, tt),
           errand_more v tasks x (subst (λ (b : Bool). b ≡ false → AreErrands tasks) (sym here.2) o.6),
           each_set o.0 o.1 w.next w.stopped posts pass w
-          (λ j u apart e. ((o.7 j u e).0, (λ c. absurd (apart (((o.7 j u e).1 c).0 ∙ sym here.0)))))
-          (after_home v x ∙ mine.0, (λ _. (here.0, refl, refl))),
+              (λ j u apart e. ((o.7 j u e).0, (λ c. absurd (apart (((o.7 j u e).1 c).0 ∙ sym here.0)))))
+              (after_home v x ∙ mine.0, (λ _. (here.0, refl, refl))),
           (λ e. absurd (some_home r (sym is ∙ mine.0 ∙ e))),
         ),
         refl,
@@ -197,3 +197,8 @@ module _ {N : Type 0} where
 
   pub were_posted : (pass : ℕ) (v : Post N) → Learns Posted pass v (λ tasks. WerePosted tasks)
   were_posted pass v tasks posts o at = (posts, o)
+
+  pub settles_named : (pass : ℕ) (v : Post N) (r : Right N) (named : Option (Right N)) → named ≡ Some r → v.crew ≡ true → v.home ≡ None →
+      Forks Posted pass v (crew_post named v.next v.stopped) (worker_post named)
+  settles_named pass v r named is crew none =
+      subst (λ (o : Option (Right N)). Forks Posted pass v (crew_post o v.next v.stopped) (worker_post o)) (sym is) (settles pass v r crew none)

@@ -3,3 +3,4 @@ pub mod Finishes
 pub mod Owed
 pub mod Errands
 pub mod Posted
+pub mod Crewed

@@ -5,13 +5,20 @@
 
 pub mod gate;
 pub mod job;
+mod make;
 pub mod names;
+pub mod owner;
 pub mod results;
+mod steps;
 pub mod tasks;
+pub mod worker;
 pub mod wrap;
 
 pub use gate::{FreeGate, Gate};
 pub use job::{Done, Finished, Job};
+pub use make::crew;
+pub use owner::Crew;
+pub use worker::Worker;
 pub use wrap::do_job;
 
 #[cfg(test)]

@@ -1,13 +1,17 @@
-//! Jobs whose wraps are known.
+//! Jobs whose wraps are known, done here and beside the owner.
 ghost use Rattle.std.specs.Prelude.{◌≡◌, ◌≤◌};
-ghost use Rattle.cell_line.specs.Wrapping.{IsWidth};
 
+use crate::gate::FreeGate;
 use crate::job::{Finished, Job};
+use crate::make::crew;
 use crate::wrap::do_job;
 use alike::Alike;
+use beside::{by_collecting, by_waiting, each_once, hand_out, with_workers};
 use cell_line::{Run, line_laws};
+use cell_units::NoMemory;
 
 mod alike;
+mod beside;
 
 /// A job of this number on ten lines `aaa bbb` at width 5.
 fn ten_lines(number: u64) -> Job<Alike>
@@ -25,16 +29,68 @@ fn ten_lines(number: u64) -> Job<Alike>
     Job::new(number, lines, run, 5)
 }
 
+/// The number of the job, where it was done and each of its ten lines is cut at 4 alone.
+fn number_done(finished: &Finished<Alike>) -> Option<u64> {
+    match finished {
+        Finished::Done(done) => {
+            let wraps = done.wraps();
+            let cut = wraps.len() == 10
+                && wraps.iter().all(|cuts| cuts.as_slice() == [4].as_slice());
+            if cut { Some(done.job().number()) } else { None }
+        }
+        Finished::Short(_) => None,
+    }
+}
+
 #[test]
 fn job_wraps(rt: HostRuntime) {
-    match do_job(rt.alloc(), ten_lines(1)) {
-        Finished::Done(done) => {
-            assert_eq!(rt; done.job().number(), 1);
-            assert_eq!(rt; done.wraps().len(), 10);
-            for cuts in done.wraps() {
-                assert_eq!(rt; cuts.as_slice(), [4].as_slice());
+    assert_eq!(rt; number_done(&do_job(rt.alloc(), ten_lines(1))), Some(1));
+}
+
+#[test]
+fn crew_full(rt: HostRuntime) {
+    match crew(rt.alloc(), 1) {
+        Ok((mut crew, _team)) => {
+            assert!(rt; crew.collect(&rt).is_none());
+            assert!(rt; crew.help(&rt, rt.alloc(), &FreeGate).is_none());
+            assert_eq!(rt; hand_out(&rt, &mut crew, 1), None);
+            assert_eq!(rt; hand_out(&rt, &mut crew, 2), None);
+            assert_eq!(rt; crew.out(), 2);
+            assert_eq!(rt; hand_out(&rt, &mut crew, 3), Some(3));
+            match crew.help(&rt, rt.alloc(), &FreeGate) {
+                Some(finished) => assert_eq!(rt; number_done(&finished), Some(1)),
+                None => panic!(rt; "job 1 waits"),
             }
+            assert_eq!(rt; crew.out(), 1);
         }
-        Finished::Short(_) => panic!(rt; "out of memory"),
+        Err(NoMemory) => panic!(rt; "out of memory"),
+    }
+}
+
+#[test]
+fn worker_beside(rt: HostRuntime) {
+    for collect in [false, true] {
+        match crew(rt.alloc(), 1) {
+            Ok((crew, team)) => {
+                let number = if collect {
+                    by_collecting(&rt, rt.alloc(), crew, team)
+                } else {
+                    by_waiting(&rt, rt.alloc(), crew, team)
+                };
+                assert_eq!(rt; number, Ok(Some(1)));
+            }
+            Err(NoMemory) => panic!(rt; "out of memory"),
+        }
+    }
+}
+
+#[test]
+fn thousand_jobs_four_workers(rt: HostRuntime) {
+    match crew(rt.alloc(), 4) {
+        Ok((crew, team)) => match with_workers(&rt, rt.alloc(), crew, team, 1000) {
+            Ok(counts) => assert!(rt; each_once(counts.as_slice())),
+            Err(NoMemory) => panic!(rt; "out of memory"),
+        },
+        Err(NoMemory) => panic!(rt; "out of memory"),
     }
 }
