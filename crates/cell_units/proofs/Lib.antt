@@ -5,3 +5,4 @@ pub mod Unfolded
 pub mod ReplacedRows
 pub mod ReplacedLines
 pub mod Boundaries
+pub mod StartSearch
