@@ -38,6 +38,13 @@ module _ {T S : Type 0} (empty : S) (joined : S → S → S) (summary : T → S)
       let t = times 6 (width (contents e)) (6 ^ (h + 1)) (length (items_in e)) w below in
       omega (arith, up, t)
 
+  pub some-below : (h : ℕ) (e : Entries T S) → IsLawful empty joined summary h e → 6 ≤ width (contents e) → 0 < length (items_in e)
+  some-below h e l w =
+      let six : 0 < 6 = omega arith in
+      let up : 0 ≤ h + 1 = omega arith in
+      let p : 6 ^ 0 ≤ 6 ^ (h + 1) = pow-le-pow_right {n = 6} six {i = 0} {j = h + 1} up in
+      omega (arith, p, deep h e l w)
+
   -- the root
   pub root-many : (h : ℕ) (e : Entries T S) → IsRoot empty joined summary (suc h) e → 2 * 6 ^ (h + 1) ≤ length (items_in e)
   root-many h e t =

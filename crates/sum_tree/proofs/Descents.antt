@@ -1,5 +1,5 @@
 -- From a place on a path to a child below it.
-use Rattle.std.proofs.Common.{◌≡◌, ℕ, ◌+◌, ◌<◌, ◌≤◌, List, ◌++◌, length, map, take, drop, get_or, ap, ◌∙◌, sym, arith}
+use Rattle.std.proofs.Common.{◌≡◌, ℕ, ◌+◌, ◌<◌, ◌≤◌, List, ◌++◌, length, map, take, drop, get_or, ap, ◌∙◌, arith}
 use Rattle.sum_core.specs.Nodes.{contents, inner, child_value, items_in, items_under}
 use Rattle.sum_core.specs.declared.node.Child.{Child}
 use Rattle.sum_core.specs.declared.node.Entries.{Entries}

@@ -5,3 +5,4 @@ pub mod PlaceLists
 pub mod Places
 pub mod Prefixes
 pub mod Raises
+pub mod Reaching

@@ -1,6 +1,6 @@
 -- The places of a path, one more and one less.
-use Rattle.std.proofs.Common.{◌≡◌, ℕ, ◌+◌, ◌^◌, ◌*◌, ◌<◌, ◌≤◌, List, [], ◌∷◌, ◌++◌, length, ap, ◌∙◌, subst, sym, arith, Option, Some, None, Bor}
-use Rattle.sum_core.specs.Nodes.{entries_of, items_of}
+use Rattle.std.proofs.Common.{◌≡◌, ℕ, ◌+◌, ◌^◌, ◌*◌, ◌<◌, ◌≤◌, List, [], ◌∷◌, ◌++◌, length, ◌∙◌, subst, sym, arith, Option, Some, None, Bor}
+use Rattle.sum_core.specs.Nodes.{entries_of}
 use Rattle.sum_core.proofs.Heights.{low-at, low-root}
 use Rattle.smallvec.specs.SmallVec.{SmallVec, HasRoomFor}
 use Rattle.sum_tree.specs.Paths.{IsPath, IsPlace, ArePlaces, IsTreeSeen, items_seen, height_seen}

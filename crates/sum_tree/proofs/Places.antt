@@ -1,6 +1,7 @@
 -- An item of a part of a list, at its place in the whole.
-use Rattle.std.proofs.Common.{◌≡◌, ℕ, zero, suc, ◌+◌, ◌-◌, ◌≤◌, List, [], ◌∷◌, ◌++◌, length, drop, ap, ◌∙◌, arith, zero-add, Some}
+use Rattle.std.proofs.Common.{◌≡◌, ℕ, zero, suc, ◌+◌, ◌-◌, ◌≤◌, List, [], ◌∷◌, ◌++◌, length, drop, ap, ◌∙◌, sym, arith, zero-add, add-one, Some}
 use Rattle.std.specs.List.{slice_get}
+use Rattle.sum_tree.specs.Cursors.{last_of}
 
 slice_get_after : {X : Type 0} (xs ys : List X) (n : ℕ) → slice_get (xs ++ ys) (length xs + n) ≡ slice_get ys n
 slice_get_after [] ys n = ap (slice_get ys) (zero-add n)
@@ -25,3 +26,17 @@ slice_get-ahead [] zero x rest e = cc
 slice_get-ahead [] (suc n) x rest e = cc
 slice_get-ahead (y ∷ all) zero x rest e = cc
 slice_get-ahead (y ∷ all) (suc n) x rest e = slice_get-ahead all n x rest e
+
+-- the item at a place is what follows there
+pub drop-at : {X : Type 0} (all : List X) (n : ℕ) (x : X) → slice_get all n ≡ Some x → drop n all ≡ (x ∷ []) ++ drop (n + 1) all
+drop-at [] n x e = cc
+drop-at (y ∷ all) zero x e = ap (λ w. w ∷ all) (same y x e)
+  where
+    same : {A : Type 0} (a b : A) → Some a ≡ Some b → a ≡ b
+    same a b p = cc
+drop-at (y ∷ all) (suc n) x e =
+    let k : suc n + 1 ≡ suc (n + 1) = omega arith in
+    drop-at all n x e ∙ ap (λ j. (x ∷ []) ++ drop j (y ∷ all)) (sym k)
+
+pub last_of-next : {X : Type 0} (all : List X) (n : ℕ) → last_of all (n + 1) ≡ slice_get all n
+last_of-next all n = ap (last_of all) (add-one n)

@@ -1,11 +1,12 @@
 -- The measures of the prefixes of a list, one part after the other.
-use Rattle.std.proofs.Common.{◌≡◌, ℕ, zero, suc, get_or, drop-cons, add-one, ◌+◌, ◌-◌, ◌<◌, ◌≤◌, List, [], ◌∷◌, ◌++◌, length, take, drop, take-add, drop-drop, take_at, drop_at, take_all, append_assoc, length-append, ap, ◌∙◌, subst, sym, refl, arith, Bool, true, false}
+use Rattle.std.proofs.Common.{◌≡◌, ℕ, get_or, drop-cons, add-one, ◌+◌, ◌-◌, ◌<◌, ◌≤◌, List, [], ◌∷◌, ◌++◌, length, take, drop, take-add, drop-drop, take_at, drop_at, append_assoc, ap, ◌∙◌, subst, sym, refl, arith, false, Some}
+use Rattle.std.specs.List.{slice_get}
 use Rattle.std.proofs.lemmas.List.{take-append-drop, length-take, length-drop}
-use Rattle.std.specs.Ordering.{is_gt, is_lt, is_le}
+use Rattle.std.specs.Ordering.{is_gt}
 use Rattle.std.specs.declared.cmp.Ordering.{Ordering}
-use Rattle.std.specs.Cmp.{IsTotalOrder}
 use Rattle.sum_core.specs.Sums.{SummaryLaws, DimensionLaws, total}
 use Rattle.sum_core.proofs.Children.{total-append, fits-left}
+use Rattle.sum_tree.proofs.Places.{drop-at}
 use Rattle.sum_tree.specs.Cursors.{measure_to}
 
 -- a part of a part of a list
@@ -53,7 +54,7 @@ module _ {T S D : Type 0} (empty : S) (joined : S → S → S) (fits : S → Typ
       let e : drop n all ≡ part ++ drop (m - n) (drop n all) = sym (take-append-drop (m - n) (drop n all)) in
       let k : n + length part ≡ m = omega (arith, length-take (m - n) (drop n all), length-drop n all) in
       let same : measure (joined (total empty joined summary (take n all)) (total empty joined summary part)) ≡ measure_to empty joined summary measure all m =
-          ap measure (sym (total-more all part (drop (m - n) (drop n all)) n e)) ∙ ap (measure_to empty joined summary measure all) k in
+      ap measure (sym (total-more all part (drop (m - n) (drop n all)) n e)) ∙ ap (measure_to empty joined summary measure all) k in
       subst (λ d. is_gt (cmp (measure_to empty joined summary measure all n) d) ≡ false) same
       (dim.left_not_greater _ _ (fits-more all part (drop (m - n) (drop n all)) n f e))
 
@@ -72,3 +73,17 @@ module _ {T S D : Type 0} (empty : S) (joined : S → S → S) (fits : S → Typ
       subst (λ v. fw v (measure (summary x))) (sym ds)
       (subst (λ v. fw (measure_to empty joined summary measure all (n + i)) (measure v)) one
       (measure-more-fits all (x ∷ []) (drop (i + 1) part ++ rest) (n + i) f (item-ahead all part rest n i x e lt is)))
+
+  -- one item more
+  pub measure-next : (all : List T) (n : ℕ) (x : T) (d : D) → fits (total empty joined summary all) → slice_get all n ≡ Some x → d ≡ measure_to empty joined summary measure all n → measure_to empty joined summary measure all (n + 1) ≡ jw d (measure (summary x))
+  measure-next all n x d f at is =
+      let one : total empty joined summary (x ∷ []) ≡ summary x = laws.right_identity (summary x) in
+      measure-more all (x ∷ []) (drop (n + 1) all) n f (drop-at all n x at)
+      ∙ ap (λ v. jw v (measure (total empty joined summary (x ∷ [])))) (sym is) ∙ ap (λ v. jw d (measure v)) one
+
+  pub measure-next-fits : (all : List T) (n : ℕ) (x : T) (d : D) → fits (total empty joined summary all) → slice_get all n ≡ Some x → d ≡ measure_to empty joined summary measure all n → fw d (measure (summary x))
+  measure-next-fits all n x d f at is =
+      let one : total empty joined summary (x ∷ []) ≡ summary x = laws.right_identity (summary x) in
+      subst (λ v. fw v (measure (summary x))) (sym is)
+      (subst (λ v. fw (measure_to empty joined summary measure all n) (measure v)) one
+      (measure-more-fits all (x ∷ []) (drop (n + 1) all) n f (drop-at all n x at)))

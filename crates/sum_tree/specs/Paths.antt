@@ -1,11 +1,12 @@
 -- The nodes on a path from the root down.
-use Rattle.std.specs.Prelude.{◌≡◌, ℕ, ◌+◌, ◌^◌, ◌<◌, ◌≤◌, Bool, true, false, nat_lt, List, [], ◌∷◌, ◌++◌, length, drop, Option, None, Some}
+use Rattle.std.specs.Prelude.{◌≡◌, ℕ, ◌+◌, ◌-◌, ◌^◌, ◌<◌, ◌≤◌, Bool, true, false, nat_lt, List, [], ◌∷◌, ◌++◌, length, drop, Option, None, Some}
 use Rattle.std.specs.Borrow.{Bor}
 use Rattle.std.specs.List.{slice_get}
+use Rattle.std.specs.Option.{option_copied}
 use Rattle.std.specs.declared.cmp.Ordering.{Ordering}
 use Rattle.sum_core.specs.Sums.{total}
 use Rattle.sum_core.specs.Nodes.{IsLawful, items_in, items_of}
-use Rattle.sum_tree.specs.Cursors.{measure_to, is_reached}
+use Rattle.sum_tree.specs.Cursors.{measure_to, is_reached, last_of}
 use Rattle.sum_tree.specs.Trees.{IsTree}
 use Rattle.sum_tree.specs.declared.trees.Tree.{Tree}
 use Rattle.sum_tree.specs.declared.path.Aim.{Aim}
@@ -66,11 +67,23 @@ module _ {T S : Type 0} where
       pub not_before : 0 < a.place.first → is_met cmp aim a.place.first a.start ≡ false
       pub met : is_met cmp aim (a.place.first + a.place.count) (measure_to empty joined summary measure items (a.place.first + a.place.count)) ≡ true
 
-    -- The first item with which the aim is met, and the measures before and through it.
-    pub record IsFound (cmp : D → D → Ordering) (items : List T) (aim : Aim D) (found : Found T D S) : Type 0 where
+    -- An item of the list with its index, and the measures before and through it.
+    pub record IsItem (items : List T) (found : Found T D S) : Type 0 where
       pub within : found.index < length items
       pub item_is : slice_get items found.index ≡ Some found.item.now
       pub start_is : found.start ≡ measure_to empty joined summary measure items found.index
       pub end_is : found.end ≡ measure_to empty joined summary measure items (found.index + 1)
+
+    -- The first item with which the aim is met.
+    pub record IsFound (cmp : D → D → Ordering) (items : List T) (aim : Aim D) (found : Found T D S) : Type 0 where
+      pub item : IsItem items found
       pub not_before : 0 < found.index → is_met cmp aim found.index found.start ≡ false
       pub met : is_met cmp aim (found.index + 1) found.end ≡ true
+
+    -- What a cursor keeps: the item at its place, and the measures before and through it.
+    pub record IsCursor (fits : S → Type 0) (path : Path T S) (place : ℕ) (item : Option (Bor T)) (start end : D) : Type 0 where
+      pub path_is : IsPath empty joined summary fits path
+      pub within : place ≤ length (items_seen path.root) + 1
+      pub item_is : option_copied item ≡ last_of (items_seen path.root) place
+      pub start_is : start ≡ measure_to empty joined summary measure (items_seen path.root) (place - 1)
+      pub end_is : end ≡ measure_to empty joined summary measure (items_seen path.root) place

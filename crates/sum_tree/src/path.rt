@@ -79,7 +79,13 @@ pub struct Path<'a, T: Item> {
 
 impl<'a, T: Item> Path<'a, T> {
     /// The first of a leaf's items with which the aim is met.
-    fn find_item<D: Dimension<T::Sum>>(&self, top: &Place<'a, T>, start: D, items: &'a [T], aim: &Aim<D>) -> Option<Found<'a, T, D>>
+    fn find_item<D: Dimension<T::Sum>>(
+        &self,
+        top: &Place<'a, T>,
+        start: D,
+        items: &'a [T],
+        aim: &Aim<D>,
+    ) -> Option<Found<'a, T, D>>
         requires path { IsPath T.Sum.empty T.Sum.joined T.summary T.Sum.fits self.now }
         requires place { IsPlace T.Sum.empty T.Sum.joined T.summary (items_seen self.now.root) top.now }
         requires items { items_in top.now.entries.now ≡ items.now }
@@ -198,7 +204,13 @@ impl<'a, T: Item> Path<'a, T> {
     }
 
     /// The place below an inner node within which the aim is met first.
-    fn below<D: Dimension<T::Sum>>(&self, top: &Place<'a, T>, start: D, aim: &Aim<D>, steps: &mut Steps) -> Option<Ahead<'a, T, D>>
+    fn below<D: Dimension<T::Sum>>(
+        &self,
+        top: &Place<'a, T>,
+        start: D,
+        aim: &Aim<D>,
+        steps: &mut Steps,
+    ) -> Option<Ahead<'a, T, D>>
         requires path { IsPath T.Sum.empty T.Sum.joined T.summary T.Sum.fits self.now }
         requires place { IsPlace T.Sum.empty T.Sum.joined T.summary (items_seen self.now.root) top.now }
         requires is_inner { 1 ≤ top.now.height }
@@ -215,7 +227,12 @@ impl<'a, T: Item> Path<'a, T> {
     }
 
     /// The item of a leaf with which the aim is met first.
-    fn within<D: Dimension<T::Sum>>(&self, top: &Place<'a, T>, start: D, aim: &Aim<D>) -> Option<Found<'a, T, D>>
+    fn within<D: Dimension<T::Sum>>(
+        &self,
+        top: &Place<'a, T>,
+        start: D,
+        aim: &Aim<D>,
+    ) -> Option<Found<'a, T, D>>
         requires path { IsPath T.Sum.empty T.Sum.joined T.summary T.Sum.fits self.now }
         requires place { IsPlace T.Sum.empty T.Sum.joined T.summary (items_seen self.now.root) top.now }
         requires is_leaf { top.now.height ≡ 0 }
@@ -230,7 +247,13 @@ impl<'a, T: Item> Path<'a, T> {
     }
 
     /// From a place on down to the first item with which the aim is met.
-    fn descend<D: Dimension<T::Sum>>(&mut self, top: Place<'a, T>, start: D, aim: &Aim<D>, steps: &mut Steps) -> Option<Found<'a, T, D>>
+    fn descend<D: Dimension<T::Sum>>(
+        &mut self,
+        top: Place<'a, T>,
+        start: D,
+        aim: &Aim<D>,
+        steps: &mut Steps,
+    ) -> Option<Found<'a, T, D>>
         requires path { IsPath T.Sum.empty T.Sum.joined T.summary T.Sum.fits self.old }
         requires place { IsPlace T.Sum.empty T.Sum.joined T.summary (items_seen self.old.root) top }
         requires height { top.height + small_vec_len self.old.places ≡ height_seen self.old.root }
@@ -358,7 +381,11 @@ impl<'a, T: Item> Path<'a, T> {
     }
 
     /// The first item with which the aim is met, from the root.
-    pub fn find<D: Dimension<T::Sum>>(&mut self, aim: &Aim<D>, steps: &mut Steps) -> Option<Found<'a, T, D>>
+    pub fn find<D: Dimension<T::Sum>>(
+        &mut self,
+        aim: &Aim<D>,
+        steps: &mut Steps,
+    ) -> Option<Found<'a, T, D>>
         requires path { IsPath T.Sum.empty T.Sum.joined T.summary T.Sum.fits self.old }
         ensures path { IsPath T.Sum.empty T.Sum.joined T.summary T.Sum.fits self.new }
         ensures root { self.new.root ≡ self.old.root }

@@ -3,6 +3,7 @@ ghost use Rattle.std.specs.Prelude.{ℕ, ◌≡◌, ◌+◌, ◌*◌, ◌^◌, �
 ghost use Rattle.std.specs.Option.{option_copied};
 ghost use Rattle.sum_core.specs.Sums.{total};
 
+use crate::cursor::Cursor;
 use crate::find::item_at;
 use crate::pack::make_leaf;
 use crate::splits::split_at;
@@ -10,7 +11,7 @@ use crate::trees::{Tree, build_last, join};
 use cell_units::{NoMemory, Steps};
 use std::alloc::Global;
 use std::marker::Model;
-use sum_core::{Item, Summary};
+use sum_core::{Dimension, Item, Summary};
 
 /// A list of fewer than 2^32 items that knows their sum. Copies share what they have in common, and no later change of
 /// the one is seen by another. A call that is refused for want of memory leaves the list as it was.
@@ -19,6 +20,7 @@ use sum_core::{Item, Summary};
 /// is the greatest height of a tree of n items.
 #[derive(Drop)]
 pub struct SumTree<T: Item> {
+    alloc: Global,
     tree: Option<Tree<T>>,
 }
 
@@ -35,10 +37,10 @@ impl<T: Item> Model for SumTree<T> {
 
 impl<T: Item> SumTree<T> {
     /// An empty list. It takes no memory.
-    pub fn new(_alloc: Global) -> SumTree<T>
+    pub fn new(alloc: Global) -> SumTree<T>
         ensures { result ≡ [] }
     {
-        SumTree { tree: None }
+        SumTree { alloc, tree: None }
     }
 
     /// An equal list.
@@ -49,7 +51,10 @@ impl<T: Item> SumTree<T> {
             None => None,
             Some(tree) => Some(tree.share()?),
         };
-        Ok(SumTree { tree })
+        Ok(SumTree {
+            alloc: self.alloc,
+            tree,
+        })
     }
 
     /// The number of items.
@@ -109,10 +114,13 @@ impl<T: Item> SumTree<T> {
         let mut items = items;
         let count = items.len();
         if count == 0 {
-            Ok(SumTree { tree: None })
+            Ok(SumTree { alloc, tree: None })
         } else {
             let tree = build_last(alloc, &mut items, count, steps)?;
-            Ok(SumTree { tree: Some(tree) })
+            Ok(SumTree {
+                alloc,
+                tree: Some(tree),
+            })
         }
     }
 
@@ -148,7 +156,10 @@ impl<T: Item> SumTree<T> {
         ensures err { OnErr result (self.new ≡ self.old) }
         ensures steps { (h : ℕ) → length (self.old ++ other) < 2 * 6 ^ (h + 1) → steps.new ≤ steps.old + 128 * (h + 1) }
     {
-        let SumTree { tree: back } = other;
+        let SumTree {
+            alloc: _,
+            tree: back,
+        } = other;
         let Some(back) = back else {
             return Ok(());
         };
@@ -174,11 +185,12 @@ impl<T: Item> SumTree<T> {
         ensures steps { (h : ℕ) → length self.old < 2 * 6 ^ (h + 1) → steps.new ≤ steps.old + 128 * (h + 1) }
     {
         let Some(tree) = &self.tree else {
-            return Ok(SumTree { tree: None });
+            return Ok(SumTree { alloc, tree: None });
         };
         let parts = split_at(alloc, &tree.node, tree.height, at as usize, steps)?;
         self.tree = Some(parts.left);
         Ok(SumTree {
+            alloc,
             tree: Some(parts.right),
         })
     }
@@ -209,4 +221,26 @@ impl<T: Item> SumTree<T> {
         *self = front;
         Ok(())
     }
+
+    /// A cursor that stands before the first item, with places and sums in the dimension `D`.
+    pub fn cursor<D: Dimension<T::Sum>>(&self) -> Cursor<'_, T, D>
+        ensures items { result.items ≡ self.now }
+        ensures place { result.place ≡ 0 }
+    {
+        let root = match &self.tree {
+            None => None,
+            Some(tree) => Some(tree),
+        };
+        Cursor::new(self.alloc, root)
+    }
 }
+
+/// Trees may be dropped, moved to other threads and shared by them.
+fn may_be_shared<T: Item + Send + Sync>(tree: &SumTree<T>)
+where
+    T::Sum: Send + Sync,
+{
+    serves_threads(tree);
+}
+
+fn serves_threads<N: Drop + Send + Sync>(_tree: &N) {}

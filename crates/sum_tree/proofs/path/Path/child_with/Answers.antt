@@ -1,4 +1,4 @@
-use Rattle.std.proofs.Common.{◌≡◌, ◌+◌, ◌-◌, ◌<◌, ◌≤◌, ◌++◌, ◌∙◌, ap, sym, subst, arith, map, take, drop, get_or, length}
+use Rattle.std.proofs.Common.{◌≡◌, ◌+◌, ◌-◌, ◌++◌, ◌∙◌, ap, sym, subst, arith, map, take, drop, get_or, length}
 use Rattle.sum_core.specs.Nodes.{contents, inner, child_value, items_in, items_under, IsLawful}
 use Rattle.sum_core.proofs.Children.{children-at, items-taken}
 use Rattle.sum_core.proofs.Levels.{contents-Inner, items-seen, lawful_below}
@@ -61,9 +61,9 @@ returns-clause-place g c =
     record {
       lawful = subst (IsLawful m.empty m.joined g.T.Item.summary (c.args.top.now.height - 1)) (sym c.entries.ensures.value) here.below;
       below = ahead
-        ∙ ap (λ l. items_in (child_value k).2 ++ l) (sym (drop-past all (items_in (child_value k).2) _ first ahead))
-        ∙ ap (λ j. items_in (child_value k).2 ++ drop (first + j) all) (sym here.count_is)
-        ∙ ap (λ v. items_in v ++ drop (first + c.index-child.result.now.count) all) (sym c.entries.ensures.value);
+          ∙ ap (λ l. items_in (child_value k).2 ++ l) (sym (drop-past all (items_in (child_value k).2) _ first ahead))
+          ∙ ap (λ j. items_in (child_value k).2 ++ drop (first + j) all) (sym here.count_is)
+          ∙ ap (λ v. items_in v ++ drop (first + c.index-child.result.now.count) all) (sym c.entries.ensures.value);
       count_is = here.count_is ∙ ap (λ v. length (items_in v)) (sym c.entries.ensures.value);
       within = child-within all e xs n c.args.top.now.count first i c.index-child.result.now.count k c.requires.place.within c.requires.place.count_is shows f.index is here.count_is first_is;
     }

@@ -1,6 +1,4 @@
-use Rattle.std.proofs.Common.{◌≡◌, ◌+◌, ◌<◌, ◌≤◌, ◌++◌, ◌∷◌, [], ◌∙◌, ap, sym, subst, arith, length, length-append, Some, Bool, true, false}
-use Rattle.sum_tree.specs.Cursors.{measure_to}
-use Rattle.sum_tree.specs.Paths.{is_met, items_seen, height_seen}
+use Rattle.std.proofs.Common.{◌≡◌, ◌∷◌, [], ap, arith, length, length-append, Some, Bool, true, false}
 use Rattle.sum_tree.proofs.PlaceLists.{path-push, path-room}
 use Rattle.sum_tree.proofs.path.Path.descend.Goals as goal
 

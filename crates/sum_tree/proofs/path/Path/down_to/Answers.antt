@@ -1,4 +1,4 @@
-use Rattle.std.proofs.Common.{◌≡◌, ◌+◌, ◌<◌, ◌≤◌, ◌++◌, ◌∷◌, [], ap, arith, length, length-append, Some}
+use Rattle.std.proofs.Common.{◌∷◌, [], ap, arith, length, length-append, Some}
 use Rattle.sum_tree.proofs.PlaceLists.{path-push, path-room}
 use Rattle.sum_tree.proofs.path.Path.down_to.Goals as goal
 

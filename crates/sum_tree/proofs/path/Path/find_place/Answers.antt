@@ -1,4 +1,4 @@
-use Rattle.std.proofs.Common.{◌≡◌, ◌<◌, ◌≤◌, ◌+◌, ◌-◌, ◌++◌, ◌∙◌, ap, sym, subst, arith, length, drop, take, map, true, false}
+use Rattle.std.proofs.Common.{◌≡◌, ◌+◌, ◌-◌, ◌++◌, ◌∙◌, ap, sym, subst, arith, length, drop, take, map}
 use Rattle.std.proofs.lemmas.List.{length-map, take_all}
 use Rattle.sum_core.specs.Sums.{total}
 use Rattle.sum_core.specs.Nodes.{child_value, items_in, items_under, IsLawful}
@@ -64,18 +64,18 @@ returns-then-is_met-clause-found g c =
     let rest = drop (n + c.args.top.now.count) all in
     let ahead = child-ahead all rest e c.args.children.now n c.loop-child.first i k c.requires.place.below c.requires.children c.loop-child-test.true c.child-item.is c.loop-child.invariant.first_is in
     let end : c.plus-end.result ≡ measure_to m.empty m.joined g.T.Item.summary d.measure all (c.loop-child.first + c.child-item.result.count) =
-        c.plus-end.ensures
-        ∙ ap (λ v. d.joined_with v c.of.result) c.loop-child.invariant.start_is
-        ∙ ap (d.joined_with (measure_to m.empty m.joined g.T.Item.summary d.measure all c.loop-child.first)) (c.of.ensures ∙ ap d.measure here.sum_is)
-        ∙ sym (measure-more m.empty m.joined m.fits g.T.Item.summary g.met.T.Sum.Summary.laws d.joined_with d.fits_with d.measure g.D.Ord.cmp g.met.D.Dimension.dimension_laws all (items_in (child_value k).2) _ c.loop-child.first c.requires.path.sum_fits ahead)
-        ∙ ap (λ j. measure_to m.empty m.joined g.T.Item.summary d.measure all (c.loop-child.first + j)) (sym here.count_is) in
+    c.plus-end.ensures
+    ∙ ap (λ v. d.joined_with v c.of.result) c.loop-child.invariant.start_is
+    ∙ ap (d.joined_with (measure_to m.empty m.joined g.T.Item.summary d.measure all c.loop-child.first)) (c.of.ensures ∙ ap d.measure here.sum_is)
+    ∙ sym (measure-more m.empty m.joined m.fits g.T.Item.summary g.met.T.Sum.Summary.laws d.joined_with d.fits_with d.measure g.D.Ord.cmp g.met.D.Dimension.dimension_laws all (items_in (child_value k).2) _ c.loop-child.first c.requires.path.sum_fits ahead)
+    ∙ ap (λ j. measure_to m.empty m.joined g.T.Item.summary d.measure all (c.loop-child.first + j)) (sym here.count_is) in
     record {
       place = record {
         lawful = subst (IsLawful m.empty m.joined g.T.Item.summary (c.args.top.now.height - 1)) (sym c.entries.ensures.value) here.below;
         below = ahead
-          ∙ ap (λ l. items_in (child_value k).2 ++ l) (sym (drop-past all (items_in (child_value k).2) _ c.loop-child.first ahead))
-          ∙ ap (λ j. items_in (child_value k).2 ++ drop (c.loop-child.first + j) all) (sym here.count_is)
-          ∙ ap (λ f. items_in f ++ drop (c.loop-child.first + c.child-item.result.count) all) (sym c.entries.ensures.value);
+            ∙ ap (λ l. items_in (child_value k).2 ++ l) (sym (drop-past all (items_in (child_value k).2) _ c.loop-child.first ahead))
+            ∙ ap (λ j. items_in (child_value k).2 ++ drop (c.loop-child.first + j) all) (sym here.count_is)
+            ∙ ap (λ f. items_in f ++ drop (c.loop-child.first + c.child-item.result.count) all) (sym c.entries.ensures.value);
         count_is = here.count_is ∙ ap (λ f. length (items_in f)) (sym c.entries.ensures.value);
         within = child-within all e c.args.children.now n c.args.top.now.count c.loop-child.first i c.child-item.result.count k c.requires.place.within c.requires.place.count_is c.requires.children c.loop-child-test.true c.child-item.is here.count_is c.loop-child.invariant.first_is;
       };
@@ -99,11 +99,11 @@ loop-child-preserved g c =
     let rest = drop (n + c.args.top.now.count) all in
     let ahead = child-ahead all rest e c.args.children.now n c.loop-child.first i k c.requires.place.below c.requires.children c.loop-child-test.true c.child-item.is c.loop-child.invariant.first_is in
     let end : c.plus-end.result ≡ measure_to m.empty m.joined g.T.Item.summary d.measure all (c.loop-child.first + c.child-item.result.count) =
-        c.plus-end.ensures
-        ∙ ap (λ v. d.joined_with v c.of.result) c.loop-child.invariant.start_is
-        ∙ ap (d.joined_with (measure_to m.empty m.joined g.T.Item.summary d.measure all c.loop-child.first)) (c.of.ensures ∙ ap d.measure here.sum_is)
-        ∙ sym (measure-more m.empty m.joined m.fits g.T.Item.summary g.met.T.Sum.Summary.laws d.joined_with d.fits_with d.measure g.D.Ord.cmp g.met.D.Dimension.dimension_laws all (items_in (child_value k).2) _ c.loop-child.first c.requires.path.sum_fits ahead)
-        ∙ ap (λ j. measure_to m.empty m.joined g.T.Item.summary d.measure all (c.loop-child.first + j)) (sym here.count_is) in
+    c.plus-end.ensures
+    ∙ ap (λ v. d.joined_with v c.of.result) c.loop-child.invariant.start_is
+    ∙ ap (d.joined_with (measure_to m.empty m.joined g.T.Item.summary d.measure all c.loop-child.first)) (c.of.ensures ∙ ap d.measure here.sum_is)
+    ∙ sym (measure-more m.empty m.joined m.fits g.T.Item.summary g.met.T.Sum.Summary.laws d.joined_with d.fits_with d.measure g.D.Ord.cmp g.met.D.Dimension.dimension_laws all (items_in (child_value k).2) _ c.loop-child.first c.requires.path.sum_fits ahead)
+    ∙ ap (λ j. measure_to m.empty m.joined g.T.Item.summary d.measure all (c.loop-child.first + j)) (sym here.count_is) in
     record {
       first_is = child-end c.args.children.now n c.loop-child.first i c.child-item.result.count k c.loop-child-test.true c.child-item.is here.count_is c.loop-child.invariant.first_is;
       start_is = end;
@@ -118,6 +118,6 @@ returns-clause-found g c =
     let cs = map child_value c.args.children.now in
     let whole : take c.loop-child.child-index cs ≡ cs = take_all c.loop-child.child-index cs (omega (arith, length-map c.args.children.now child_value, c.loop-child-test.false)) in
     let k : c.loop-child.first ≡ c.args.top.now.first + c.args.top.now.count =
-        omega (arith, c.loop-child.invariant.first_is, ap (λ l. length (items_under l)) whole, ap length (items-seen c.args.top.now.entries.now cs c.requires.children), c.requires.place.count_is) in
+    omega (arith, c.loop-child.invariant.first_is, ap (λ l. length (items_under l)) whole, ap length (items-seen c.args.top.now.entries.now cs c.requires.children), c.requires.place.count_is) in
     λ lt. ap (is_met g.D.Ord.cmp c.args.aim.now (c.args.top.now.first + c.args.top.now.count)) (ap (measure_to m.empty m.joined g.T.Item.summary g.D.Dimension.measure all) (sym k) ∙ sym c.loop-child.invariant.start_is)
-      ∙ ap (λ j. is_met g.D.Ord.cmp c.args.aim.now j c.loop-child.start) (sym k) ∙ c.loop-child.invariant.not_before (omega (arith, k, lt))
+    ∙ ap (λ j. is_met g.D.Ord.cmp c.args.aim.now j c.loop-child.start) (sym k) ∙ c.loop-child.invariant.not_before (omega (arith, k, lt))

@@ -1,4 +1,4 @@
-use Rattle.std.proofs.Common.{◌≡◌, ◌+◌, ◌-◌, ◌<◌, ◌≤◌, ◌++◌, ◌∷◌, [], ◌∙◌, ap, sym, refl, arith, drop, get_or, length, Some}
+use Rattle.std.proofs.Common.{◌≡◌, ◌+◌, ◌-◌, ◌<◌, ◌++◌, ◌∙◌, ap, sym, arith, drop, length}
 use Rattle.std.specs.List.{slice_get}
 use Rattle.sum_core.specs.Nodes.{contents, items_in}
 use Rattle.sum_core.proofs.Levels.{contents-Leaf, items-leaf}

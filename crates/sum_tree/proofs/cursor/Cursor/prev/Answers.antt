@@ -1,0 +1,10 @@
+use Rattle.std.proofs.Common.{◌*◌, ◌^◌, ◌+◌, ◌<◌, ap, arith, length}
+use Rattle.sum_tree.specs.Paths.{items_seen}
+use Rattle.sum_tree.proofs.PlaceLists.{seen-at}
+use Rattle.sum_tree.proofs.cursor.Cursor.prev.Goals as goal
+
+pub returns-else-self-le1-clause-steps : goal.returns-else-self-le1-clause-steps
+returns-else-self-le1-clause-steps g c h few =
+    let m = g.T.Sum.Summary in
+    let few' : length (items_seen c.self.inside.path.root) < 2 * 6 ^ (h + 1) = omega (arith, few, ap (λ s. length s.items) c.self.view_is) in
+    omega (arith, c.find-found.ensures.steps, seen-at m.empty m.joined g.T.Item.summary c.self.inside.path.root h c.self.invariant.path_is.tree few')
