@@ -1,7 +1,7 @@
 -- What a step of the crew does to its two passes.
-use Rattle.std.proofs.Common.{◌≡◌, ◌≢◌, ℕ, ◌+◌, ◌-◌, ◌*◌, ◌≤◌, Contains, List, [], ◌∷◌, ◌++◌, length, sym, refl, ap, ◌∙◌, subst, arith, Option, Some, Bool}
+use Rattle.std.proofs.Common.{◌≡◌, ◌≢◌, ℕ, ◌+◌, ◌-◌, ◌*◌, ◌≤◌, Contains, List, [], ◌∷◌, ◌++◌, length, sym, refl, ap, ◌∙◌, subst, arith, Option, Some}
 use Rattle.std.proofs.lemmas.List.{length-append}
-use Rattle.crossbeam_channel.specs.Claims.{Pass, view, IsSeatAt}
+use Rattle.crossbeam_channel.specs.Claims.{IsSeatAt}
 use Rattle.crossbeam_channel.specs.declared.flavors.array.Rows.{Rows}
 use Rattle.crossbeam_channel.specs.declared.flavors.array.Key.{Key}
 use Rattle.crossbeam_channel.specs.declared.flavors.array.Doing.{Doing}
@@ -11,8 +11,8 @@ use Rattle.wrap_workers.specs.declared.results.Hand.{Hand}
 use Rattle.wrap_workers.specs.declared.tasks.Post.{Post}
 use Rattle.wrap_workers.specs.Jobs.{JobParts, front, without}
 use Rattle.wrap_workers.specs.Errands.{Right}
-use Rattle.wrap_workers.specs.Owed.{AreDistinct, crew_hand, one_at, times, weigh}
-use Rattle.wrap_workers.specs.Posted.{IsHome, IsLike, crew_post}
+use Rattle.wrap_workers.specs.Owed.{AreDistinct, crew_hand, one_at, times}
+use Rattle.wrap_workers.specs.Posted.{IsHome, crew_post}
 use Rattle.wrap_workers.specs.Crewed.{IsCrewHand, IsCrewPost, IsHomeAt, IsLast, IsTakenOff}
 use Rattle.wrap_workers.proofs.Owing.{one_more}
 use Rattle.wrap_workers.proofs.Weights.{contains-times, front_snoc, length_weighs, weigh_without}

@@ -10,7 +10,7 @@ use Rattle.wrap_workers.specs.declared.tasks.Task.TheVariants.{Do, Stop}
 use Rattle.wrap_workers.specs.declared.tasks.Post.{Post}
 use Rattle.wrap_workers.specs.Errands.{Right}
 use Rattle.wrap_workers.specs.Owed.{one_at}
-use Rattle.wrap_workers.specs.Posted.{IsLike, IsHome, IsTaskAt, AreTasksAt, IsErrand, AreErrands, AreApart, serial_of, serials_in, count_serials, crew_post, worker_post, after_put, IsNext, FitsPost, Posted, WerePosted}
+use Rattle.wrap_workers.specs.Posted.{IsTaskAt, AreTasksAt, IsErrand, AreErrands, AreApart, serial_of, count_serials, crew_post, worker_post, after_put, IsNext, FitsPost, Posted, WerePosted}
 use Rattle.wrap_workers.proofs.Weights.{one_at-other}
 
 off : false ≡ true → ⊥

@@ -1,5 +1,5 @@
 -- Jobs, and what they give.
-use Rattle.std.specs.Prelude.{ℕ, ◌+◌, ◌≤◌, ◌≡◌, ◌≢◌, ◌==◌, not, All, List, [], ◌∷◌, filter, length, map, slice_range}
+use Rattle.std.specs.Prelude.{ℕ, ◌+◌, ◌≤◌, ◌≢◌, ◌==◌, not, All, List, [], ◌∷◌, filter, length, map, slice_range}
 use Rattle.smallvec.specs.SmallVec.{SmallVec}
 use Rattle.cell_line.specs.declared.element.Element.{Element}
 use Rattle.cell_line.specs.declared.lines.Run.{Run}

@@ -1,4 +1,4 @@
-use Rattle.std.proofs.Common.{◌≡◌, [], Some, false, vec_len}
+use Rattle.std.proofs.Common.{◌≡◌, Some, false, vec_len}
 use Rattle.crossbeam_channel.specs.Claims.{view, IsSeatAt}
 use Rattle.crossbeam_channel.specs.Ends.{sends_on}
 use Rattle.wrap_workers.specs.Posted.{crew_post}

@@ -1,5 +1,4 @@
-use Rattle.std.proofs.Common.{◌≡◌, ap, ◌∙◌, sym, subst, Option, Some}
-use Rattle.crossbeam_channel.specs.Fifo.{Forks}
+use Rattle.std.proofs.Common.{ap}
 use Rattle.wrap_workers.proofs.Posting.{settles_named}
 use Rattle.wrap_workers.proofs.make.settle.Goals as goal
 

@@ -1,4 +1,4 @@
-use Rattle.std.proofs.Common.{◌≡◌, ap, ◌∙◌, sym, subst}
+use Rattle.std.proofs.Common.{ap, ◌∙◌, sym, subst}
 use Rattle.crossbeam_channel.specs.Claims.{view}
 use Rattle.wrap_workers.specs.Jobs.{front, last, without_each}
 use Rattle.wrap_workers.specs.Owed.{crew_hand}

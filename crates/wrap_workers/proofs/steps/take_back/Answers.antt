@@ -1,5 +1,4 @@
 use Rattle.std.proofs.Common.{ap}
-use Rattle.wrap_workers.specs.declared.results.Hand.{Hand}
 use Rattle.wrap_workers.proofs.Owing.{returns, counts}
 use Rattle.wrap_workers.proofs.steps.take_back.Goals as goal
 

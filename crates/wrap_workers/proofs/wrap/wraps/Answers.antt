@@ -11,7 +11,8 @@ loop-line-preserved g c =
     let lines = g.N.Lines.elements_by_line c.args.job.now.lines in
     let first : c.run-run.result.first ≡ c.args.job.now.run.first = ap (λ (run : Run). run.first) c.run-run.ensures.value in
     let count : c.run-run.result.count ≡ c.args.job.now.run.count = ap (λ (run : Run). run.count) c.run-run.ensures.value in
-    let elements = c.as_slice.ensures.value ∙ c.in_ok-elements.ensures ∙ ap (λ n. line_at (g.N.Lines.elements_by_line n) c.loop-line.line) c.lines.ensures in
+    let elements : c.as_slice.result.now ≡ line_at lines c.loop-line.line =
+    c.as_slice.ensures.value ∙ c.in_ok-elements.ensures ∙ ap (λ n. line_at (g.N.Lines.elements_by_line n) c.loop-line.line) c.lines.ensures in
     let cut : c.in_ok-cuts.field-0.items ≡ cuts_of (line_at lines c.loop-line.line) c.args.job.now.width =
     c.in_ok-cuts.ensures
     ∙ ap (λ (es : List Element). cuts_of es c.width.result) elements

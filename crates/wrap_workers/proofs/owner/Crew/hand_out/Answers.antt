@@ -1,9 +1,7 @@
-use Rattle.std.proofs.Common.{◌≡◌, ◌+◌, List, [], ◌∷◌, ◌++◌, ap, ◌∙◌, sym, refl, subst, arith}
+use Rattle.std.proofs.Common.{◌+◌, [], ◌∷◌, ◌++◌, ap, ◌∙◌, sym, subst, arith}
 use Rattle.std.specs.Vec.{vec_capacity}
-use Rattle.crossbeam_channel.specs.Claims.{view, IsSeatAt}
-use Rattle.wrap_workers.specs.declared.tasks.Post.{Post}
-use Rattle.wrap_workers.specs.Jobs.{IsFree, JobParts}
-use Rattle.wrap_workers.specs.Posted.{crew_post}
+use Rattle.crossbeam_channel.specs.Claims.{view}
+use Rattle.wrap_workers.specs.Jobs.{IsFree}
 use Rattle.wrap_workers.proofs.Crews.{hand_hired, hand_returned, post_put, post_same, serial_is}
 use Rattle.wrap_workers.proofs.Weights.{free-times}
 use Rattle.wrap_workers.proofs.owner.Crew.hand_out.Goals as goal

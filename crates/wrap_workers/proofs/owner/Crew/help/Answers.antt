@@ -1,7 +1,7 @@
-use Rattle.std.proofs.Common.{◌≡◌, ◌+◌, List, [], ◌∷◌, ◌++◌, ap, append-nil, ◌∙◌, sym, refl, subst, arith}
+use Rattle.std.proofs.Common.{[], ◌∷◌, ◌++◌, ap, append-nil, ◌∙◌, refl, subst, arith}
 use Rattle.std.specs.Vec.{vec_capacity}
 use Rattle.crossbeam_channel.specs.Claims.{view, IsSeatAt}
-use Rattle.wrap_workers.specs.Jobs.{front, JobParts}
+use Rattle.wrap_workers.specs.Jobs.{front}
 use Rattle.wrap_workers.proofs.Crews.{hand_returned, hand_taken, kept_front, post_same, serial_is, taken_off}
 use Rattle.wrap_workers.proofs.Weights.{front_snoc}
 use Rattle.wrap_workers.proofs.owner.Crew.help.Goals as goal

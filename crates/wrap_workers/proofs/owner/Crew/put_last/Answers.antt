@@ -1,7 +1,6 @@
-use Rattle.std.proofs.Common.{◌≡◌, ◌+◌, List, [], ◌∷◌, ◌++◌, ap, append-nil, ◌∙◌, sym, refl, subst, arith}
+use Rattle.std.proofs.Common.{◌+◌, [], ◌∷◌, ◌++◌, ap, append-nil, ◌∙◌, sym, arith}
 use Rattle.std.specs.Vec.{vec_capacity}
-use Rattle.crossbeam_channel.specs.Claims.{view, IsSeatAt}
-use Rattle.wrap_workers.specs.Jobs.{JobParts}
+use Rattle.crossbeam_channel.specs.Claims.{view}
 use Rattle.wrap_workers.proofs.Crews.{hand_lent, hand_returned, post_put, post_same, serial_is}
 use Rattle.wrap_workers.proofs.owner.Crew.put_last.Goals as goal
 
