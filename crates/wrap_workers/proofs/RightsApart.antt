@@ -4,7 +4,6 @@ use mathlib.Core.Option.{some, some-ne-none, some-injective}
 use lib.ListN.{get_elem?}
 use Rattle.wrap_workers.specs.declared.job.Finished.{Finished}
 use Rattle.wrap_workers.specs.declared.results.Hand.{Hand}
-use Rattle.wrap_workers.specs.Jobs.{JobParts}
 use Rattle.wrap_workers.specs.Owed.{Owed, one_at, right_of, weigh, weigh_results, weigh_rights}
 use Rattle.wrap_workers.specs.QueueLaws.{GivesOnce, HavePassesOfTheirOwn, IsOfJobOut}
 use Rattle.wrap_workers.proofs.Weights.{length_weighs, one_at-same, rights_le}
