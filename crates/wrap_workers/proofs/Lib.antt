@@ -4,3 +4,4 @@ pub mod Weights
 pub mod Owing
 pub mod Posting
 pub mod Crews
+pub mod RightsApart

@@ -4,3 +4,4 @@ pub mod Owed
 pub mod Errands
 pub mod Posted
 pub mod Crewed
+pub mod QueueLaws

@@ -14,6 +14,7 @@
 
 pub mod gate;
 pub mod job;
+pub mod laws;
 mod make;
 mod names;
 pub mod owner;
@@ -25,6 +26,7 @@ pub mod wrap;
 
 pub use gate::{FreeGate, Gate};
 pub use job::{Done, Finished, Job};
+pub use laws::queue_laws;
 pub use make::crew;
 pub use owner::Crew;
 pub use worker::Worker;
