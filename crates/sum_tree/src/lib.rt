@@ -14,6 +14,8 @@ mod pack;
 mod path;
 mod splits;
 mod sum_tree;
+#[cfg(test)]
+mod tests;
 mod trees;
 
 pub use cursor::Cursor;

@@ -1,0 +1,216 @@
+//! Trees of weights, whose sum is how many there are and what they weigh together.
+ghost use Rattle.std.specs.Prelude.{◌≡◌, ◌+◌, ◌≤◌, ◌++◌, length, take, drop};
+ghost use Rattle.sum_core.specs.Sums.{total};
+
+use crate::sum_tree::SumTree;
+use cell_units::{Bias, NoMemory, Steps};
+use std::alloc::Global;
+use std::test::Fail;
+use sum_core::{Dimension, Item, Summary};
+
+#[derive(Clone, Copy, Debug, PartialEq, Eq)]
+struct Tally {
+    items: u64,
+    total: u64,
+}
+
+impl Summary for Tally {
+    ghost use Rattle.std.specs.Prelude.{ℕ, ◌+◌, ◌<◌, ◌^◌};
+    ghost use Rattle.sum_core.specs.Counts.{count-left_identity, count-right_identity, count-assoc, count-empty_fits, count-left_fits, count-right_fits};
+
+    ghost empty = { record { items = 0; total = 0 } };
+
+    ghost joined = { λ a b. record { items = a.items + b.items; total = a.total + b.total } };
+
+    ghost fits = { λ s. (s.items < 2 ^ 64) × (s.total < 2 ^ 64) };
+
+    ghost laws = { record {
+      left_identity = λ x i. record { items = count-left_identity x.items i; total = count-left_identity x.total i };
+      right_identity = λ x i. record { items = count-right_identity x.items i; total = count-right_identity x.total i };
+      assoc = λ x y z i. record { items = count-assoc x.items y.items z.items i; total = count-assoc x.total y.total z.total i };
+      empty_fits = (count-empty_fits, count-empty_fits);
+      left_fits = λ x y f. (count-left_fits x.items y.items f.0, count-left_fits x.total y.total f.1);
+      right_fits = λ x y f. (count-right_fits x.items y.items f.0, count-right_fits x.total y.total f.1);
+    } };
+
+    fn zero() -> Tally {
+        Tally { items: 0, total: 0 }
+    }
+
+    fn plus(self, other: Tally) -> Tally {
+        Tally {
+            items: self.items + other.items,
+            total: self.total + other.total,
+        }
+    }
+}
+
+#[derive(Drop)]
+struct Weight(u32);
+
+impl Item for Weight {
+    type Sum = Tally;
+
+    ghost summary = { λ w. record { items = 1; total = w.0 } };
+
+    fn sum(&self) -> Tally {
+        Tally {
+            items: 1,
+            total: self.0 as u64,
+        }
+    }
+
+    fn copy(&self, _alloc: Global) -> Result<Weight, NoMemory> {
+        Ok(Weight(self.0))
+    }
+}
+
+/// The total weight.
+impl Dimension<Tally> for u64 {
+    ghost use Rattle.std.specs.Prelude.{◌+◌, ◌<◌, ◌^◌, refl};
+    ghost use Rattle.sum_core.proofs.Counts.{count-left_not_greater, count-right_not_greater};
+
+    ghost measure = { λ s. s.total };
+
+    ghost joined_with = { λ a b. a + b };
+
+    ghost fits_with = { λ a b. a + b < 2 ^ 64 };
+
+    ghost dimension_laws = { record {
+      of_joined = λ x y. refl;
+      fits_joined = λ x y f. f.1;
+      left_not_greater = λ x y f. count-left_not_greater x.total y.total;
+      right_not_greater = λ x y f. count-right_not_greater x.total y.total;
+    } };
+
+    fn of(sum: Tally) -> u64 {
+        sum.total
+    }
+
+    fn plus(self, other: u64) -> u64 {
+        self + other
+    }
+}
+
+fn weights(tree: &SumTree<Weight>, alloc: Global, steps: &mut Steps) -> Result<Vec<u32>, Fail> {
+    let mut weights = Vec::new(alloc);
+    for at in 0..tree.len() {
+        if let Some(item) = tree.get(at, steps) {
+            weights.push(item.0)?;
+        }
+    }
+    Ok(weights)
+}
+
+/// `cursor-seek`: in [5, 3, 4] the first item's end is at least 5, and the second's is greater.
+#[test]
+fn cursor_seek_stands_left_or_right_of_a_boundary(rt: HostRuntime) -> Result<(), Fail> {
+    let alloc = rt.alloc();
+    let mut steps = Steps::new();
+    let items = Vec::from_array(alloc, [Weight(5), Weight(3), Weight(4)])?;
+    let tree = SumTree::from_vec(alloc, items, &mut steps)?;
+    let mut cursor = tree.cursor::<u64>();
+    assert!(rt; cursor.item().is_none());
+    cursor.seek(5, Bias::Left, &mut steps);
+    assert_eq!(rt; cursor.item().map(|w| w.0), Some(5));
+    assert_eq!(rt; cursor.start(), 0);
+    cursor.seek(5, Bias::Right, &mut steps);
+    assert_eq!(rt; cursor.item().map(|w| w.0), Some(3));
+    assert_eq!(rt; cursor.start(), 5);
+    assert_eq!(rt; cursor.end(), 8);
+    cursor.next(&mut steps);
+    assert_eq!(rt; cursor.item().map(|w| w.0), Some(4));
+    cursor.next(&mut steps);
+    assert!(rt; cursor.item().is_none());
+    cursor.prev(&mut steps);
+    assert_eq!(rt; cursor.item().map(|w| w.0), Some(4));
+    cursor.seek(12, Bias::Right, &mut steps);
+    assert!(rt; cursor.item().is_none());
+    assert_eq!(rt; cursor.start(), 12);
+    Ok(())
+}
+
+/// `split-and-concat`: [5, 3, 4] is cut into [5] and [3, 4], and joined again.
+#[test]
+fn split_and_concat_give_the_list_again(rt: HostRuntime) -> Result<(), Fail> {
+    let alloc = rt.alloc();
+    let mut steps = Steps::new();
+    let items = Vec::from_array(alloc, [Weight(5), Weight(3), Weight(4)])?;
+    let mut tree = SumTree::from_vec(alloc, items, &mut steps)?;
+    let back = tree.split_off(alloc, 1, &mut steps)?;
+    assert_eq!(rt;
+        weights(&tree, alloc, &mut steps)?.as_slice(),
+        [5].as_slice()
+    );
+    assert_eq!(rt;
+        weights(&back, alloc, &mut steps)?.as_slice(),
+        [3, 4].as_slice()
+    );
+    tree.concat(alloc, back, &mut steps)?;
+    assert_eq!(rt;
+        weights(&tree, alloc, &mut steps)?.as_slice(),
+        [5, 3, 4].as_slice()
+    );
+    assert_eq!(rt; tree.sum().total, 12);
+    Ok(())
+}
+
+/// `replace-and-push`: [5, 9, 9, 4] and then [5, 9, 9, 4, 1], while a copy that was shared before is still [5, 3, 4].
+#[test]
+fn replace_and_push_leave_a_shared_copy(rt: HostRuntime) -> Result<(), Fail> {
+    let alloc = rt.alloc();
+    let mut steps = Steps::new();
+    let items = Vec::from_array(alloc, [Weight(5), Weight(3), Weight(4)])?;
+    let mut tree = SumTree::from_vec(alloc, items, &mut steps)?;
+    let copy = tree.share()?;
+    let nines = Vec::from_array(alloc, [Weight(9), Weight(9)])?;
+    tree.replace(alloc, 1, 2, nines, &mut steps)?;
+    assert_eq!(rt;
+        weights(&tree, alloc, &mut steps)?.as_slice(),
+        [5, 9, 9, 4].as_slice()
+    );
+    tree.push(alloc, Weight(1), &mut steps)?;
+    assert_eq!(rt;
+        weights(&tree, alloc, &mut steps)?.as_slice(),
+        [5, 9, 9, 4, 1].as_slice()
+    );
+    assert_eq!(rt;
+        weights(&copy, alloc, &mut steps)?.as_slice(),
+        [5, 3, 4].as_slice()
+    );
+    Ok(())
+}
+
+/// `million-items`: a seek among 1,000,000 items makes at most 512 steps.
+fn seek_among_a_million(tree: &SumTree<Weight>, target: u64, steps: &mut Steps)
+    requires { length tree.now ≡ 1000000 }
+    ensures { steps.new ≤ steps.old + 512 }
+{
+    let mut cursor = tree.cursor::<u64>();
+    cursor.seek(target, Bias::Left, steps);
+}
+
+/// `million-items`: the height of a tree of 1,000,000 items is at most 7.
+fn height_of_a_million(tree: &SumTree<Weight>) -> u32
+    requires { length tree.now ≡ 1000000 }
+    ensures { result ≤ 7 }
+{
+    tree.height()
+}
+
+/// `replace-one`: one item of a million is replaced by one in at most 6,408 steps.
+fn replace_one_of_a_million(
+    alloc: Global,
+    tree: &mut SumTree<Weight>,
+    at: u32,
+    items: Vec<Weight>,
+    steps: &mut Steps,
+) -> Result<(), NoMemory>
+    requires million { length tree.old ≡ 1000000 }
+    requires at { at + 1 ≤ 1000000 }
+    requires one { length items.items ≡ 1 }
+    requires fits { ⟦<Tally as Summary>⟧.fits (total ⟦<Tally as Summary>⟧.empty ⟦<Tally as Summary>⟧.joined ⟦<Weight as Item>⟧.summary (take at tree.old ++ items.items ++ drop (at + 1) tree.old)) }
+    ensures { steps.new ≤ steps.old + 6408 }
+{
+    tree.replace(alloc, at, at + 1, items, steps)
+}
