@@ -22,7 +22,7 @@ module _ {T S : Type 0} (empty : S) (joined : S → S → S) (summary : T → S)
         items_is = p.items_is;
       }
 
-  -- the last child's find_child
+  -- in the place of the last child
   pub last-children : (lh rh : ℕ) (re : Entries T S) (f : Entries T S) (pieces : List (S × ℕ × Entries T S)) → rh < lh → 6 ≤ width (contents f) → IsMelded empty joined summary (lh - 1) f rh re pieces → IsChildList empty joined summary (IsLawful empty joined summary (lh - 1)) 6 pieces
   last-children lh rh re f pieces lt k d =
       let top : max (lh - 1) rh ≡ lh - 1 = omega arith in
@@ -45,7 +45,7 @@ module _ {T S : Type 0} (empty : S) (joined : S → S → S) (summary : T → S)
         items_is = o.items_is ∙ last-items lh rh le re rest f pieces p d;
       }
 
-  -- the first child's find_child
+  -- in the place of the first child
   pub first-children : (lh rh : ℕ) (le : Entries T S) (f : Entries T S) (pieces : List (S × ℕ × Entries T S)) → lh < rh → 6 ≤ width (contents f) → IsMelded empty joined summary lh le (rh - 1) f pieces → IsChildList empty joined summary (IsLawful empty joined summary (rh - 1)) 6 pieces
   first-children lh rh le f pieces lt k d =
       let top : max lh (rh - 1) ≡ rh - 1 = omega arith in

@@ -27,7 +27,7 @@ module _ {T S : Type 0} (empty : S) (joined : S → S → S) (summary : T → S)
     pub few : length pieces ≤ 2
     pub items_is : items_under pieces ≡ items
 
-  -- One or two lawful nodes of the larger height, from two trees. `children` has every bound on their width that the upper root's width gives.
+  -- One or two lawful nodes of the larger height, from two trees. `children` bounds their width from below by whatever the wider root's width allows, up to 6.
   pub record IsMelded (lh : ℕ) (le : Entries T S) (rh : ℕ) (re : Entries T S) (pieces : List (S × ℕ × Entries T S)) : Type 0 where
     pub children : (least : ℕ) → least ≤ 6 → (rh < lh → least ≤ width (contents le)) → (lh < rh → least ≤ width (contents re)) → (lh ≡ rh → least ≤ width (contents le) + width (contents re)) → IsChildList empty joined summary (IsLawful empty joined summary (max lh rh)) least pieces
     pub both : 2 ≤ length pieces → IsChildList empty joined summary (IsLawful empty joined summary (max lh rh)) 6 pieces

@@ -1,4 +1,4 @@
-// Two trees of any heights as one node or two.
+//! Two trees of any heights as one node or two.
 ghost use Rattle.std.specs.Prelude.{◌≡◌, ◌+◌, ◌*◌, ◌-◌, ◌^◌, ◌<◌, ◌≤◌, ◌++◌, IfOk, map, length, min, max};
 ghost use Rattle.sum_core.specs.Sums.{total};
 ghost use Rattle.sum_core.specs.Nodes.{IsLawful, IsRoot, contents, width, entries_of, child_value, items_of};
@@ -10,6 +10,7 @@ use cell_units::{NoMemory, Steps};
 use std::alloc::Global;
 use sum_core::{Child, Item, Node};
 
+/// Two roots of one height as one node or two of that height.
 pub fn meld_level<T: Item>(
     alloc: Global,
     left: &Node<T>,
@@ -36,6 +37,7 @@ pub fn meld_level<T: Item>(
     }
 }
 
+/// Two roots as one node or two of the larger height: the lower tree takes part at one end of the higher one.
 pub fn meld<T: Item>(
     alloc: Global,
     left: &Node<T>,

@@ -1,4 +1,4 @@
-// A node's entries, copied out of it.
+//! A node's entries, copied out of it.
 ghost use Rattle.std.specs.Prelude.{◌≡◌, ◌+◌, ◌-◌, ◌≤◌, ◌++◌, IfOk, map};
 ghost use Rattle.sum_core.specs.Nodes.{IsLawful, leaf, contents, width, entries_of, child_value, items_of, items_under};
 ghost use Rattle.sum_tree.specs.Parts.{IsInner, IsParted};
@@ -7,12 +7,14 @@ use cell_units::{NoMemory, Steps};
 use std::alloc::Global;
 use sum_core::{Child, Entries, Item, Node, copy_children, copy_items};
 
+/// The children of a node but for the one at one end, and the node of that one.
 #[derive(Drop)]
 pub struct Parted<T: Item> {
     pub rest: Vec<Child<T>>,
     pub node: Node<T>,
 }
 
+/// A copy of the items of a leaf.
 pub fn copy_leaf<T: Item>(
     alloc: Global,
     node: &Node<T>,
@@ -28,6 +30,7 @@ pub fn copy_leaf<T: Item>(
     }
 }
 
+/// A copy of the children of an inner node, which shares the nodes below.
 pub fn copy_inner<T: Item>(
     alloc: Global,
     node: &Node<T>,
@@ -45,6 +48,7 @@ pub fn copy_inner<T: Item>(
     }
 }
 
+/// The children of a node, with the last one apart.
 pub fn take_last<T: Item>(
     alloc: Global,
     node: &Node<T>,
@@ -67,6 +71,7 @@ pub fn take_last<T: Item>(
     }
 }
 
+/// The children of a node, with the first one apart.
 pub fn take_first<T: Item>(
     alloc: Global,
     node: &Node<T>,

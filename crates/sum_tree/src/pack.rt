@@ -1,4 +1,4 @@
-// One node or two from at most 24 entries.
+//! One node or two from at most 24 entries.
 ghost use Rattle.std.specs.Prelude.{◌≡◌, ◌+◌, ◌-◌, ◌^◌, ◌<◌, ◌≤◌, ◌++◌, ◌∷◌, [], IfOk, map, length, vec_len, min};
 ghost use Rattle.sum_core.specs.Sums.{total};
 ghost use Rattle.sum_core.specs.Nodes.{IsLawful, IsChildList, IsChild, contents, width, entries_of, child_value, items_in, items_under};
@@ -8,8 +8,10 @@ use cell_units::{NoMemory, Steps};
 use std::alloc::Global;
 use sum_core::{Child, Entries, Item, Node, Summary};
 
+/// The greatest number of entries in a node.
 const MOST: usize = 12;
 
+/// The sum of the items.
 fn sum_items<T: Item>(items: &[T]) -> T::Sum
     requires { T.Sum.fits (total T.Sum.empty T.Sum.joined T.summary items.now) }
     ensures { result ≡ total T.Sum.empty T.Sum.joined T.summary items.now }
@@ -21,7 +23,7 @@ fn sum_items<T: Item>(items: &[T]) -> T::Sum
     sum
 }
 
-// The stored sums and counts of a children, added up.
+/// The sum and the number of the items below the children.
 fn sum_children<T: Item>(children: &[Child<T>], below: usize) -> (T::Sum, usize)
     requires children { IsChildList T.Sum.empty T.Sum.joined T.summary (IsLawful T.Sum.empty T.Sum.joined T.summary below) 6 (map child_value children.now) }
     requires fits { T.Sum.fits (total T.Sum.empty T.Sum.joined T.summary (items_under (map child_value children.now))) }
@@ -38,6 +40,7 @@ fn sum_children<T: Item>(children: &[Child<T>], below: usize) -> (T::Sum, usize)
     (sum, count)
 }
 
+/// A new leaf, with its sum and count.
 pub fn make_leaf<T: Item>(
     alloc: Global,
     items: Vec<T>,
@@ -57,6 +60,7 @@ pub fn make_leaf<T: Item>(
     }
 }
 
+/// A new inner node of this height, with its sum and count.
 pub fn make_inner<T: Item>(
     alloc: Global,
     children: Vec<Child<T>>,
@@ -100,6 +104,7 @@ fn two<T: Item>(alloc: Global, left: Child<T>, right: Child<T>) -> Result<Vec<Ch
     Ok(pieces)
 }
 
+/// One leaf or two with the items. Of two, each is at least half full.
 pub fn pack_items<T: Item>(
     alloc: Global,
     items: Vec<T>,
@@ -122,6 +127,7 @@ pub fn pack_items<T: Item>(
     }
 }
 
+/// One inner node or two with the children. Of two, each is at least half full.
 pub fn pack_children<T: Item>(
     alloc: Global,
     children: Vec<Child<T>>,
@@ -148,6 +154,7 @@ pub fn pack_children<T: Item>(
     }
 }
 
+/// One inner node or two with the children of both lists.
 pub fn pack_joined<T: Item>(
     alloc: Global,
     front: Vec<Child<T>>,

@@ -13,6 +13,7 @@ use cell_units::{NoMemory, Steps};
 use std::alloc::Global;
 use sum_core::{Child, Item, Node};
 
+/// The children of a node round the one that a place lies in, and the number of items before that one.
 #[derive(Drop)]
 pub struct Cut<T: Item> {
     pub before: Vec<Child<T>>,
@@ -21,6 +22,7 @@ pub struct Cut<T: Item> {
     pub offset: usize,
 }
 
+/// The children of a node, cut at the one that the place `at` lies in.
 pub fn cut_children<T: Item>(
     alloc: Global,
     node: &Node<T>,
@@ -47,7 +49,7 @@ pub fn cut_children<T: Item>(
     })
 }
 
-// The children of children of a height, and then the tree's items.
+/// A tree of the items below the children, which have the height `below`, and then the tree's items.
 pub fn join_before<T: Item>(
     alloc: Global,
     children: Vec<Child<T>>,
@@ -72,6 +74,7 @@ pub fn join_before<T: Item>(
     }
 }
 
+/// A tree of the tree's items, and then those below the children, which have the height `below`.
 pub fn join_after<T: Item>(
     alloc: Global,
     tree: Tree<T>,
@@ -96,12 +99,14 @@ pub fn join_after<T: Item>(
     }
 }
 
+/// The two parts of a tree that was cut.
 #[derive(Drop)]
 pub struct Halves<T: Item> {
     pub left: Tree<T>,
     pub right: Tree<T>,
 }
 
+/// The items before the place `at`, and those from it on: a cut along one path, with the parts joined on the way up.
 pub fn split_at<T: Item>(
     alloc: Global,
     node: &Node<T>,
@@ -129,6 +134,7 @@ pub fn split_at<T: Item>(
     }
 }
 
+/// The items of a leaf before the place `at`, and those from it on.
 fn split_leaf<T: Item>(
     alloc: Global,
     node: &Node<T>,

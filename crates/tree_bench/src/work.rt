@@ -1,0 +1,108 @@
+//! What is timed.
+ghost use Rattle.std.specs.Prelude.{◌≡◌, IfOk, length};
+
+use crate::entry::Entry;
+use cell_units::{Bias, NoMemory, Steps};
+use std::alloc::Global;
+use sum_tree::SumTree;
+
+/// A sequence of numbers that look random, and are the same in every run.
+#[derive(Drop)]
+struct Numbers(u64);
+
+impl Numbers {
+    /// The next number below the limit, or 0 where that is 0.
+    fn below(&mut self, limit: u32) -> u32 {
+        self.0 = self
+            .0
+            .wrapping_mul(6364136223846793005)
+            .wrapping_add(1442695040888963407);
+        if limit == 0 {
+            0
+        } else {
+            ((self.0 >> 33) % limit as u64) as u32
+        }
+    }
+}
+
+/// A tree of the numbers below `count`.
+pub fn build(alloc: Global, count: u32, steps: &mut Steps) -> Result<SumTree<Entry>, NoMemory>
+    ensures { IfOk result (λ t. length t ≡ count) }
+{
+    let mut items = Vec::with_capacity(alloc, count as usize)?;
+    for number in 0..count {
+        items.push(Entry(number))?;
+    }
+    SumTree::from_vec(alloc, items, steps)
+}
+
+/// A tree of the numbers below `count`, one by one. It gives how many there are.
+pub fn push_each(alloc: Global, count: u32, steps: &mut Steps) -> Result<u64, NoMemory> {
+    let mut tree = SumTree::new(alloc);
+    for number in 0..count {
+        tree.push(alloc, Entry(number), steps)?;
+    }
+    Ok(tree.len() as u64)
+}
+
+/// Seeks places at random. It gives the sum of the numbers that stand there.
+pub fn seek_each(tree: &SumTree<Entry>, times: u32, steps: &mut Steps) -> u64 {
+    let mut numbers = Numbers(1);
+    let mut cursor = tree.cursor::<u64>();
+    let mut check = 0;
+    for _ in 0..times {
+        cursor.seek(numbers.below(tree.len()) as u64, Bias::Right, steps);
+        if let Some(entry) = cursor.item() {
+            check = entry.0.wrapping_add(check);
+        }
+    }
+    check as u64
+}
+
+/// Replaces one item by one at a random place.
+fn replace_one(
+    alloc: Global,
+    tree: &mut SumTree<Entry>,
+    at: u32,
+    number: u32,
+    steps: &mut Steps,
+) -> Result<(), NoMemory>
+    ensures { length tree.new ≡ length tree.old }
+{
+    if at < tree.len() {
+        let items = Vec::from_array(alloc, [Entry(number)])?;
+        tree.replace(alloc, at, at + 1, items, steps)?;
+    }
+    Ok(())
+}
+
+/// Replaces items at random places, one at a time. It gives the number at the last place.
+pub fn replace_each(
+    alloc: Global,
+    tree: &mut SumTree<Entry>,
+    times: u32,
+    steps: &mut Steps,
+) -> Result<u64, NoMemory> {
+    let mut numbers = Numbers(1);
+    let mut at = 0;
+    for number in 0..times {
+        at = numbers.below(tree.len());
+        replace_one(alloc, tree, at, number, steps)?;
+    }
+    Ok(tree.get(at, steps).map_or(0, |entry| entry.0 as u64))
+}
+
+/// Shares the tree and changes the copy, over and over. It gives the number of copies.
+pub fn change_copies(
+    alloc: Global,
+    tree: &SumTree<Entry>,
+    times: u32,
+    steps: &mut Steps,
+) -> Result<u64, NoMemory> {
+    let mut numbers = Numbers(1);
+    for number in 0..times {
+        let mut copy = tree.share()?;
+        replace_one(alloc, &mut copy, numbers.below(tree.len()), number, steps)?;
+    }
+    Ok(times as u64)
+}
