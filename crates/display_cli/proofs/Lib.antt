@@ -1,0 +1,11 @@
+pub mod Snoc
+pub mod LastLine
+pub mod Next
+pub mod Rounds
+pub mod GoingOn
+pub mod Results
+pub mod Fronts
+pub mod Lines
+pub mod Handled
+pub mod Played
+pub mod Headline

@@ -1,0 +1,301 @@
+-- Which event may come next in a legal history.
+use Rattle.std.proofs.Common.{◌≡◌, ℕ, ◌⊎◌, inl, inr, true, false, List, [], ◌∷◌, ◌++◌, Option, Some, None, refl, sym, ap, ◌∙◌, subst, true≢false}
+use Rattle.std.specs.Option.{option_map}
+use Rattle.std.specs.List.{last_or, list_any}
+use Rattle.std.proofs.lemmas.List.{append-nil}
+use Rattle.display_map.specs.declared.change.Op.{Op}
+use Rattle.display_map.specs.declared.change.Splice.{Splice}
+use Rattle.display_map.specs.declared.event.Event.{Event}
+use Rattle.display_map.specs.declared.event.Event.TheVariants.{Line, Did, Sent, Landed, Published}
+use Rattle.display_map.specs.Changes.{batch}
+use Rattle.display_map.specs.Replay.{State, waits, is_settled, job_numbered}
+use Rattle.edit_script.specs.Commands.{Edit}
+use Rattle.edit_script.specs.Verdict.{Accepted}
+use Rattle.display_cli.specs.Legal.{Opens, TakesNextLine, IsChanging, IsChanged, DoesChanges, PublishesLandings, IsSend, Sends, LandsOnce, AnswersSettled, KeepsBusy, IsDone, Ends, IsLegalSoFar, after, next_line, next_verdict, is_landed, is_end}
+use Rattle.display_cli.specs.Going.{IsFree}
+use Rattle.display_cli.proofs.Snoc.{AtEach-snoc, last-snoc, any-snoc}
+use Rattle.display_cli.proofs.LastLine.{dids, is_change, same-end, end-changes, end-not-empty, append-same}
+
+-- all that a legal history asks of its next event, with one worker
+pub record IsNext (text script : List ℕ) (past : List Event) (e : Event) : Type 0 where
+  pub opening : Opens past e
+  pub lines_in_order : TakesNextLine script past e
+  pub changes : DoesChanges text script past e
+  pub landings : PublishesLandings text script past e
+  pub sends : Sends text 1 past e
+  pub once : LandsOnce text past e
+  pub settled : AnswersSettled text script past e
+  pub busy : KeepsBusy text 1 past e
+  pub ending : Ends text script past e
+
+pub legal-snoc :
+    (text script : List ℕ) (h : List Event) (e : Event)
+    → IsLegalSoFar text script 1 h → IsNext text script h e → IsLegalSoFar text script 1 (h ++ e ∷ [])
+legal-snoc text script h e legal next =
+    record {
+      opening = AtEach-snoc Opens h e legal.opening next.opening;
+      lines_in_order = AtEach-snoc (TakesNextLine script) h e legal.lines_in_order next.lines_in_order;
+      changes = AtEach-snoc (DoesChanges text script) h e legal.changes next.changes;
+      landings = AtEach-snoc (PublishesLandings text script) h e legal.landings next.landings;
+      sends = AtEach-snoc (Sends text 1) h e legal.sends next.sends;
+      once = AtEach-snoc (LandsOnce text) h e legal.once next.once;
+      settled = AtEach-snoc (AnswersSettled text script) h e legal.settled next.settled;
+      busy = AtEach-snoc (KeepsBusy text 1) h e legal.busy next.busy;
+      ending = AtEach-snoc (Ends text script) h e legal.ending next.ending;
+    }
+
+-- behind an event that is neither a line nor an operation no change is under way
+pub not-changing :
+    (text script : List ℕ) (h : List Event) (e : Event) → is_change e ≡ false
+    → (done rest : List Op) → IsChanging text script (h ++ e ∷ []) done rest → ⊥
+not-changing text script h e plain done rest c =
+    true≢false (sym (end-changes h e c.past c.number done c.ends) ∙ plain)
+
+pub free-snoc :
+    (text script : List ℕ) (h : List Event) (e : Event)
+    → is_change e ≡ false → is_landed (Some e) ≡ false → is_end e ≡ false → list_any is_end h ≡ false
+    → IsFree text script (h ++ e ∷ [])
+free-snoc text script h e plain unlanded goes_on before =
+    record {
+      begun = end-not-empty h e [];
+      unchanging = λ done rest op c. not-changing text script h e plain done (op ∷ rest) c;
+      unchanged = λ c. not-changing text script h e plain (c.0 ∷ c.1) [] c.2;
+      unlanded = ap is_landed (last-snoc None h e) ∙ unlanded;
+      goes_on = any-snoc is_end h e ∙ (cc);
+    }
+
+line-same : (a b : ℕ) → Line a ≡ Line b → a ≡ b
+line-same a b e = cc
+
+did-same : (a b : Op) → Did a ≡ Did b → a ≡ b
+did-same a b e = cc
+
+edit-same : (a b : List Splice) → Some (Accepted (Edit a)) ≡ Some (Accepted (Edit b)) → a ≡ b
+edit-same a b e = cc
+
+-- the first event publishes version 0
+pub next-opening : (text script : List ℕ) → IsNext text script [] (Published false)
+next-opening text script =
+    record {
+      opening = λ _. refl;
+      lines_in_order = λ number e. cc;
+      changes = record {
+        goes_on = λ done rest op c. absurd (end-not-empty c.past (Line c.number) (dids done) (sym c.ends));
+        publishes = λ c. refl;
+        only = λ op e. cc;
+      };
+      landings = record { publishes = λ e. refl; only = λ e. inl refl };
+      sends = λ job first count e. cc;
+      once = λ job e. cc;
+      settled = λ number e q. cc;
+      busy = λ number e. cc;
+      ending = record { is_done = λ e. cc; none_behind = refl };
+    }
+
+-- the parts of a send, as a fact about an event
+IsSendAt : State → Event → Type 0
+IsSendAt s (Sent job first count) = IsSend 1 s job first count
+IsSendAt s _ = Unit {0}
+
+-- where no event is owed, a run that waits may be sent
+pub next-sent :
+    (text script : List ℕ) (h : List Event) (job first count : ℕ)
+    → IsFree text script h → IsSend 1 (after text h) job first count → IsNext text script h (Sent job first count)
+unfolding IsSendAt
+next-sent text script h job first count free send =
+    record {
+      opening = λ e. absurd (free.begun e);
+      lines_in_order = λ number e. cc;
+      changes = record {
+        goes_on = λ done rest op c. absurd (free.unchanging done rest op c);
+        publishes = λ c. absurd (free.unchanged c);
+        only = λ op e. cc;
+      };
+      landings = record {
+        publishes = λ e. absurd (true≢false (sym e ∙ free.unlanded));
+        only = λ e. cc;
+      };
+      sends = λ j f c e. let P : Event → Type 0 = IsSendAt (after text h) in subst P e send;
+      once = λ j e. cc;
+      settled = λ number e q. cc;
+      busy = λ number e. cc;
+      ending = record { is_done = λ e. cc; none_behind = free.goes_on };
+    }
+
+job-is : State → Event → Type 0
+job-is s (Landed job) = option_map (λ j. j.landed) (job_numbered job s.jobs) ≡ Some false
+job-is s _ = Unit {0}
+
+-- where no event is owed, a job that is outstanding may land
+pub next-landed :
+    (text script : List ℕ) (h : List Event) (job : ℕ)
+    → IsFree text script h → option_map (λ j. j.landed) (job_numbered job (after text h).jobs) ≡ Some false
+    → IsNext text script h (Landed job)
+unfolding job-is
+next-landed text script h job free out =
+    record {
+      opening = λ e. absurd (free.begun e);
+      lines_in_order = λ number e. cc;
+      changes = record {
+        goes_on = λ done rest op c. absurd (free.unchanging done rest op c);
+        publishes = λ c. absurd (free.unchanged c);
+        only = λ op e. cc;
+      };
+      landings = record {
+        publishes = λ e. absurd (true≢false (sym e ∙ free.unlanded));
+        only = λ e. cc;
+      };
+      sends = λ j f c e. cc;
+      once = λ j e. let P : Event → Type 0 = job-is (after text h) in subst P e out;
+      settled = λ number e q. cc;
+      busy = λ number e. cc;
+      ending = record { is_done = λ e. cc; none_behind = free.goes_on };
+    }
+
+-- where a version is owed and no operation is, it may be published
+pub next-published :
+    (text script : List ℕ) (h : List Event)
+    → ((done rest : List Op) (op : Op) → IsChanging text script h done (op ∷ rest) → ⊥)
+    → IsChanged text script h ⊎ (is_landed (last_or None h) ≡ true) → list_any is_end h ≡ false
+    → IsNext text script h (Published false)
+next-published text script h unchanging owed goes_on =
+    record {
+      opening = λ e. refl;
+      lines_in_order = λ number e. cc;
+      changes = record {
+        goes_on = λ done rest op c. absurd (unchanging done rest op c);
+        publishes = λ c. refl;
+        only = λ op e. cc;
+      };
+      landings = record { publishes = λ e. refl; only = λ e. inr owed };
+      sends = λ j f c e. cc;
+      once = λ j e. cc;
+      settled = λ number e q. cc;
+      busy = λ number e. cc;
+      ending = record { is_done = λ e. cc; none_behind = goes_on };
+    }
+
+-- where no event is owed and all is done, the last version may be published
+pub next-last :
+    (text script : List ℕ) (h : List Event)
+    → IsFree text script h → IsDone text script h → IsNext text script h (Published true)
+next-last text script h free is_done =
+    record {
+      opening = λ e. absurd (free.begun e);
+      lines_in_order = λ number e. cc;
+      changes = record {
+        goes_on = λ done rest op c. absurd (free.unchanging done rest op c);
+        publishes = λ c. absurd (free.unchanged c);
+        only = λ op e. cc;
+      };
+      landings = record {
+        publishes = λ e. absurd (true≢false (sym e ∙ free.unlanded));
+        only = λ e. cc;
+      };
+      sends = λ j f c e. cc;
+      once = λ j e. cc;
+      settled = λ number e q. cc;
+      busy = λ number e. cc;
+      ending = record { is_done = λ e. is_done; none_behind = free.goes_on };
+    }
+
+-- where no event is owed, all stands wrapped and no line waits, the next line may be handled
+pub next-line-event :
+    (text script : List ℕ) (h : List Event) (number : ℕ)
+    → IsFree text script h → option_map (λ l. l.0) (next_line script h) ≡ Some number
+    → is_settled (after text h).present ≡ true
+    → list_any (waits (after text h)) (after text h).present.marks ≡ false
+    → IsNext text script h (Line number)
+next-line-event text script h number free line settled calm =
+    record {
+      opening = λ e. absurd (free.begun e);
+      lines_in_order = λ n e. line ∙ ap Some (line-same number n e);
+      changes = record {
+        goes_on = λ done rest op c. absurd (free.unchanging done rest op c);
+        publishes = λ c. absurd (free.unchanged c);
+        only = λ op e. cc;
+      };
+      landings = record {
+        publishes = λ e. absurd (true≢false (sym e ∙ free.unlanded));
+        only = λ e. cc;
+      };
+      sends = λ j f c e. cc;
+      once = λ j e. cc;
+      settled = λ n e q. settled;
+      busy = λ n e. inl calm;
+      ending = record { is_done = λ e. cc; none_behind = free.goes_on };
+    }
+
+-- what is known behind the line of an accepted change and some of its operations
+module _ (text script : List ℕ) (past : List Event) (number : ℕ) (splices : List Splice) where
+  same-rest :
+      (done done' rest rest' : List Op)
+      → next_verdict text script past ≡ Some (Accepted (Edit splices)) → batch splices ≡ done ++ rest
+      → IsChanging text script (past ++ (Line number ∷ dids done)) done' rest' → rest ≡ rest'
+  same-rest done done' rest rest' accepted operations c =
+      let same = same-end past c.past number c.number done done' c.ends in
+      let pasts : past ≡ c.past = same.past in
+      let dones : done ≡ done' = same.done in
+      let verdicts : Some (Accepted (Edit splices)) ≡ Some (Accepted (Edit c.splices)) =
+      sym accepted ∙ (ap (next_verdict text script) pasts ∙ c.accepted) in
+      let batches : done ++ rest ≡ done' ++ rest' = sym operations ∙ (ap batch (edit-same splices c.splices verdicts) ∙ c.operations) in
+      let aligned : done ++ rest ≡ done ++ rest' = batches ∙ ap (λ d. d ++ rest') (sym dones) in
+      append-same done rest rest' aligned
+
+  pub not-done :
+      (done rest : List Op) (op : Op)
+      → next_verdict text script past ≡ Some (Accepted (Edit splices)) → batch splices ≡ done ++ (op ∷ rest)
+      → IsChanged text script (past ++ (Line number ∷ dids done)) → ⊥
+  not-done done rest op accepted operations c =
+      let e : (op ∷ rest) ≡ [] = same-rest done (c.0 ∷ c.1) (op ∷ rest) [] accepted operations c.2 in cc
+
+  pub all-done :
+      (done rest : List Op) (op : Op) (done' : List Op)
+      → next_verdict text script past ≡ Some (Accepted (Edit splices)) → batch splices ≡ done
+      → IsChanging text script (past ++ (Line number ∷ dids done)) done' (op ∷ rest) → ⊥
+  all-done done rest op done' accepted operations c =
+      let e : [] ≡ (op ∷ rest) = same-rest done done' [] (op ∷ rest) accepted (operations ∙ sym (append-nil done)) c in cc
+
+  only-op :
+      (done done' rest rest' : List Op) (op op' : Op)
+      → next_verdict text script past ≡ Some (Accepted (Edit splices)) → batch splices ≡ done ++ (op ∷ rest)
+      → IsChanging text script (past ++ (Line number ∷ dids done)) done' (op' ∷ rest') → Did op ≡ Did op'
+  only-op done done' rest rest' op op' accepted operations c =
+      let e : (op ∷ rest) ≡ (op' ∷ rest') = same-rest done done' (op ∷ rest) (op' ∷ rest') accepted operations c in
+      let it : op ≡ op' = cc in ap (λ o. Did o) it
+
+  unlanded-dids : (o : Option Event) (done : List Op) → is_landed o ≡ false → is_landed (last_or o (dids done)) ≡ false
+  unlanded-dids o [] e = e
+  unlanded-dids o (x ∷ done) e = unlanded-dids (Some (Did x)) done refl
+
+  unlanded-behind : (o : Option Event) (h : List Event) (done : List Op) → is_landed (last_or o (h ++ (Line number ∷ dids done))) ≡ false
+  unlanded-behind o [] done = unlanded-dids (Some (Line number)) done refl
+  unlanded-behind o (x ∷ h) done = unlanded-behind (Some x) h done
+
+  unlanded : (done : List Op) → is_landed (last_or None (past ++ (Line number ∷ dids done))) ≡ false
+  unlanded done = unlanded-behind None past done
+
+  pub next-did :
+      (done rest : List Op) (op : Op)
+      → next_verdict text script past ≡ Some (Accepted (Edit splices)) → batch splices ≡ done ++ (op ∷ rest)
+      → list_any is_end (past ++ (Line number ∷ dids done)) ≡ false
+      → IsNext text script (past ++ (Line number ∷ dids done)) (Did op)
+  next-did done rest op accepted operations goes_on =
+      record {
+        opening = λ e. absurd (end-not-empty past (Line number) (dids done) e);
+        lines_in_order = λ n e. cc;
+        changes = record {
+          goes_on = λ done' rest' op' c. only-op done done' rest rest' op op' accepted operations c;
+          publishes = λ c. absurd (not-done done rest op accepted operations c);
+          only = λ op' e. (done, rest, record { past = past; number = number; splices = splices; ends = refl; accepted = accepted; operations = operations ∙ ap (λ o. done ++ (o ∷ rest)) (did-same op op' e) });
+        };
+        landings = record {
+          publishes = λ e. absurd (true≢false (sym e ∙ unlanded done));
+          only = λ e. cc;
+        };
+        sends = λ j f c e. cc;
+        once = λ j e. cc;
+        settled = λ n e q. cc;
+        busy = λ n e. cc;
+        ending = record { is_done = λ e. cc; none_behind = goes_on };
+      }

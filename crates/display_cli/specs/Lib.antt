@@ -1,0 +1,10 @@
+pub mod Outside
+pub mod Words
+pub mod Legal
+pub mod Output
+pub mod Ended
+pub mod Reading
+pub mod Going
+pub mod Opening
+pub mod Named
+pub mod Notes

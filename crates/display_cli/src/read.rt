@@ -1,0 +1,103 @@
+//! Reading the text and the script.
+ghost use Rattle.std.specs.Prelude.{◌≡◌, ◌+◌, ◌<◌, ◌≤◌, ◌^◌, ℕ, List, length, take, IfOk, OnOk, IfErr, OnErr, IfSome};
+ghost use Rattle.display_cli.specs.Outside.{Faults, faults_of, other, HasRisen, AreTold};
+ghost use Rattle.display_cli.specs.Reading.{HasFront, IsWholeWithin, IsUnread};
+
+use crate::outside::{Failed, Inputs, Part};
+use cell_units::NoMemory;
+use std::alloc::{AllocError, Global};
+
+/// How many bytes are asked for at a time.
+const PIECE: usize = 65_536;
+
+/// Why a part wasn't read to its end.
+#[derive(Clone, Copy, Debug, PartialEq, Eq)]
+pub(crate) enum Unread {
+    /// A read failed.
+    Failed,
+    /// It is longer than its limit.
+    TooLong,
+    /// There was no memory.
+    NoMemory,
+}
+
+impl From<Failed> for Unread {
+    ghost use Rattle.std.specs.Prelude.{◌≡◌};
+    ghost use Rattle.display_cli.specs.declared.read.Unread.TheVariants as ends;
+
+    ghost from_gives = { λ _ e. e ≡ ends.Failed };
+
+    fn from(_error: Failed) -> Unread {
+        Unread::Failed
+    }
+}
+
+impl From<AllocError> for Unread {
+    ghost use Rattle.std.specs.Prelude.{◌≡◌};
+    ghost use Rattle.display_cli.specs.declared.read.Unread.TheVariants as ends;
+
+    ghost from_gives = { λ _ e. e ≡ ends.NoMemory };
+
+    fn from(_error: AllocError) -> Unread {
+        Unread::NoMemory
+    }
+}
+
+/// Room for so many bytes.
+fn zeros(alloc: Global, size: usize) -> Result<Vec<u8>, AllocError>
+    ensures { IfOk result (λ room. length room.items ≡ size) }
+{
+    vec![in alloc; 0u8; size]
+}
+
+/// Reads the next bytes of a name behind those that were read, up to one more than the limit, and answers how many.
+fn read_more<I: Inputs>(
+    inputs: &mut I,
+    part: Part,
+    name: &str,
+    limit: usize,
+    room: &mut [u8],
+    bytes: &mut Vec<u8>,
+) -> Result<usize, Unread>
+    requires some { 0 < length room.old }
+    requires within { length bytes.old.items ≤ limit }
+    requires limit { limit < 2 ^ 32 }
+    requires front { HasFront (I.told inputs.old name.now) bytes.old.items }
+    ensures grows { IfOk result (λ n. length bytes.new.items ≡ length bytes.old.items + n) }
+    ensures within { OnOk result (length bytes.new.items ≤ limit + 1) }
+    ensures front { OnOk result (HasFront (I.told inputs.old name.now) bytes.new.items) }
+    ensures end { IfOk result (λ n. n ≡ 0 → AreTold (I.told inputs.old name.now) bytes.new.items) }
+    ensures failed { IfErr result (IsUnread (I.told inputs.old name.now) limit (faults_of (I.faults inputs.old) part) (faults_of (I.faults inputs.new) part)) }
+    ensures rises { faults_of (I.faults inputs.old) part ≤ faults_of (I.faults inputs.new) part }
+    ensures tells { (other_name : List ℕ) → I.told inputs.new other_name ≡ I.told inputs.old other_name }
+    ensures stays { faults_of (I.faults inputs.new) (other part) ≡ faults_of (I.faults inputs.old) (other part) }
+{
+    let asked = (limit + 1 - bytes.len()).min(room.len());
+    let count = inputs.read(part, name, bytes.len() as u64, &mut room[..asked])?;
+    bytes.extend_from_slice(&room[..count])?;
+    Ok(count)
+}
+
+/// The bytes of a name, if it has no more than the limit.
+pub(crate) fn read_whole<I: Inputs>(
+    alloc: Global,
+    inputs: &mut I,
+    part: Part,
+    name: &str,
+    limit: usize,
+) -> Result<Vec<u8>, Unread>
+    requires { limit < 2 ^ 32 }
+    ensures whole { IfOk result (λ bytes. IsWholeWithin (I.told inputs.old name.now) limit bytes.items) }
+    ensures failed { IfErr result (IsUnread (I.told inputs.old name.now) limit (faults_of (I.faults inputs.old) part) (faults_of (I.faults inputs.new) part)) }
+    ensures tells { (other_name : List ℕ) → I.told inputs.new other_name ≡ I.told inputs.old other_name }
+    ensures stays { faults_of (I.faults inputs.new) (other part) ≡ faults_of (I.faults inputs.old) (other part) }
+{
+    let mut room = zeros(alloc, PIECE)?;
+    let mut bytes = Vec::new(alloc);
+    while bytes.len() <= limit {
+        if read_more(inputs, part, name, limit, room.as_mut_slice(), &mut bytes)? == 0 {
+            return Ok(bytes);
+        }
+    }
+    Err(Unread::TooLong)
+}

@@ -1,0 +1,86 @@
+-- The events of a batch, from its last splice to its first.
+use Rattle.std.proofs.Common.{◌≡◌, ℕ, ◌+◌, ◌-◌, ◌<◌, ◌≤◌, zero, suc, cond, Bool, true, false, List, [], ◌∷◌, ◌++◌, length, map, reverse, drop, get_or, refl, sym, ap, ◌∙◌, arith, append_assoc, append-nil, length-append}
+use Rattle.std.specs.List.{filter}
+use Rattle.std.proofs.lemmas.List.{length-map, map-append, reverse-append, drop_all, drop_more}
+use Rattle.display_map.specs.declared.change.Splice.{Splice}
+use Rattle.display_map.specs.declared.change.Op.{Op}
+use Rattle.display_map.specs.declared.change.Op.TheVariants.{Replace}
+use Rattle.display_map.specs.declared.event.Event.{Event}
+use Rattle.display_map.specs.declared.event.Event.TheVariants.{Did}
+use Rattle.display_map.specs.Changes.{batch, is_operation}
+use Rattle.display_map.specs.Splicing.{did_events}
+
+batch-cons : (s : Splice) (splices : List Splice) → batch (s ∷ splices) ≡ batch splices ++ cond (is_operation s) (Replace s ∷ []) []
+batch-cons s splices = go (is_operation s) where
+  rest : List Splice
+  rest = filter is_operation splices
+
+  go : (b : Bool) → map (λ t. Replace t) (reverse (cond b (s ∷ rest) rest)) ≡ map (λ t. Replace t) (reverse rest) ++ cond b (Replace s ∷ []) []
+  go true = ap (map (λ (t : Splice). Replace t)) (reverse-append (s ∷ []) rest) ∙ map-append (λ (t : Splice). Replace t) (reverse rest) (s ∷ [])
+  go false = sym (append-nil (map (λ (t : Splice). Replace t) (reverse rest)))
+
+did-cons : (s : Splice) (splices : List Splice) → did_events (s ∷ splices) ≡ did_events splices ++ cond (is_operation s) (Did (Replace s) ∷ []) []
+did-cons s splices =
+    ap (map (λ (op : Op). Did op)) (batch-cons s splices)
+    ∙ map-append (λ (op : Op). Did op) (batch splices) (cond (is_operation s) (Replace s ∷ []) [])
+    ∙ go (is_operation s) where
+      go : (b : Bool) → did_events splices ++ map (λ op. Did op) (cond b (Replace s ∷ []) []) ≡ did_events splices ++ cond b (Did (Replace s) ∷ []) []
+      go true = refl
+      go false = refl
+
+one_before : (splices : List Splice) (i : ℕ) (s : Splice) → 0 < i → i ≤ length splices → s ≡ get_or splices (i - 1) s → drop (i - 1) splices ≡ s ∷ drop i splices
+one_before splices i s some le is =
+    let next : i - 1 + 1 ≡ i = omega arith in
+    drop_more splices (i - 1) s (omega arith) ∙ (λ k. sym is k ∷ drop (next k) splices)
+
+pub did-pushed : (old journal journal' : List Event) (splices : List Splice) (i : ℕ) (s : Splice) → 0 < i → i ≤ length splices →
+    s ≡ get_or splices (i - 1) s → is_operation s ≡ true → journal ≡ old ++ did_events (drop i splices) → journal' ≡ journal ++ Did (Replace s) ∷ [] →
+    journal' ≡ old ++ did_events (drop (i - 1) splices)
+did-pushed old journal journal' splices i s some le is op before pushed =
+    pushed
+    ∙ ap (λ (l : List Event). l ++ Did (Replace s) ∷ []) before
+    ∙ append_assoc old (did_events (drop i splices)) (Did (Replace s) ∷ [])
+    ∙ ap (λ (l : List Event). old ++ l)
+    (ap (λ (b : Bool). did_events (drop i splices) ++ cond b (Did (Replace s) ∷ []) []) (sym op)
+    ∙ sym (did-cons s (drop i splices))
+    ∙ ap did_events (sym (one_before splices i s some le is)))
+
+pub did-passed : (old journal : List Event) (splices : List Splice) (i : ℕ) (s : Splice) → 0 < i → i ≤ length splices →
+    s ≡ get_or splices (i - 1) s → is_operation s ≡ false → journal ≡ old ++ did_events (drop i splices) →
+    journal ≡ old ++ did_events (drop (i - 1) splices)
+did-passed old journal splices i s some le is op before =
+    before
+    ∙ ap (λ (l : List Event). old ++ l)
+    (sym (append-nil (did_events (drop i splices)))
+    ∙ ap (λ (b : Bool). did_events (drop i splices) ++ cond b (Did (Replace s) ∷ []) []) (sym op)
+    ∙ sym (did-cons s (drop i splices))
+    ∙ ap did_events (sym (one_before splices i s some le is)))
+
+length-batch : (s : Splice) (splices : List Splice) → length (batch (s ∷ splices)) ≡ length (batch splices) + cond (is_operation s) 1 0
+length-batch s splices = ap length (batch-cons s splices) ∙ length-append (batch splices) (cond (is_operation s) (Replace s ∷ []) []) ∙ ap (λ (n : ℕ). length (batch splices) + n) (go (is_operation s)) where
+  go : (b : Bool) → length (cond b (Replace s ∷ []) []) ≡ cond b 1 0
+  go true = refl
+  go false = refl
+
+batch-le : (splices : List Splice) (k : ℕ) → length (batch (drop k splices)) ≤ length (batch splices)
+batch-le splices zero = omega arith
+batch-le [] (suc k) = omega arith
+batch-le (s ∷ splices) (suc k) = omega (arith, batch-le splices k, length-batch s splices)
+
+pub room_for_one : (old journal : List Event) (splices : List Splice) (i : ℕ) (s : Splice) → 0 < i → i ≤ length splices →
+    s ≡ get_or splices (i - 1) s → is_operation s ≡ true → journal ≡ old ++ did_events (drop i splices) →
+    length journal + 1 ≤ length old + length (batch splices)
+room_for_one old journal splices i s some le is op before =
+    omega (
+      arith,
+      ap length before,
+      length-append old (did_events (drop i splices)),
+      length-map (batch (drop i splices)) (λ (op : Op). Did op),
+      batch-le splices (i - 1),
+      ap (λ (l : List Splice). length (batch l)) (one_before splices i s some le is),
+      length-batch s (drop i splices),
+      ap {B = ℕ} (λ (b : Bool). cond b 1 0) op,
+    )
+
+pub did-none : (old : List Event) (splices : List Splice) (i : ℕ) → i ≡ length splices → old ≡ old ++ did_events (drop i splices)
+did-none old splices i e = sym (append-nil old) ∙ ap (λ (l : List Splice). old ++ did_events l) (sym (drop_all i splices (omega arith)))

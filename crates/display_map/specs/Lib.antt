@@ -1,0 +1,9 @@
+pub mod Changes
+pub mod LineStep
+pub mod Replay
+pub mod Shown
+pub mod Faults
+pub mod Kept
+pub mod LineEnds
+pub mod Sending
+pub mod Splicing

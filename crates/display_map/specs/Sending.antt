@@ -1,0 +1,44 @@
+-- Jobs that a display sends and takes back.
+use Rattle.std.specs.Prelude.{ℕ, ◌≡◌, ◌+◌, ◌==◌, Bool, true, false, List, [], ◌∷◌, ◌++◌, length, Option, Some, None}
+use Rattle.std.specs.List.{list_any}
+use Rattle.cell_line.specs.declared.element.Element.{Element}
+use Rattle.plain_rows.specs.Rows.{line_elements}
+use Rattle.wrap_workers.specs.Jobs.{JobParts}
+use Rattle.display_map.specs.declared.event.Event.{Event}
+use Rattle.display_map.specs.declared.event.Event.TheVariants.{Line, Did, Sent, Landed, Published}
+use Rattle.display_map.specs.Replay.{History, state_of, present_of, appended, next_run}
+
+-- the event that sends a job
+abbrev pub sending : JobParts (List (List Element)) → Event
+sending job = Sent job.number job.run.first job.run.count
+
+-- the job was sent: it has the next number and the next run, the present width and the present lines
+pub record IsSent (before after : History) (job : JobParts (List (List Element))) : Type 0 where
+  pub run_is : next_run (state_of before) ≡ Some job.run
+  pub number_is : job.number ≡ length (state_of before).jobs + 1
+  pub width_is : job.width ≡ (present_of before).width
+  pub lines_are : job.lines ≡ line_elements (present_of before)
+  pub event_is : after ≡ appended before (sending job ∷ [])
+
+-- a job was sent, or no line waits and nothing happened
+abbrev pub IsRunTaken : History → History → Option (JobParts (List (List Element))) → Type 0
+IsRunTaken before after None = (next_run (state_of before) ≡ None) × (after ≡ before)
+IsRunTaken before after (Some job) = IsSent before after job
+
+abbrev pub is_landing : ℕ → Event → Bool
+is_landing number (Landed job) = job == number
+is_landing number _ = false
+
+abbrev pub is_did : Event → Bool
+is_did (Did op) = true
+is_did _ = false
+
+-- the display of the history sent the job, which hasn't landed, and no operation was done since
+pub record IsOutstanding (h : History) (job : JobParts (List (List Element))) : Type 0 where
+  pub before : List Event
+  pub after : List Event
+  pub events_are : h.events ≡ before ++ sending job ∷ after
+  pub width_is : job.width ≡ (present_of (record { opening = h.opening; events = before })).width
+  pub lines_are : job.lines ≡ line_elements (present_of (record { opening = h.opening; events = before }))
+  pub not_landed : list_any (is_landing job.number) after ≡ false
+  pub nothing_done : list_any is_did after ≡ false

@@ -1,0 +1,16 @@
+-- The rows that a view gives.
+use Rattle.std.specs.Prelude.{ℕ, Option, Some, None}
+use Rattle.plain_rows.specs.Rows.{Row, head_kind, more_kind, block_kind}
+use Rattle.display_map.specs.declared.shown.Kind.{Kind}
+use Rattle.display_map.specs.declared.shown.Kind.TheVariants.{Head, More, Block}
+use Rattle.display_map.specs.declared.shown.Shown.{Shown}
+
+abbrev pub letter_of : Kind → ℕ
+letter_of Head = head_kind
+letter_of More = more_kind
+letter_of Block = block_kind
+
+-- the row that is shown, if one is
+abbrev pub shown_row : Option Shown → Option Row
+shown_row None = None
+shown_row (Some shown) = Some (record { kind = letter_of shown.kind; text = shown.text })

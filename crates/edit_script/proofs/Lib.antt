@@ -1,0 +1,5 @@
+mod Forms
+mod Lines
+mod RowLines
+mod Writing
+pub mod Verdicts

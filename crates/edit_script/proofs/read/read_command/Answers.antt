@@ -1,0 +1,14 @@
+-- What was read of a line decides its command.
+use Rattle.std.proofs.Common.{◌∙◌, sym, true≢false}
+use Rattle.std.proofs.lemmas.Result.{IfOk-weaker}
+use Rattle.serde_json.specs.View.{view}
+use Rattle.edit_script.proofs.Lines.{command_of-read, command_of-unread}
+use Rattle.edit_script.proofs.read.read_command.Goals as goal
+
+pub returns-in-Ok : goal.returns-in-Ok
+returns-in-Ok c =
+    let read = c.in-Ok.ensures.ok in
+    IfOk-weaker c.command_in.result _ _ (λ asked e. e ∙ command_of-read c.args.line.now (view c.in-Ok.value) read.0 read.1) c.command_in.ensures
+
+pub returns-else-is_memory : goal.returns-else-is_memory
+returns-else-is_memory c = let f = c.if-is_memory.ensures in command_of-unread c.args.line.now (λ utf8. c.in-Err.ensures.err (λ m. true≢false (sym (f.1 m))) utf8)

@@ -1,0 +1,4 @@
+pub mod Commands
+pub mod Verdict
+pub mod Printed
+pub mod Laws
