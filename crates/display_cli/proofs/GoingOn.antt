@@ -1,10 +1,13 @@
 -- A run goes on over events that are no lines.
-use Rattle.std.proofs.Common.{◌≡◌, ℕ, zero, suc, ◌+◌, ◌<◌, ◌≤◌, inl, inr, Bool, true, false, List, [], ◌∷◌, ◌++◌, length, take, drop, Option, Some, None, refl, sym, ap, ◌∙◌, subst, append_assoc, arith}
+use Rattle.std.proofs.Common.{◌≡◌, ℕ, zero, suc, ◌+◌, ◌<◌, ◌≤◌, inl, inr, Bool, true, false, List, [], ◌∷◌, ◌++◌, length, take, drop, Option, Some, None, refl, sym, ap, ◌∙◌, subst, append_assoc, arith, ◌⊎◌}
 use Rattle.std.specs.Prelude.{◌||◌}
 use Rattle.std.specs.Option.{option_map}
 use Rattle.std.specs.List.{list_any}
 use Rattle.std.proofs.lemmas.List.{append-nil}
+use Rattle.cell_line.specs.declared.element.Element.{Element}
 use Rattle.cell_line.specs.declared.lines.Run.{Run}
+use Rattle.wrap_workers.specs.Jobs.{JobParts}
+use Rattle.display_map.specs.Sending.{IsSent, IsRunTaken}
 use Rattle.display_map.specs.declared.event.Event.{Event}
 use Rattle.display_map.specs.declared.event.Event.TheVariants.{Sent, Landed, Published}
 use Rattle.display_map.specs.Replay.{History, State, state_of, appended, next_run, job_numbered}
@@ -170,3 +173,28 @@ cut-stopped course left refused taken old new stops.JournalFull stopped over goi
     subst P (sym stopped.1) (going-cut course left refused taken old going)
 cut-stopped course left refused taken old new stops.Memory stopped over going =
     cut-within course left refused taken old new stopped over going
+
+-- a job that was sent and didn't land, or of which no version was published
+pub within-round : (old mid new : History) (job : JobParts (List (List Element))) → IsSent old mid job
+    → (new ≡ mid) ⊎ (new ≡ appended mid (Landed job.number ∷ [])) → IsWithinRound old new
+within-round old mid new job sent how =
+    let sent_one : ℕ → List Event = λ n. Sent n job.run.first job.run.count ∷ [] in
+    let one : mid ≡ appended old (sent_one (length (state_of old).jobs + 1)) =
+    sent.event_is ∙ ap (λ n. appended old (sent_one n)) sent.number_is in
+    elim how [
+      | inl e ↦ inr (job.run, 1, omega arith, sent.run_is, e ∙ one)
+      | inr e ↦ inr (
+        job.run,
+        2,
+        omega arith,
+        sent.run_is,
+        e ∙ (ap (λ n. appended mid (Landed n ∷ [])) sent.number_is
+            ∙ (ap (λ h. appended h (Landed (length (state_of old).jobs + 1) ∷ [])) one
+            ∙ ap (λ l. record { opening = old.opening; events = l })
+            (append_assoc old.events (sent_one (length (state_of old).jobs + 1)) (Landed (length (state_of old).jobs + 1) ∷ [])))),
+      )
+    ]
+
+pub sent-some : (old mid : History) (o : Option (JobParts (List (List Element)))) (job : JobParts (List (List Element)))
+    → IsRunTaken old mid o → o ≡ Some job → IsSent old mid job
+sent-some old mid o job taken e = let P : Option (JobParts (List (List Element))) → Type 0 = IsRunTaken old mid in subst P e taken

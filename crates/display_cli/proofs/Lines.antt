@@ -1,5 +1,5 @@
 -- A run goes on over the lines of its script.
-use Rattle.std.proofs.Common.{◌≡◌, ℕ, zero, suc, ◌≤◌, inl, Bool, true, false, List, [], ◌∷◌, ◌++◌, reverse, length, drop, Option, Some, None, refl, sym, ap, ◌∙◌, subst, append_assoc, arith, add-one}
+use Rattle.std.proofs.Common.{◌≡◌, ℕ, zero, suc, ◌≤◌, inl, Bool, true, false, List, [], ◌∷◌, ◌++◌, reverse, length, drop, Option, Some, None, refl, sym, ap, ◌∙◌, subst, append_assoc, arith, add-one, ◌+◌, ◌<◌}
 use Rattle.std.specs.Prelude.{◌||◌, slice_get}
 use Rattle.std.specs.Option.{option_map}
 use Rattle.std.specs.List.{list_any, list_all, filter, fold}
@@ -300,3 +300,14 @@ module _ (course : Course) (number : ℕ) (line : List ℕ) (left : List (ℕ ×
             written = subst W (sym (quiet.output ∙ (here ∙ (ap (λ l. output text script past ++ printed l) no-answer ∙ append-nil (output text script past))))) going.written;
             refusals = quiet.refused ∙ (its-refusals course number line left refused taken h going ∙ ap (λ v. refused || is_refused (Some v)) accepted);
           }
+
+-- where the journal grew by the operations of a change, there was one
+pub changed-more : (old mid new : History) (ops : List Op) (room left limit : ℕ) → mid ≡ appended old (dids ops) → new ≡ appended mid (Published false ∷ [])
+    → room + length old.events ≡ limit → left + length mid.events ≡ limit → left < room → new ≡ appended old (changed ops)
+changed-more old mid new [] room left limit done published full rest less =
+    let same : length mid.events ≡ length old.events = ap (λ h. length h.events) done ∙ ap length (append-nil old.events) in
+    absurd (omega arith)
+changed-more old mid new (op ∷ ops) room left limit done published full rest less =
+    published
+    ∙ (ap (λ h. appended h (Published false ∷ [])) done
+    ∙ ap (λ l. record { opening = old.opening; events = l }) (append_assoc old.events (dids (op ∷ ops)) (Published false ∷ [])))

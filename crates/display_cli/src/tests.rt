@@ -11,6 +11,7 @@ use std::process::Abort;
 use std::test::Fail;
 
 /// The end of a run, and what was written.
+#[derive(Drop)]
 struct Outcome {
     ended: Ended,
     out: ListSink,

@@ -1,0 +1,13 @@
+-- The journal grew, so there was an operation, and its version is published.
+use Rattle.std.proofs.Common.{◌≡◌, ◌+◌, ◌<◌}
+use Rattle.display_map.specs.Changes.{ops_of}
+use Rattle.display_map.specs.Faults.{event_limit}
+use Rattle.display_cli.proofs.Lines.{changed-more}
+use Rattle.display_cli.proofs.script.apply_change.Goals as goal
+
+pub returns-in_ok-publish-clause-changed : goal.returns-in_ok-publish-clause-changed
+returns-in_ok-publish-clause-changed c = (
+  c.in-Ok.ensures.accepted,
+  changed-more c.args.display.now c.apply.new.self c.publish.new.self (ops_of c.args.change.now) c.room-room.result c.room.result event_limit
+      c.in-Ok.ensures.done c.in_ok-publish.ensures.published c.room-room.ensures c.room.ensures c.if-room.true,
+)
