@@ -84,3 +84,11 @@ room_for_one old journal splices i s some le is op before =
 
 pub did-none : (old : List Event) (splices : List Splice) (i : ℕ) → i ≡ length splices → old ≡ old ++ did_events (drop i splices)
 did-none old splices i e = sym (append-nil old) ∙ ap (λ (l : List Splice). old ++ did_events l) (sym (drop_all i splices (omega arith)))
+
+-- a batch has at most one operation for each splice
+pub batch-le-length : (splices : List Splice) → length (batch splices) ≤ length splices
+batch-le-length [] = omega arith
+batch-le-length (s ∷ splices) = omega (arith, length-batch s splices, batch-le-length splices, go (is_operation s)) where
+  go : (b : Bool) → cond b 1 0 ≤ 1
+  go true = omega arith
+  go false = omega arith

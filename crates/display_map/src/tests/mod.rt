@@ -1,15 +1,14 @@
 //! Displays whose rows, runs and journals are known.
-ghost use Rattle.std.specs.Prelude.{◌≡◌, ◌+◌, ◌≤◌, length, OnOk};
+ghost use Rattle.std.specs.Prelude.{◌+◌, ◌≤◌, length};
 ghost use Rattle.display_map.specs.Faults.{event_limit};
 
-use crate::change::{Change, Op, Splice};
+use crate::change::{Change, Splice};
 use crate::display::Display;
-use crate::event::Event;
 use crate::fault::TextFault;
 use crate::laws::job_laws;
 use crate::shown::Kind;
 use crate::view::View;
-use cell_units::{Fault, NoMemory, Refusal, Steps, Text};
+use cell_units::{Fault, NoMemory, Steps, Text};
 use std::alloc::Global;
 use std::process::Abort;
 use std::test::Fail;
@@ -34,13 +33,30 @@ fn land_next(alloc: Global, display: &mut Display) -> Result<Option<(u32, u32)>,
     }
 }
 
-/// A batch of one replacement.
-fn edit(alloc: Global, start: u32, end: u32, text: &str) -> Result<Change, NoMemory> {
-    Ok(Change::One(Op::Replace(Splice {
-        start,
-        end,
-        text: Text::from_str(alloc, text)?,
-    })))
+/// Replacements of ranges by texts.
+fn splices(alloc: Global, ranges: &[(u32, u32, &str)]) -> Result<Vec<Splice>, NoMemory> {
+    let mut splices = Vec::new(alloc);
+    for (start, end, text) in ranges {
+        splices.push(Splice {
+            start: *start,
+            end: *end,
+            text: Text::from_str(alloc, text)?,
+        })?;
+    }
+    Ok(splices)
+}
+
+/// Does a batch of replacements.
+fn edit(
+    rt: &impl Abort,
+    alloc: Global,
+    display: &mut Display,
+    ranges: &[(u32, u32, &str)],
+) -> Result<(), Fault> {
+    let splices = splices(alloc, ranges)?;
+    assert!(rt; splices.len() <= 1000);
+    assert!(rt; display.room() >= 1000);
+    display.apply(alloc, &Change::Edit(splices), &mut Steps::new())
 }
 
 /// The row of this number is this one.
@@ -58,13 +74,9 @@ fn assert_row(rt: &impl Abort, alloc: Global, view: &View, row: u32, kind: Kind,
 #[test]
 fn carriage_returns_end_lines(rt: HostRuntime) -> Result<(), Fail> {
     let alloc = rt.alloc();
-    let view = Display::start(alloc, b"abc\r\nd\re", &mut Steps::new())?.view()?;
-    assert_eq!(rt; view.row_count(), 3);
-    assert_row(&rt, alloc, &view, 0, Kind::Head, "abc");
-    assert_row(&rt, alloc, &view, 1, Kind::Head, "d");
-    assert_row(&rt, alloc, &view, 2, Kind::Head, "e");
     let view = Display::start(alloc, b"abc\r\n", &mut Steps::new())?.view()?;
     assert_eq!(rt; view.row_count(), 2);
+    assert_row(&rt, alloc, &view, 0, Kind::Head, "abc");
     assert_row(&rt, alloc, &view, 1, Kind::Head, "");
     Ok(())
 }
@@ -81,41 +93,15 @@ fn bytes_that_are_no_text(rt: HostRuntime) {
 fn first_landing(rt: HostRuntime) -> Result<(), Fail> {
     let alloc = rt.alloc();
     let mut display = Display::start(alloc, b"abc", &mut Steps::new())?;
-    assert!(rt; display.room() >= 10);
-    let first = display.publish(alloc, false)?;
-    assert!(rt; display.room() >= 9);
-    assert!(rt; !display.settled());
+    assert!(rt; display.room() >= 1000);
     assert_eq!(rt; land_next(alloc, &mut display)?, Some((0, 1)));
     assert!(rt; display.settled());
-    assert!(rt; display.room() >= 7);
-    let second = display.publish(alloc, true)?;
-    assert_eq!(rt; first.number(), 0);
-    assert_eq!(rt; second.number(), 1);
-    assert!(rt; !first.last() && second.last());
-    assert_row(&rt, alloc, second.view(), 0, Kind::Head, "abc");
-    assert_eq!(rt; second.view().row_count(), 1);
-    assert!(rt; second.view().row(alloc, 1, &mut Steps::new())?.is_none());
-    assert!(rt; display.room() >= 2);
-    assert_eq!(rt; land_next(alloc, &mut display)?, None);
-    assert!(rt; display.room() >= 1);
-    display.note_line(alloc, 1)?;
-    let journal = display.into_journal();
-    assert_eq!(rt; journal.len(), 5);
-    assert!(rt; matches!(journal.get(0), Some(Event::Published { last: false })));
-    assert!(rt;
-        matches!(
-            journal.get(1),
-            Some(Event::Sent {
-                job: 1,
-                first: 0,
-                count: 1
-            })
-        )
-    );
-    assert!(rt; matches!(journal.get(2), Some(Event::Landed { job: 1 })));
-    assert!(rt; matches!(journal.get(3), Some(Event::Published { last: true })));
-    assert!(rt; matches!(journal.get(4), Some(Event::Line { number: 1 })));
-    assert!(rt; journal.get(5).is_none());
+    assert!(rt; display.room() >= 1000);
+    let version = display.publish(alloc, true)?;
+    assert_eq!(rt; version.number(), 0);
+    assert!(rt; version.last());
+    assert_row(&rt, alloc, version.view(), 0, Kind::Head, "abc");
+    assert!(rt; version.view().row(alloc, 1, &mut Steps::new())?.is_none());
     Ok(())
 }
 
@@ -123,8 +109,23 @@ fn first_landing(rt: HostRuntime) -> Result<(), Fail> {
 fn edit_replaces(rt: HostRuntime) -> Result<(), Fail> {
     let alloc = rt.alloc();
     let mut display = Display::start(alloc, b"abc", &mut Steps::new())?;
-    assert!(rt; display.room() >= 10);
-    display.apply(alloc, &edit(alloc, 1, 2, "XY")?, &mut Steps::new())?;
+    edit(&rt, alloc, &mut display, &[(1, 2, "XY")])?;
     assert_row(&rt, alloc, &display.view()?, 0, Kind::Head, "aXYc");
+    Ok(())
+}
+
+#[test]
+fn an_edit_takes_the_wrap_of_its_lines(rt: HostRuntime) -> Result<(), Fail> {
+    let alloc = rt.alloc();
+    let text = "x\n".repeat(alloc, 299)?;
+    let mut display = Display::start(alloc, text.as_bytes(), &mut Steps::new())?;
+    for run in [Some((0, 128)), Some((128, 128)), Some((256, 44)), None] {
+        assert!(rt; display.room() >= 1000);
+        assert_eq!(rt; land_next(alloc, &mut display)?, run);
+    }
+    edit(&rt, alloc, &mut display, &[(300, 301, "y\nz")])?;
+    assert!(rt; display.room() >= 1000);
+    assert_eq!(rt; land_next(alloc, &mut display)?, Some((150, 2)));
+    assert_row(&rt, alloc, &display.view()?, 151, Kind::Head, "z");
     Ok(())
 }
