@@ -32,8 +32,8 @@ fn file(alloc: Global, name: &str, bytes: &[u8]) -> Result<NamedBytes, NoMemory>
     })
 }
 
-/// A run of the text `a` and the script `b`, whose reads and writes of some numbers fail.
-fn outcome(
+/// Runs the script `b` on the text `a`, where the reads and writes of some numbers fail.
+fn run_of(
     alloc: Global,
     text: &[u8],
     script: &str,
@@ -59,7 +59,7 @@ fn expect<R: Abort>(
     written: &str,
     status: u8,
 ) -> Result<(), NoMemory> {
-    let outcome = outcome(alloc, text.as_bytes(), script, &[], &[])?;
+    let outcome = run_of(alloc, text.as_bytes(), script, &[], &[])?;
     assert_eq!(rt; outcome.out.taken(), written.as_bytes(), "{script}");
     assert_eq!(rt; outcome.ended.status, status, "{script}");
     Ok(())
@@ -145,7 +145,7 @@ fn blank_lines_are_skipped(rt: HostRuntime) -> Result<(), Fail> {
 
 #[test]
 fn a_text_that_is_not_utf8_is_refused_at_its_first_bad_byte(rt: HostRuntime) -> Result<(), Fail> {
-    let outcome = outcome(rt.alloc(), b"abc\xff", "{\"rows\":[0,10]}", &[], &[])?;
+    let outcome = run_of(rt.alloc(), b"abc\xff", "{\"rows\":[0,10]}", &[], &[])?;
     assert_eq!(rt; outcome.ended.status, 5);
     assert_eq!(rt; outcome.ended.note, Note::TextNotUtf8 { at: 3 });
     assert!(rt; outcome.out.taken().is_empty());
@@ -155,7 +155,7 @@ fn a_text_that_is_not_utf8_is_refused_at_its_first_bad_byte(rt: HostRuntime) -> 
 #[test]
 fn a_text_one_byte_over_the_limit_is_refused(rt: HostRuntime) -> Result<(), Fail> {
     let text = vec![in rt.alloc(); b'x'; 33_554_433]?;
-    let outcome = outcome(rt.alloc(), text.as_slice(), "{\"rows\":[0,1]}", &[], &[])?;
+    let outcome = run_of(rt.alloc(), text.as_slice(), "{\"rows\":[0,1]}", &[], &[])?;
     assert_eq!(rt; outcome.ended.status, 5);
     assert_eq!(rt; outcome.ended.note, Note::TextTooLong);
     assert!(rt; outcome.out.taken().is_empty());
@@ -176,7 +176,7 @@ fn one_word_has_no_reading(rt: HostRuntime) -> Result<(), Fail> {
 
 #[test]
 fn a_read_that_fails_ends_the_run_with_nothing_written(rt: HostRuntime) -> Result<(), Fail> {
-    let outcome = outcome(rt.alloc(), b"a\nb", "{\"rows\":[0,2]}", &[2], &[])?;
+    let outcome = run_of(rt.alloc(), b"a\nb", "{\"rows\":[0,2]}", &[2], &[])?;
     assert_eq!(rt; outcome.ended.status, 3);
     assert_eq!(rt; outcome.ended.note, Note::ReadText);
     assert!(rt; outcome.out.taken().is_empty());
@@ -185,7 +185,7 @@ fn a_read_that_fails_ends_the_run_with_nothing_written(rt: HostRuntime) -> Resul
 
 #[test]
 fn a_write_that_fails_leaves_the_lines_before_it(rt: HostRuntime) -> Result<(), Fail> {
-    let outcome = outcome(rt.alloc(), b"a\nb", "{\"rows\":[0,2]}", &[], &[2])?;
+    let outcome = run_of(rt.alloc(), b"a\nb", "{\"rows\":[0,2]}", &[], &[2])?;
     assert_eq!(rt; outcome.ended.status, 4);
     assert_eq!(rt; outcome.ended.note, Note::Write);
     assert_eq!(rt; outcome.out.taken(), b"0 t|a\n".as_slice());
