@@ -5,4 +5,5 @@ pub mod Unfolded
 pub mod ReplacedRows
 pub mod ReplacedLines
 pub mod Boundaries
+pub mod PlainLayers
 pub mod StartSearch

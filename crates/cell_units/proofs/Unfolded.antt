@@ -137,7 +137,7 @@ by_rows text rows row [] h = refl
 by_rows text rows row (l ∷ ls) h =
     λ i. (leb (h.0 i) rows.last && leb rows.first (h.1 i)) ∷ by_rows text rows (row + 1) ls h.2 i
 
-in_two : (a m n : ℕ) → range_with_len a (m + n) ≡ range_with_len a m ++ range_with_len (a + m) n
+pub in_two : (a m n : ℕ) → range_with_len a (m + n) ≡ range_with_len a m ++ range_with_len (a + m) n
 in_two a zero n =
     let whole : 0 + n ≡ n = omega arith in
     let here : a ≡ a + 0 = omega arith in

@@ -11,6 +11,7 @@ pub mod Folded
 pub mod Pieces
 pub mod Touched
 pub mod BufferLines
+pub mod Layers
 pub mod Joined
 pub mod Laws
 pub mod Worked

@@ -1,12 +1,13 @@
 //! The units of the display map: texts, places, pieces of a display line, refusals and a counter of steps.
 //!
 //! The crate promises little code and much meaning: `specs/` has the definitions of a text, of a record, of the
-//! operations on it, and of the folded text and its display lines, which every crate above cites. `text_laws` and
-//! `fold_laws` have what they mean in other words, and `worked` has texts of which the outcome is known.
+//! operations on it, of the folded text and its display lines, and of layers, which every crate above cites. `text_laws`,
+//! `fold_laws` and `layer_laws` have what they mean in other words, and `worked` has texts of which the outcome is known.
 #![tactic(auto)]
 
 pub mod fault;
 pub mod laws;
+pub mod layer;
 pub mod piece;
 pub mod place;
 pub mod steps;
@@ -14,7 +15,8 @@ pub mod text;
 pub mod worked;
 
 pub use fault::{Fault, NoMemory, Refusal};
-pub use laws::{fold_laws, text_laws};
+pub use laws::{fold_laws, layer_laws, text_laws};
+pub use layer::Layer;
 pub use piece::{Piece, PieceKind};
 pub use place::{Bias, Motion, Point, Shift, Side, Spot};
 pub use steps::Steps;
