@@ -3,6 +3,7 @@ pub mod Melds
 pub mod Pieces
 pub mod PlaceLists
 pub mod Places
+pub mod Positions
 pub mod Prefixes
 pub mod Raises
 pub mod Reaching

@@ -12,6 +12,7 @@ mod joins;
 mod open;
 mod pack;
 mod path;
+mod search;
 mod splits;
 mod sum_tree;
 #[cfg(test)]
@@ -19,4 +20,5 @@ mod tests;
 mod trees;
 
 pub use cursor::Cursor;
+pub use search::Probe;
 pub use sum_tree::SumTree;

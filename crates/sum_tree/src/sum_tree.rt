@@ -1,11 +1,13 @@
 //! The tree as a list of items.
 ghost use Rattle.std.specs.Prelude.{ℕ, ◌≡◌, ◌+◌, ◌*◌, ◌^◌, ◌<◌, ◌≤◌, ◌++◌, ◌∷◌, [], IfOk, OnOk, OnErr, length, vec_len, take, drop, slice_get};
+ghost use Rattle.std.specs.List.{position};
 ghost use Rattle.std.specs.Option.{option_copied};
 ghost use Rattle.sum_core.specs.Sums.{total};
 
 use crate::cursor::Cursor;
 use crate::find::item_at;
 use crate::pack::make_leaf;
+use crate::search::{Probe, before_below};
 use crate::splits::split_at;
 use crate::trees::{Tree, build_last, join};
 use cell_units::{NoMemory, Steps};
@@ -87,6 +89,25 @@ impl<T: Item> SumTree<T> {
             Some(tree) => {
                 if (at as usize) < tree.count {
                     Some(item_at(&tree.node, tree.height, at as usize, steps))
+                } else {
+                    None
+                }
+            }
+        }
+    }
+
+    /// The place of the first item that passes, and `None` exactly where none does. Each node is opened at most once, and
+    /// there are fewer nodes than items but for a lone root.
+    pub fn position<Q: Probe<T>>(&self, probe: &Q, steps: &mut Steps) -> Option<u32>
+        ensures place { result ≡ position (Q.is_passed probe.now) self.now }
+        ensures steps { steps.new ≤ steps.old + length self.now + 1 }
+    {
+        match &self.tree {
+            None => None,
+            Some(tree) => {
+                let before = before_below(&tree.node, tree.height, probe, steps);
+                if before < tree.count {
+                    Some(before as u32)
                 } else {
                     None
                 }

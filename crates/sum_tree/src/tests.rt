@@ -2,6 +2,7 @@
 ghost use Rattle.std.specs.Prelude.{◌≡◌, ◌+◌, ◌≤◌, ◌++◌, length, take, drop};
 ghost use Rattle.sum_core.specs.Sums.{total};
 
+use crate::search::Probe;
 use crate::sum_tree::SumTree;
 use cell_units::{Bias, NoMemory, Steps};
 use std::alloc::Global;
@@ -213,4 +214,29 @@ fn replace_one_of_a_million(
     ensures { steps.new ≤ steps.old + 6408 }
 {
     tree.replace(alloc, at, at + 1, items, steps)
+}
+
+/// Weights that are at least this one.
+struct AtLeast(u32);
+
+impl Probe<Weight> for AtLeast {
+    ghost use Rattle.std.specs.Prelude.{nat_le};
+
+    ghost is_passed = { λ probe item. nat_le probe.0 item.0 };
+
+    fn passes(&self, item: &Weight) -> bool {
+        self.0 <= item.0
+    }
+}
+
+/// In [5, 3, 9, 9] the first item of at least 6 is the third, and none is of at least 10.
+#[test]
+fn position_is_of_the_first_item_that_passes(rt: HostRuntime) -> Result<(), Fail> {
+    let alloc = rt.alloc();
+    let mut steps = Steps::new();
+    let items = Vec::from_array(alloc, [Weight(5), Weight(3), Weight(9), Weight(9)])?;
+    let tree = SumTree::from_vec(alloc, items, &mut steps)?;
+    assert_eq!(rt; tree.position(&AtLeast(6), &mut steps), Some(2));
+    assert_eq!(rt; tree.position(&AtLeast(10), &mut steps), None);
+    Ok(())
 }
