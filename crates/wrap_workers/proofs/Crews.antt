@@ -1,19 +1,13 @@
 -- What a step of the crew does to its two passes.
-use Rattle.std.proofs.Common.{◌≡◌, ◌≢◌, ℕ, ◌+◌, ◌-◌, ◌*◌, ◌≤◌, Contains, List, [], ◌∷◌, ◌++◌, length, sym, refl, ap, ◌∙◌, subst, arith, Option, Some}
+use Rattle.std.proofs.Common.{◌≡◌, ◌≢◌, ℕ, ◌+◌, ◌-◌, ◌*◌, ◌≤◌, Contains, List, [], ◌∷◌, ◌++◌, length, sym, refl, ap, ◌∙◌, subst, arith, Option}
 use Rattle.std.proofs.lemmas.List.{length-append}
-use Rattle.crossbeam_channel.specs.Claims.{IsSeatAt}
-use Rattle.crossbeam_channel.specs.declared.flavors.array.Rows.{Rows}
-use Rattle.crossbeam_channel.specs.declared.flavors.array.Key.{Key}
-use Rattle.crossbeam_channel.specs.declared.flavors.array.Doing.{Doing}
-use Rattle.atomic_table.specs.declared.badge.Badge.{Badge}
-use Rattle.wrap_workers.specs.declared.job.Finished.{Finished}
 use Rattle.wrap_workers.specs.declared.results.Hand.{Hand}
 use Rattle.wrap_workers.specs.declared.tasks.Post.{Post}
 use Rattle.wrap_workers.specs.Jobs.{JobParts, front, without}
 use Rattle.wrap_workers.specs.Errands.{Right}
 use Rattle.wrap_workers.specs.Owed.{AreDistinct, crew_hand, one_at, times}
-use Rattle.wrap_workers.specs.Posted.{IsHome, crew_post}
-use Rattle.wrap_workers.specs.Crewed.{IsCrewHand, IsCrewPost, IsHomeAt, IsLast, IsTakenOff}
+use Rattle.wrap_workers.specs.Posted.{crew_post}
+use Rattle.wrap_workers.specs.Crewed.{IsCrewHand, IsCrewPost, IsTakenOff}
 use Rattle.wrap_workers.proofs.Owing.{one_more}
 use Rattle.wrap_workers.proofs.Weights.{contains-times, front_snoc, length_weighs, weigh_without}
 
@@ -80,10 +74,6 @@ module _ {N : Type 0} where
     roomy = omega (arith, i.roomy, same);
   })
 
-  pub kept_last : (v : Hand N) (kept now : List (JobParts N)) (count workers room : ℕ) (job : JobParts N) →
-      IsCrewHand v kept count workers room → kept ≡ now ++ job ∷ [] → IsLast v.rights job
-  kept_last v kept now count workers room job i popped = (now, i.rights ∙ popped)
-
   pub kept_front : (v : Hand N) (kept now : List (JobParts N)) (count workers room : ℕ) (job : JobParts N) →
       IsCrewHand v kept count workers room → kept ≡ now ++ job ∷ [] → front v.rights ≡ now
   kept_front v kept now count workers room job i popped = ap front (i.rights ∙ popped) ∙ front_snoc now job
@@ -112,13 +102,3 @@ module _ {N : Type 0} where
       let one = weigh_without (λ _. 1) job.number v.out (out_once v.out job i.distinct at) in
       let shorter : length now + 1 ≡ length v.out = omega (arith, ap length is, one, length_weighs v.out, length_weighs (without job.number v.out)) in
       subst (λ (y : List (JobParts N) × JobParts N). IsTakenOff y.1 y.0 now) (λ k. (same k, sym own k)) (at, is, shorter)
-
-  module _ {Q M L A : Type 0} (c : Rows (Badge (Key (Finished N))) (Doing (Finished N) (Hand N)) Q M (Key (Finished N)) L A) where
-    -- a right of the known home is a pass of the queue, and the other way round
-    pub at_home : (home : Option (Right N)) (r : Right N) → IsHomeAt c home → IsHome home r → IsSeatAt c r
-    at_home home r known is =
-        let like : IsHome (Some known.0) r = subst (λ (h : Option (Right N)). IsHome h r) known.1 is in
-        (like.0 ∙ known.2.0, like.1 ∙ known.2.1, like.2, known.2.3)
-
-    pub is_home : (home : Option (Right N)) (r : Right N) → IsHomeAt c home → IsSeatAt c r → IsHome home r
-    is_home home r known at = subst (λ (h : Option (Right N)). IsHome h r) (sym known.1) (at.0 ∙ sym known.2.0, at.1 ∙ sym known.2.1, at.2)

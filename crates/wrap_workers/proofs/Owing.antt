@@ -262,6 +262,3 @@ module _ {N : Type 0} where
   -- the pass has the right to the job's result
   pub is_right_to : (right : Right N) (serial : ℕ) (j : JobParts N) → view right ≡ right_of serial j → IsRightTo right j
   is_right_to right serial j is = is ∙ ap (λ (n : ℕ). right_of n j) (sym (ap (λ (v : Hand N). v.serial) is))
-
-  pub right_serial : (right : Right N) (serial : ℕ) (j : JobParts N) → view right ≡ right_of serial j → (view right).serial ≡ serial
-  right_serial right serial j is = ap (λ (v : Hand N). v.serial) is

@@ -10,7 +10,7 @@ use Rattle.wrap_workers.specs.declared.tasks.Task.TheVariants.{Do, Stop}
 use Rattle.wrap_workers.specs.declared.tasks.Post.{Post}
 use Rattle.wrap_workers.specs.Errands.{Right}
 use Rattle.wrap_workers.specs.Owed.{one_at}
-use Rattle.wrap_workers.specs.Posted.{IsTaskAt, AreTasksAt, IsErrand, AreErrands, AreApart, serial_of, count_serials, crew_post, worker_post, after_put, IsNext, FitsPost, Posted, WerePosted}
+use Rattle.wrap_workers.specs.Posted.{IsTaskAt, AreTasksAt, IsErrand, AreErrands, AreApart, serial_of, count_serials, crew_post, worker_post, after_put, after_taken, IsNext, FitsPost, Posted, WerePosted}
 use Rattle.wrap_workers.proofs.Weights.{one_at-other}
 
 off : false ≡ true → ⊥
@@ -171,7 +171,37 @@ module _ {N : Type 0} where
         refl,
       )
 
-  -- a task is taken
+  taken_home : (v : Post N) (x : Task N) → (after_taken v x).home ≡ v.home
+  taken_home v (Do e) = refl
+  taken_home v Stop = refl
+
+  taken_crew : (v : Post N) (x : Task N) → (after_taken v x).crew ≡ v.crew
+  taken_crew v (Do e) = refl
+  taken_crew v Stop = refl
+
+  -- a worker takes a task
+  pub serves : (pass : ℕ) (v : Post N) (r : Right N) → v.crew ≡ false → v.home ≡ Some r →
+      Pops Posted pass v (λ x w. (w ≡ after_taken v x) × IsTaskAt v.home x)
+  serves pass v r worker is x tasks posts o at =
+      let mine = o.7 pass v at in
+      let w : Post N = after_taken v x in (
+        w,
+        (
+          o.0,
+          o.1,
+          o.2,
+          o.3,
+          ((λ m. let d = o.4.0 m in omega (arith, d)), (λ m le. let d = o.4.1 m le in omega (arith, d))),
+          o.5.1,
+          (λ going. (o.6 going).1),
+          each_set o.0 o.1 o.2 o.3 posts pass w (λ j u apart e. o.7 j u e)
+              (taken_home v x ∙ mine.0, (λ crew. absurd (off (sym worker ∙ sym (taken_crew v x) ∙ crew)))),
+          (λ e. absurd (some_home r (sym is ∙ mine.0 ∙ e))),
+        ),
+        (refl, subst (λ (h : Option (Right N)). IsTaskAt h x) (sym mine.0) o.5.0),
+      )
+
+  -- the crew takes a task
   pub gets : (pass : ℕ) (v : Post N) →
       Pops Posted pass v (λ x w. (w ≡ v) × IsTaskAt v.home x × (v.crew ≡ true → v.stopped ≡ false → IsErrand x))
   gets pass v x tasks posts o at =

@@ -59,9 +59,18 @@ AreApart next tasks =
 abbrev pub crew_post : {N : Type 0} → Option (Right N) → ℕ → Bool → Post N
 crew_post home next stopped = record { crew = true; home = home; next = next; stopped = stopped }
 
--- a worker's pass
+-- a worker's pass, before it took a stop
 abbrev pub worker_post : {N : Type 0} → Option (Right N) → Post N
 worker_post home = record { crew = false; home = home; next = 0; stopped = false }
+
+-- a worker's pass after it took the task
+abbrev pub after_taken : {N : Type 0} → Post N → Task N → Post N
+after_taken post (Do errand) = post
+after_taken post Stop = record post { stopped = true }
+
+-- the pass of a worker that took no stop
+abbrev pub IsAtWork : {N : Type 0} → Post N → Type 0
+IsAtWork post = (post.crew ≡ false) × (post.stopped ≡ false)
 
 -- the crew's pass after it put the task
 abbrev pub after_put : {N : Type 0} → Post N → Task N → Post N

@@ -28,10 +28,10 @@ pub struct Crew<N: Lines> {
 }
 
 impl<N: Lines> Model for Crew<N> {
-    ghost use Rattle.std.specs.Prelude.{◌≡◌, ◌≤◌};
+    ghost use Rattle.std.specs.Prelude.{◌≡◌, ◌*◌, ◌≤◌};
     ghost use Rattle.std.specs.Vec.{vec_capacity};
     ghost use Rattle.crossbeam_channel.specs.Claims.{IsSeatAt};
-    ghost use Rattle.crossbeam_channel.specs.Ends.{sends_on, receives_on};
+    ghost use Rattle.crossbeam_channel.specs.Ends.{sends_on, receives_on, ruled_capacity};
     ghost use Rattle.wrap_workers.specs.Crewed.{Crewed, IsCrewHand, IsCrewPost, IsHomeAt, hand_of, post_of};
 
     ghost Value = { Crewed N };
@@ -44,7 +44,8 @@ impl<N: Lines> Model for Crew<N> {
         × IsHomeAt (sends_on c.rights) (post_of c.place).home
         × IsCrewPost (post_of c.place) (hand_of c.hand).serial
         × IsCrewHand (hand_of c.hand) c.kept.items c.count c.workers (vec_capacity c.kept)
-        × (1 ≤ c.workers) × (c.workers ≤ 16) };
+        × (1 ≤ c.workers) × (c.workers ≤ 16)
+        × (ruled_capacity (sends_on c.tasks) ≡ 3 * c.workers) × (ruled_capacity (sends_on c.rights) ≡ 2 * c.workers) };
 }
 
 impl<N: Lines> Crew<N> {

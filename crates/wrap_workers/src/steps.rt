@@ -7,7 +7,7 @@ ghost use Rattle.wrap_workers.specs.Jobs.{front, without};
 ghost use Rattle.wrap_workers.specs.Finishes.{job_of};
 ghost use Rattle.wrap_workers.specs.Owed.{ContainsEach, WereOwed, crew_hand, right_of, spent, times};
 ghost use Rattle.wrap_workers.specs.Errands.{IsRightTo, Right};
-ghost use Rattle.wrap_workers.specs.Posted.{IsErrand, IsHome, IsNext, IsTaskAt, WerePosted, after_put, crew_post, serial_of};
+ghost use Rattle.wrap_workers.specs.Posted.{IsErrand, IsHome, IsNext, IsTaskAt, WerePosted, after_put, after_taken, crew_post, serial_of};
 ghost use Rattle.wrap_workers.specs.Crewed.{IsLast};
 
 use crate::gate::Gate;
@@ -16,7 +16,7 @@ use crate::names::Names;
 use crate::results::{
     Counts, Hires, Lends, Results, Retires, Returns, Right, Rights, Sends, Takes,
 };
-use crate::tasks::{Errand, Gets, Place, Puts, Task, Tasks, Waiting};
+use crate::tasks::{Errand, Gets, Place, Puts, Serves, Task, Tasks, Waiting};
 use crate::wrap::do_job;
 use cell_line::Lines;
 use std::alloc::Global;
@@ -224,18 +224,20 @@ pub(crate) fn put_stop<N: Lines, R: Wait>(rt: &R, tasks: &Tasks<N>, place: &mut 
     let _ = put(rt, tasks, place, Task::Stop);
 }
 
-/// Takes the front task, and waits for one. None comes only where the queue was empty at a moment of the call.
+/// Takes the front task for a worker, and waits for one. None comes only where the queue was empty at a moment of the call.
 pub(crate) fn next<N: Lines, R: Wait>(
     rt: &R,
     tasks: &Waiting<N>,
     place: &mut Place<N>,
 ) -> Option<Task<N>>
     requires channel { IsSeatAt (receives_on tasks.now) place.old }
-    ensures channel { IsSeatAt (receives_on tasks.now) place.new × (view place.new ≡ view place.old) }
-    ensures home { IfSome result (λ task. IsTaskAt (view place.old).home task) }
-    ensures none { IfNone result (Held 0 (λ items. WerePosted {N = N} items)) }
+    requires worker { (view place.old).crew ≡ false }
+    requires known { (r : Right N) × ((view place.old).home ≡ Some r) }
+    ensures channel { IsSeatAt (receives_on tasks.now) place.new }
+    ensures some { IfSome result (λ task. (view place.new ≡ after_taken (view place.old) task) × IsTaskAt (view place.old).home task) }
+    ensures none { IfNone result ((view place.new ≡ view place.old) × Held 0 (λ items. WerePosted {N = N} items)) }
 {
-    tasks.recv_as::<Gets, R>(rt, place).ok()
+    tasks.recv_as::<Serves, R>(rt, place).ok()
 }
 
 /// Takes the front task for the crew, if there is one at a moment of the call. It is a job until a stop was put.

@@ -39,7 +39,7 @@ pub struct Post<N: Lines> {
     pub home: Option<Right<N>>,
     // A serial past all those that were put, as the crew's pass knows it.
     pub next: u64,
-    // Whether a stop was put, as the crew's pass knows it.
+    // Whether a stop was put, as the crew's pass knows it, or taken, as a worker's does.
     pub stopped: bool,
 }
 
@@ -101,7 +101,7 @@ impl<N: Lines> Lesson<Task<N>, Post<N>> for Puts {
     ghost fact = { λ v items. Unit {0} };
 }
 
-/// A task is taken. Until the crew has put a stop, it takes none.
+/// The crew takes a task. Until it has put a stop, it takes none.
 pub struct Gets;
 
 impl<N: Lines> Outcome<Task<N>, Post<N>> for Gets {
@@ -112,6 +112,22 @@ impl<N: Lines> Outcome<Task<N>, Post<N>> for Gets {
 }
 
 impl<N: Lines> Lesson<Task<N>, Post<N>> for Gets {
+    ghost use Rattle.wrap_workers.specs.Posted.{WerePosted};
+
+    ghost fact = { λ v items. WerePosted items };
+}
+
+/// A worker takes a task.
+pub struct Serves;
+
+impl<N: Lines> Outcome<Task<N>, Post<N>> for Serves {
+    ghost use Rattle.std.specs.Prelude.{◌≡◌};
+    ghost use Rattle.wrap_workers.specs.Posted.{IsTaskAt, after_taken};
+
+    ghost then = { λ v x w. (w ≡ after_taken v x) × IsTaskAt v.home x };
+}
+
+impl<N: Lines> Lesson<Task<N>, Post<N>> for Serves {
     ghost use Rattle.wrap_workers.specs.Posted.{WerePosted};
 
     ghost fact = { λ v items. WerePosted items };

@@ -1,7 +1,10 @@
 //! The worker, that does jobs beside the crew.
-ghost use Rattle.std.specs.Prelude.{◌≡◌};
-ghost use Rattle.crossbeam_channel.specs.Claims.{IsSeatAt};
-ghost use Rattle.crossbeam_channel.specs.Ends.{sends_on};
+ghost use Rattle.std.specs.Prelude.{◌≡◌, ◌⊎◌, true};
+ghost use Rattle.crossbeam_channel.specs.Claims.{view, IsSeatAt};
+ghost use Rattle.crossbeam_channel.specs.Ends.{sends_on, receives_on};
+ghost use Rattle.crossbeam_channel.specs.Fifo.{Held};
+ghost use Rattle.wrap_workers.specs.Posted.{IsAtWork, WerePosted};
+ghost use Rattle.wrap_workers.specs.Crewed.{IsHomeAt};
 
 use crate::gate::Gate;
 use crate::results::Rights;
@@ -25,13 +28,17 @@ impl<N: Lines> Model for Worker<N> {
     ghost use Rattle.std.specs.Prelude.{⊤};
     ghost use Rattle.crossbeam_channel.specs.Claims.{IsSeatAt};
     ghost use Rattle.crossbeam_channel.specs.Ends.{sends_on, receives_on};
+    ghost use Rattle.wrap_workers.specs.Posted.{IsAtWork};
     ghost use Rattle.wrap_workers.specs.Crewed.{IsHomeAt, post_of};
 
     ghost Value = { ⊤ };
 
     ghost view = { λ _. tt };
 
-    ghost invariant = { λ w. IsSeatAt (receives_on w.tasks) w.place × IsHomeAt (sends_on w.rights) (post_of w.place).home };
+    ghost invariant = { λ w.
+        IsSeatAt (receives_on w.tasks) w.place
+        × IsHomeAt (sends_on w.rights) (post_of w.place).home
+        × IsAtWork (post_of w.place) };
 }
 
 impl<N: Lines> Worker<N> {
@@ -43,13 +50,32 @@ impl<N: Lines> Worker<N> {
             rights,
             mut place,
         } = self;
-        for _ in rt.forever() {
-            match next(rt, &tasks, &mut place) {
-                Some(Task::Do(errand)) => finish(rt, alloc, gate, &rights, errand),
-                Some(Task::Stop) | None => break,
-            }
+        serve(rt, alloc, gate, &tasks, &rights, &mut place);
+    }
+}
+
+/// Takes tasks, does each job and sends its result. It returns only where it took a stop, or where the queue of tasks was
+/// empty at a moment of the call.
+fn serve<N: Lines, R: Wait, G: Gate>(
+    rt: &R,
+    alloc: Global,
+    gate: &G,
+    tasks: &Waiting<N>,
+    rights: &Rights<N>,
+    place: &mut Place<N>,
+)
+    requires channel { IsSeatAt (receives_on tasks.now) place.old }
+    requires home { IsHomeAt (sends_on rights.now) (view place.old).home }
+    requires worker { IsAtWork (view place.old) }
+    ensures { ((view place.new).stopped ≡ true) ⊎ Held 0 (λ items. WerePosted {N = N} items) }
+{
+    for _ in rt.forever() {
+        match next(rt, tasks, place) {
+            Some(Task::Do(errand)) => finish(rt, alloc, gate, rights, errand),
+            Some(Task::Stop) | None => return,
         }
     }
+    unreachable!()
 }
 
 /// Does the job, passes the gate and sends the result.

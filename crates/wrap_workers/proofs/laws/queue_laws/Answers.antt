@@ -1,4 +1,4 @@
-use Rattle.wrap_workers.proofs.RightsApart.{gives_once, of_job_out, passes_of_their_own}
+use Rattle.wrap_workers.proofs.RightsApart.{gives_once, jobs_apart, of_job_out, passes_of_their_own}
 use Rattle.wrap_workers.proofs.laws.queue_laws.Goals as goal
 
 pub returns-clause-once : goal.returns-clause-once
@@ -12,3 +12,6 @@ returns-clause-rights g c = passes_of_their_own
 
 pub returns-clause-serials : goal.returns-clause-serials
 returns-clause-serials g c = λ tasks posts o. o.4.0
+
+pub returns-clause-tasks : goal.returns-clause-tasks
+returns-clause-tasks g c = jobs_apart

@@ -24,6 +24,8 @@ invariant_of-self-in-Some g c =
           i.6 e.some.1 e.some.0 i.6.rights refl,
       i.7,
       i.8,
+      i.9,
+      i.10,
     )
 
 pub returns-in-None-clause-empty : goal.returns-in-None-clause-empty

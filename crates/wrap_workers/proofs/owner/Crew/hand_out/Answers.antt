@@ -32,6 +32,8 @@ invariant_of-self g c =
           hired c.take_back-job.ensures.hand pushed c.push_reserved.ensures.capacity,
       i.7,
       i.8,
+      i.9,
+      i.10,
     )
 
 pub invariant_of-self-in_default : goal.invariant_of-self-in_default
@@ -52,4 +54,6 @@ invariant_of-self-in_default g c =
       hand_hired v u s.kept.items s.count s.workers room c.args.job i.6 c.if-self.false new c.hire-errand.ensures.hand,
       i.7,
       i.8,
+      i.9,
+      i.10,
     )

@@ -25,6 +25,8 @@ invariant_of-self g c =
           i.6 e.out e.hand (kept_front v s.kept.items c.pop.new.self.items s.count s.workers room c.in-Some.job i.6 popped) c.in-Some.ensures.capacity,
       i.7,
       i.8,
+      i.9,
+      i.10,
     )
 
 pub returns-in-Some-clause-some : goal.returns-in-Some-clause-some
@@ -68,4 +70,6 @@ invariant_of-self-in-Some-try_next g c =
           back e.out e.hand (ap front back.rights ∙ front_snoc s.kept.items job ∙ left) c.in_default.ensures.capacity,
       i.7,
       i.8,
+      i.9,
+      i.10,
     )

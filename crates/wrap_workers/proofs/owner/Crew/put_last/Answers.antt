@@ -21,6 +21,8 @@ invariant_of-self-in-None g c =
           i.6 c.lend-errand.ensures.hand c.in-Some.ensures.items c.in-Some.ensures.capacity,
       i.7,
       i.8,
+      i.9,
+      i.10,
     )
 
 pub invariant_of-self-in-Some-put_errand : goal.invariant_of-self-in-Some-put_errand
@@ -45,6 +47,8 @@ invariant_of-self-in-Some-put_errand g c =
           lent c.take_back-job.ensures.hand pushed c.push_reserved.ensures.capacity,
       i.7,
       i.8,
+      i.9,
+      i.10,
     )
 
 pub returns-in-Some-put_errand-clause-kept : goal.returns-in-Some-put_errand-clause-kept

@@ -22,6 +22,8 @@ invariant_of-self g c =
           i.6 e.out e.hand i.6.rights refl,
       i.7,
       i.8,
+      i.9,
+      i.10,
     )
 
 pub returns-clause-some : goal.returns-clause-some
