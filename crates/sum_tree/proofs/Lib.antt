@@ -4,5 +4,6 @@ pub mod Pieces
 pub mod PlaceLists
 pub mod Places
 pub mod Prefixes
+pub mod Puts
 pub mod Raises
 pub mod Reaching
