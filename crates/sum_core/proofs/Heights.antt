@@ -1,4 +1,4 @@
--- How many items a tree of a height has at least.
+-- How many items a tree of a height has at least and at most.
 use Rattle.std.proofs.Common.{◌≡◌, ℕ, zero, suc, ◌+◌, ◌*◌, ◌^◌, ◌<◌, ◌≤◌, List, [], ◌∷◌, length, ap, ◌∙◌, subst, sym, refl, arith, length-append, add-one}
 use Rattle.std.proofs.Math.Nat.{pow-le-pow_right}
 use Rattle.std.proofs.lemmas.Grind.{pow_more}
@@ -44,6 +44,33 @@ module _ {T S : Type 0} (empty : S) (joined : S → S → S) (summary : T → S)
       let up : 0 ≤ h + 1 = omega arith in
       let p : 6 ^ 0 ≤ 6 ^ (h + 1) = pow-le-pow_right {n = 6} six {i = 0} {j = h + 1} up in
       omega (arith, p, deep h e l w)
+
+  children-few : (P : Entries T S → Type 0) (k : ℕ) (cs : List (S × ℕ × Entries T S)) → ((c : S × ℕ × Entries T S) → IsChild empty joined summary P 6 c → length (items_in c.2) ≤ k) → IsChildList empty joined summary P 6 cs → length (items_under cs) ≤ length cs * k
+  children-few P k [] f r = omega arith
+  children-few P k (c ∷ cs) f r =
+      let ih = children-few P k cs f (children-tail empty joined summary P 6 c cs r) in
+      let here = f c (children-head empty joined summary P 6 c cs r) in
+      omega (arith, ih, here, length-append (items_in c.2) (items_under cs))
+
+  leaf-few : (e : Entries T S) (l : Contents T S (Entries T S)) → contents e ≡ l → IsLawfulLeaf empty joined summary l → length (items_in e) ≤ 12
+  leaf-few e (leaf xs) is w = omega (arith, w, ap length (items-leaf e xs is))
+  leaf-few e (inner cs) is w = absurd w
+
+  times-most : (a b k n : ℕ) → a ≤ b → n ≤ a * k → n ≤ b * k
+  times-most a b k n le h = grind (arith)
+
+  inner-few : (P : Entries T S → Type 0) (k : ℕ) (e : Entries T S) (l : Contents T S (Entries T S)) → ((c : S × ℕ × Entries T S) → IsChild empty joined summary P 6 c → length (items_in c.2) ≤ k) → contents e ≡ l → IsLawfulInner empty joined summary P l → length (items_in e) ≤ 12 * k
+  inner-few P k e (leaf xs) f is w = absurd w
+  inner-few P k e (inner cs) f is w =
+      times-most (length cs) 12 k (length (items_in e)) w.0 (omega (arith, children-few P k cs f w.1, ap length (items-seen e cs is)))
+
+  -- every node
+  pub at-most : (h : ℕ) (e : Entries T S) → IsLawful empty joined summary h e → length (items_in e) ≤ 12 ^ (h + 1)
+  at-most zero e l = leaf-few e (contents e) refl l
+  at-most (suc h) e l =
+      let below = inner-few (IsLawful empty joined summary h) (12 ^ (h + 1)) e (contents e) (λ c k. at-most h c.2 k.below) refl l in
+      let up : 12 ^ (suc h + 1) ≡ 12 ^ (h + 1) * 12 = ap (λ n. 12 ^ (n + 1)) (sym (add-one h)) ∙ pow_more 12 (h + 1) in
+      omega (arith, up, below)
 
   -- the root
   pub root-many : (h : ℕ) (e : Entries T S) → IsRoot empty joined summary (suc h) e → 2 * 6 ^ (h + 1) ≤ length (items_in e)

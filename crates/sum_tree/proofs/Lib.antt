@@ -5,5 +5,6 @@ pub mod PlaceLists
 pub mod Places
 pub mod Positions
 pub mod Prefixes
+pub mod Puts
 pub mod Raises
 pub mod Reaching

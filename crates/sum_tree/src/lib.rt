@@ -8,6 +8,7 @@
 
 mod cursor;
 mod find;
+mod in_place;
 mod joins;
 mod open;
 mod pack;

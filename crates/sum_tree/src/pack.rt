@@ -9,10 +9,10 @@ use std::alloc::Global;
 use sum_core::{Child, Entries, Item, Node, Summary};
 
 /// The greatest number of entries in a node.
-const MOST: usize = 12;
+pub const MOST: usize = 12;
 
 /// The sum of the items.
-fn sum_items<T: Item>(items: &[T]) -> T::Sum
+pub fn sum_items<T: Item>(items: &[T]) -> T::Sum
     requires { T.Sum.fits (total T.Sum.empty T.Sum.joined T.summary items.now) }
     ensures { result ≡ total T.Sum.empty T.Sum.joined T.summary items.now }
 {
@@ -24,7 +24,7 @@ fn sum_items<T: Item>(items: &[T]) -> T::Sum
 }
 
 /// The sum and the number of the items below the children.
-fn sum_children<T: Item>(children: &[Child<T>], below: usize) -> (T::Sum, usize)
+pub fn sum_children<T: Item>(children: &[Child<T>], below: usize) -> (T::Sum, usize)
     requires children { IsChildList T.Sum.empty T.Sum.joined T.summary (IsLawful T.Sum.empty T.Sum.joined T.summary below) 6 (map child_value children.now) }
     requires fits { T.Sum.fits (total T.Sum.empty T.Sum.joined T.summary (items_under (map child_value children.now))) }
     requires small { length (items_under (map child_value children.now)) < 2 ^ 32 }

@@ -1,11 +1,13 @@
 //! The tree as a list of items.
-ghost use Rattle.std.specs.Prelude.{ℕ, ◌≡◌, ◌+◌, ◌*◌, ◌^◌, ◌<◌, ◌≤◌, ◌++◌, ◌∷◌, [], IfOk, OnOk, OnErr, length, vec_len, take, drop, slice_get};
+ghost use Rattle.std.specs.Prelude.{ℕ, ◌≡◌, ◌+◌, ◌*◌, ◌^◌, ◌<◌, ◌≤◌, ◌++◌, ◌∷◌, [], IfOk, OnOk, OnErr, MatchResult, length, vec_len, take, drop, slice_get};
 ghost use Rattle.std.specs.List.{position};
 ghost use Rattle.std.specs.Option.{option_copied};
 ghost use Rattle.sum_core.specs.Sums.{total};
+ghost use Rattle.sum_tree.specs.Parts.{put};
 
 use crate::cursor::Cursor;
 use crate::find::item_at;
+use crate::in_place::put_in_tree;
 use crate::pack::make_leaf;
 use crate::search::{Probe, before_below};
 use crate::splits::split_at;
@@ -115,9 +117,10 @@ impl<T: Item> SumTree<T> {
         }
     }
 
-    /// The number of levels below the root.
+    /// The number of levels below the root: no more than the items allow, and enough of them for the items.
     pub fn height(&self) -> u32
-        ensures { (h : ℕ) → length self.now < 2 * 6 ^ (h + 1) → result ≤ h }
+        ensures low { (h : ℕ) → length self.now < 2 * 6 ^ (h + 1) → result ≤ h }
+        ensures enough { length self.now ≤ 12 ^ (result + 1) }
     {
         match &self.tree {
             None => 0,
@@ -145,7 +148,22 @@ impl<T: Item> SumTree<T> {
         }
     }
 
-    /// Adds an item at the end.
+    /// A list of one item.
+    fn single(alloc: Global, item: T, steps: &mut Steps) -> Result<SumTree<T>, NoMemory>
+        requires { T.Sum.fits (total T.Sum.empty T.Sum.joined T.summary (item ∷ [])) }
+        ensures ok { IfOk result (λ t. t ≡ item ∷ []) }
+        ensures steps { steps.new ≤ steps.old + 1 }
+    {
+        let mut items = Vec::new(alloc);
+        items.push(item)?;
+        let leaf = make_leaf(alloc, items, steps)?;
+        Ok(SumTree {
+            alloc,
+            tree: Some(Tree::over(leaf, 0)),
+        })
+    }
+
+    /// Adds an item at the end: in place where the last leaf has room, and else by a join.
     pub fn push(&mut self, alloc: Global, item: T, steps: &mut Steps) -> Result<(), NoMemory>
         requires fits { T.Sum.fits (total T.Sum.empty T.Sum.joined T.summary (self.old ++ item ∷ [])) }
         requires small { length (self.old ++ item ∷ []) < 2 ^ 32 }
@@ -153,15 +171,14 @@ impl<T: Item> SumTree<T> {
         ensures err { OnErr result (self.new ≡ self.old) }
         ensures steps { (h : ℕ) → length (self.old ++ item ∷ []) < 2 * 6 ^ (h + 1) → steps.new ≤ steps.old + 128 * (h + 1) }
     {
-        let mut items = Vec::new(alloc);
-        items.push(item)?;
-        let single = Tree::over(make_leaf(alloc, items, steps)?, 0);
-        let tree = match &self.tree {
-            None => single,
-            Some(tree) => join(alloc, tree, &single, steps)?,
-        };
-        self.tree = Some(tree);
-        Ok(())
+        let end = self.len();
+        match self.put_in_place(alloc, end, end, item, steps) {
+            Ok(()) => Ok(()),
+            Err(item) => {
+                let single = SumTree::single(alloc, item, steps)?;
+                self.append(alloc, single, steps)
+            }
+        }
     }
 
     /// Adds the items of another tree at the end.
@@ -176,6 +193,22 @@ impl<T: Item> SumTree<T> {
         ensures ok { OnOk result (self.new ≡ self.old ++ other) }
         ensures err { OnErr result (self.new ≡ self.old) }
         ensures steps { (h : ℕ) → length (self.old ++ other) < 2 * 6 ^ (h + 1) → steps.new ≤ steps.old + 128 * (h + 1) }
+    {
+        self.append(alloc, other, steps)
+    }
+
+    /// The same as `concat`, with a bound on the steps that knows no height.
+    fn append(
+        &mut self,
+        alloc: Global,
+        other: SumTree<T>,
+        steps: &mut Steps,
+    ) -> Result<(), NoMemory>
+        requires fits { T.Sum.fits (total T.Sum.empty T.Sum.joined T.summary (self.old ++ other)) }
+        requires small { length (self.old ++ other) < 2 ^ 32 }
+        ensures ok { OnOk result (self.new ≡ self.old ++ other) }
+        ensures err { OnErr result (self.new ≡ self.old) }
+        ensures steps { steps.new ≤ steps.old + 38 }
     {
         let SumTree {
             alloc: _,
@@ -233,7 +266,64 @@ impl<T: Item> SumTree<T> {
         ensures err { OnErr result (self.new ≡ self.old) }
         ensures steps { (h : ℕ) → length self.old < 2 * 6 ^ (h + 1) → length (take from self.old ++ items.items ++ drop to self.old) < 2 * 6 ^ (h + 1) → steps.new ≤ steps.old + 800 * (h + 1) + 4 * (length items.items + 1) }
     {
-        let middle = SumTree::from_vec(alloc, items, steps)?;
+        let mut items = items;
+        if to - from > 1 || items.len() != 1 {
+            let middle = SumTree::from_vec(alloc, items, steps)?;
+            return self.splice(alloc, from, to, middle, steps);
+        }
+        let item = items.remove(0);
+        match self.put_in_place(alloc, from, to, item, steps) {
+            Ok(()) => Ok(()),
+            Err(item) => {
+                let middle = SumTree::single(alloc, item, steps)?;
+                self.splice(alloc, from, to, middle, steps)
+            }
+        }
+    }
+
+    /// Puts `item` in the place of the items from `from` to `to`, of which there is at most one, on the nodes that lead
+    /// there. `Err` hands the item back: its leaf has no room, or there is no memory, and the list is as it was.
+    fn put_in_place(
+        &mut self,
+        alloc: Global,
+        from: u32,
+        to: u32,
+        item: T,
+        steps: &mut Steps,
+    ) -> Result<(), T>
+        requires order { from ≤ to }
+        requires one { to ≤ from + 1 }
+        requires within { to ≤ length self.old }
+        requires fits { T.Sum.fits (total T.Sum.empty T.Sum.joined T.summary (put from to item self.old)) }
+        requires small { length (put from to item self.old) < 2 ^ 32 }
+        ensures put { MatchResult result (λ _. self.new ≡ put from to item self.old) (λ i. (self.new ≡ self.old) × (i ≡ item)) }
+        ensures steps { steps.new ≤ steps.old + 12 }
+    {
+        let Some(mut tree) = self.tree.take() else {
+            return Err(item);
+        };
+        let put = put_in_tree(alloc, &mut tree, from as usize, to as usize, item, steps);
+        self.tree = Some(tree);
+        put
+    }
+
+    /// Puts the items of another tree in the place of those from place `from` to place `to`, by cuts and joins.
+    fn splice(
+        &mut self,
+        alloc: Global,
+        from: u32,
+        to: u32,
+        middle: SumTree<T>,
+        steps: &mut Steps,
+    ) -> Result<(), NoMemory>
+        requires order { from ≤ to }
+        requires within { to ≤ length self.old }
+        requires fits { T.Sum.fits (total T.Sum.empty T.Sum.joined T.summary (take from self.old ++ middle ++ drop to self.old)) }
+        requires small { length (take from self.old ++ middle ++ drop to self.old) < 2 ^ 32 }
+        ensures ok { OnOk result (self.new ≡ take from self.old ++ middle ++ drop to self.old) }
+        ensures err { OnErr result (self.new ≡ self.old) }
+        ensures steps { (h : ℕ) → length self.old < 2 * 6 ^ (h + 1) → length (take from self.old ++ middle ++ drop to self.old) < 2 * 6 ^ (h + 1) → steps.new ≤ steps.old + 512 * (h + 1) }
+    {
         let mut front = self.share()?;
         let mut back = front.split_off(alloc, from, steps)?;
         let back = back.split_off(alloc, to - from, steps)?;

@@ -1,6 +1,7 @@
-use Rattle.std.proofs.Common.{◌≡◌, ◌≤◌, ◌++◌, ◌∙◌, sym, arith, take, drop, length, ap, refl}
-use Rattle.std.proofs.lemmas.List.{length-drop}
+use Rattle.std.proofs.Common.{◌≡◌, ◌∷◌, [], ◌++◌, ◌∙◌, sym, subst, take, drop, refl, arith, ap, length}
+use Rattle.sum_core.specs.Sums.{total}
 use Rattle.sum_core.proofs.Children.{fits-left, fits-right}
+use Rattle.sum_tree.proofs.Puts.{only-item}
 use Rattle.sum_tree.proofs.sum_tree.SumTree.replace.Goals as goal
 
 pub from_vec-requires-clause-fits : goal.from_vec-requires-clause-fits
@@ -10,19 +11,10 @@ from_vec-requires-clause-fits g c =
     let most = fits-left m.empty m.joined m.fits g.T.Item.summary g.met.T.Sum.Summary.laws _ (front ++ c.args.items.items) (drop c.args.to c.args.self.now) refl c.requires.fits in
     fits-right m.empty m.joined m.fits g.T.Item.summary g.met.T.Sum.Summary.laws _ front c.args.items.items refl most
 
-pub concat-requires-clause-fits : goal.concat-requires-clause-fits
-concat-requires-clause-fits g c =
+pub single-requires : goal.single-requires
+single-requires g c =
     let m = g.T.Sum.Summary in
-    let front : c.split_off.new.self ≡ take c.args.from c.args.self.now = c.in_ok-back.ensures.ok ∙ ap (take c.args.from) c.in_ok-front.ensures in
-    let parts : (take c.args.from c.args.self.now ++ c.args.items.items) ++ drop c.args.to c.args.self.now ≡ (c.split_off.new.self ++ c.in_ok-middle.middle) ++ drop c.args.to c.args.self.now =
-    ap (λ l. (l ++ c.args.items.items) ++ drop c.args.to c.args.self.now) (sym front)
-    ∙ ap (λ l. (c.split_off.new.self ++ l) ++ drop c.args.to c.args.self.now) (sym c.in_ok-middle.ensures.ok) in
-    fits-left m.empty m.joined m.fits g.T.Item.summary g.met.T.Sum.Summary.laws _ (c.split_off.new.self ++ c.in_ok-middle.middle) (drop c.args.to c.args.self.now) parts c.requires.fits
-
-pub returns-in_err-back-2-clause-steps : goal.returns-in_err-back-2-clause-steps
-returns-in_err-back-2-clause-steps g c h few new =
-    let same : length c.in_ok-front.front ≡ length c.args.self.now = ap length c.in_ok-front.ensures in
-    let one = c.in_ok-back.ensures.steps h (omega (arith, few, same)) in
-    let shorter : length c.in_ok-back.back ≤ length c.args.self.now = omega (arith, ap length c.in_ok-back.ensures.tail, length-drop c.args.from c.in_ok-front.front, same) in
-    let two = c.in_err-back-2.ensures.steps h (omega (arith, few, shorter)) in
-    omega (arith, one, two, c.in_ok-middle.ensures.steps)
+    let front = take c.args.from c.args.self.now in
+    let most = fits-left m.empty m.joined m.fits g.T.Item.summary g.met.T.Sum.Summary.laws _ (front ++ c.args.items.items) (drop c.args.to c.args.self.now) refl c.requires.fits in
+    let one = only-item c.args.items.items c.remove-item.result (omega (arith, c.len.ensures, c.if-len-ne1.false)) c.remove-item.ensures.value ∙ ap (λ x. x ∷ []) (sym c.in-Err.ensures.put.1) in
+    subst (λ l. m.fits (total m.empty m.joined g.T.Item.summary l)) one (fits-right m.empty m.joined m.fits g.T.Item.summary g.met.T.Sum.Summary.laws _ front c.args.items.items refl most)

@@ -1,0 +1,20 @@
+use Rattle.std.proofs.Common.{◌≡◌, ◌≤◌, ◌++◌, ◌∙◌, sym, arith, take, drop, length, ap, refl}
+use Rattle.std.proofs.lemmas.List.{length-drop}
+use Rattle.sum_core.proofs.Children.{fits-left, fits-right}
+use Rattle.sum_tree.proofs.sum_tree.SumTree.splice.Goals as goal
+
+pub concat-requires-clause-fits : goal.concat-requires-clause-fits
+concat-requires-clause-fits g c =
+    let m = g.T.Sum.Summary in
+    let front : c.split_off.new.self ≡ take c.args.from c.args.self.now = c.in_ok-back.ensures.ok ∙ ap (take c.args.from) c.in_ok-front.ensures in
+    let parts : (take c.args.from c.args.self.now ++ c.args.middle) ++ drop c.args.to c.args.self.now ≡ (c.split_off.new.self ++ c.args.middle) ++ drop c.args.to c.args.self.now =
+    ap (λ l. (l ++ c.args.middle) ++ drop c.args.to c.args.self.now) (sym front) in
+    fits-left m.empty m.joined m.fits g.T.Item.summary g.met.T.Sum.Summary.laws _ (c.split_off.new.self ++ c.args.middle) (drop c.args.to c.args.self.now) parts c.requires.fits
+
+pub returns-in_err-back-2-clause-steps : goal.returns-in_err-back-2-clause-steps
+returns-in_err-back-2-clause-steps g c h few new =
+    let same : length c.in_ok-front.front ≡ length c.args.self.now = ap length c.in_ok-front.ensures in
+    let one = c.in_ok-back.ensures.steps h (omega (arith, few, same)) in
+    let shorter : length c.in_ok-back.back ≤ length c.args.self.now = omega (arith, ap length c.in_ok-back.ensures.tail, length-drop c.args.from c.in_ok-front.front, same) in
+    let two = c.in_err-back-2.ensures.steps h (omega (arith, few, shorter)) in
+    omega (arith, one, two)
