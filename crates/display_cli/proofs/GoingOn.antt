@@ -17,6 +17,7 @@ use Rattle.display_cli.specs.Legal.{IsLegalSoFar, is_line, is_landed, is_end, nu
 use Rattle.display_cli.specs.Outside.{Appends}
 use Rattle.display_cli.specs.Output.{output}
 use Rattle.display_cli.specs.Going.{IsFree, Course, IsGoing, IsCut, AreOver, round, HasLanded, IsWithinRound, IsRoundStopped}
+use Rattle.display_cli.proofs.LastLine.{begun-more}
 use Rattle.display_cli.proofs.Snoc.{quiet-append, last-snoc, any-snoc}
 use Rattle.display_cli.proofs.Next.{legal-snoc, free-snoc, not-changing, next-sent, next-landed, next-published}
 use Rattle.display_cli.proofs.Rounds.{next-run-is, send-next, is-out, over-landed, state-sent, state-round, unwrapped, fewer-unwrapped}
@@ -31,6 +32,7 @@ pub going-cut : (course : Course) (left : List (ℕ × List ℕ)) (refused : Boo
 going-cut course left refused taken h going =
     record {
       opening = going.opening;
+      begun = going.free.begun;
       legal = going.legal;
       front = output h.opening course.script h.events;
       rest = [];
@@ -62,6 +64,7 @@ cut-quiet course left refused taken h more going no_line legal =
     let quiet = quiet-append h.opening course.script h.events more no_line in
     record {
       opening = going.opening;
+      begun = begun-more h.events more going.free.begun;
       legal = legal;
       front = output h.opening course.script h.events;
       rest = [];

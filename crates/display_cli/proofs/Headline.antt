@@ -1,5 +1,5 @@
 -- What a run is, what caused its note, and which notes are owed.
-use Rattle.std.proofs.Common.{◌≡◌, ℕ, ◌<◌, ◌≤◌, ◌⊎◌, inl, inr, Bool, true, List, [], length, Option, Some, refl, sym, ap, ◌∙◌, subst, arith}
+use Rattle.std.proofs.Common.{◌≡◌, ℕ, ◌<◌, ◌≤◌, ◌⊎◌, inl, inr, Bool, true, List, [], length, Err, Option, Some, refl, sym, ap, ◌∙◌, subst, arith}
 use Rattle.std.specs.Prelude.{◌↔◌, ◌≢◌, IfSome}
 use Rattle.std.specs.Str.{IsUtf8}
 use Rattle.std.specs.Str.Lossy.{utf8_valid_len}
@@ -14,7 +14,7 @@ use Rattle.display_cli.specs.declared.ended.Note.{Note}
 use Rattle.display_cli.specs.declared.ended.Note.TheVariants.{Fine, Usage, ReadText, ReadScript, Write, TextNotUtf8, TextTooLong, ScriptTooLong, JournalFull, Memory}
 use Rattle.display_cli.specs.Outside.{Faults, HasRisen, AreTold}
 use Rattle.display_cli.specs.Ended.{IsAccepted, Run, IsNothing, IsRunOf, IsCaused, IsOwed, IsComplete, script_limit}
-use Rattle.display_cli.specs.Going.{Course, IsPlayed, IsCut, IsWhy, course_of}
+use Rattle.display_cli.specs.Going.{Course, IsPlayed, IsCut, IsWhy, HasEnded, course_of}
 use Rattle.display_cli.specs.Opening.{IsOpenedOn, IsTextRefused, IsScript, IsScriptRefused, history_of, HasRun, note_of}
 
 told-accepted : {o : Option (List ℕ)} (b bytes : List ℕ) → o ≡ Some bytes → AreTold o b → IsAccepted b → IsAccepted bytes
@@ -40,17 +40,20 @@ run-stopped : (course : Course) (a b : ℕ) (taken : Option (List ℕ)) (status 
     → IsCut course taken (history_of course events) → IsWhy course.script a b events stop → HasRun course a b taken status events (note_of stop)
 run-stopped course a b taken status events stops.Write cut why = (cut, why)
 run-stopped course a b taken status events stops.JournalFull cut why = (cut, why)
-run-stopped course a b taken status events stops.Memory cut why = cut
+run-stopped course a b taken status events stops.Memory cut why = inl cut
 
 pub run-err : (course : Course) (a b : ℕ) (taken : Option (List ℕ)) (h : History) (status : ℕ) (events : List Event) (stop : Stop) (note : Note)
-    → IsCut course taken h × IsWhy course.script a b h.events stop → events ≡ h.events → note ≡ note_of stop → HasRun course a b taken status events note
+    → HasEnded course a b taken h (Err stop) → events ≡ h.events → note ≡ note_of stop → HasRun course a b taken status events note
 run-err course a b taken h status events stop note it same is =
     let P : List ℕ → Type 0 = λ text. IsCut course taken (record { opening = text; events = h.events }) in
     let Q : List Event → Type 0 = λ l. IsCut course taken (history_of course l) in
     let W : List Event → Type 0 = λ l. IsWhy course.script a b l stop in
-    let cut = it.0 in
+    let S : Stop → Type 0 = λ s. HasRun course a b taken status events (note_of s) in
     let N : Note → Type 0 = λ n. HasRun course a b taken status events n in
-    subst N (sym is) (run-stopped course a b taken status events stop (subst Q (sym same) (subst P cut.opening cut)) (subst W (sym same) it.1))
+    subst N (sym is) (elim it [
+      | inl cut ↦ run-stopped course a b taken status events stop (subst Q (sym same) (subst P cut.0.opening cut.0)) (subst W (sym same) cut.1)
+      | inr none ↦ subst S (sym none.0) (inr (same ∙ none.1.0, none.1.1))
+    ])
 
 module _ (told : List ℕ → Option (List ℕ)) (plan : Plan) (old new : Faults) (a b : ℕ) (before taken : Option (List ℕ)) (status : ℕ) (events : List Event) where
   abbrev the-run : Run
@@ -88,6 +91,7 @@ module _ (told : List ℕ → Option (List ℕ)) (plan : Plan) (old new : Faults
           bytes = bytes;
           script = script;
           read = record { text_told = text; script_told = read.0; text_accepted = accepted; script_fits = read.1 };
+          begun = cut.begun;
           legal = cut.legal;
           front = cut.front;
           rest = cut.rest;
@@ -104,6 +108,7 @@ module _ (told : List ℕ → Option (List ℕ)) (plan : Plan) (old new : Faults
           bytes = bytes;
           script = script;
           read = record { text_told = text; script_told = read.0; text_accepted = accepted; script_fits = read.1 };
+          begun = cut.begun;
           legal = cut.legal;
           front = cut.front;
           rest = cut.rest;
@@ -115,16 +120,20 @@ module _ (told : List ℕ → Option (List ℕ)) (plan : Plan) (old new : Faults
   ran bytes script Memory text accepted read it =
       record {
         read = λ e. cc;
-        meaning = inl (record {
-          bytes = bytes;
-          script = script;
-          read = record { text_told = text; script_told = read.0; text_accepted = accepted; script_fits = read.1 };
-          legal = it.legal;
-          front = it.front;
-          rest = it.rest;
-          written = it.written;
-          is_front = it.is_front;
-        });
+        meaning = elim it [
+          | inl cut ↦ inl (record {
+            bytes = bytes;
+            script = script;
+            read = record { text_told = text; script_told = read.0; text_accepted = accepted; script_fits = read.1 };
+            begun = cut.begun;
+            legal = cut.legal;
+            front = cut.front;
+            rest = cut.rest;
+            written = cut.written;
+            is_front = cut.is_front;
+          })
+          | inr none ↦ inr none
+        ];
         caused = tt;
       }
   ran bytes script Usage text accepted read it = absurd it

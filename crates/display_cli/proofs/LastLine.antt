@@ -74,6 +74,11 @@ pub end-not-empty : (p : List Event) (e : Event) (more : List Event) → p ++ (e
 end-not-empty [] e more same = cc
 end-not-empty (x ∷ p) e more same = cc
 
+-- a history that has begun stays begun
+pub begun-more : (h more : List Event) → (h ≡ [] → ⊥) → h ++ more ≡ [] → ⊥
+begun-more [] more begun e = begun refl
+begun-more (x ∷ h) more begun e = cc
+
 pub append-same : {X : Type 0} (d xs ys : List X) → d ++ xs ≡ d ++ ys → xs ≡ ys
 append-same [] xs ys same = same
 append-same (x ∷ d) xs ys same = let rest : d ++ xs ≡ d ++ ys = cc in append-same d xs ys rest

@@ -20,7 +20,7 @@ use Rattle.display_cli.specs.Outside.{Appends}
 use Rattle.display_cli.specs.Output.{output, any_refused, answer, printed, is_refused}
 use Rattle.display_cli.specs.Going.{IsFree, Course, IsGoing, IsCut, IsCalm, AreOver, TakesFront, changed}
 use Rattle.display_cli.proofs.Snoc.{quiet-append, output-snoc, any_refused-snoc, lines-append, last-snoc, any-snoc}
-use Rattle.display_cli.proofs.LastLine.{dids, same-end, end-not-empty, dids-more}
+use Rattle.display_cli.proofs.LastLine.{dids, same-end, end-not-empty, begun-more, dids-more}
 use Rattle.display_cli.proofs.Next.{legal-snoc, free-snoc, next-line-event, next-did, next-published, all-done}
 use Rattle.display_cli.proofs.Rounds.{none-wait, all-settled, state-append}
 use Rattle.display_cli.proofs.Fronts.{appends-more, appends-none, appends-same, front-behind}
@@ -129,6 +129,7 @@ module _ (course : Course) (number : ℕ) (line : List ℕ) (left : List (ℕ ×
       ∙ (ap (λ l. output h.opening course.script h.events ++ printed l) (sym answered) ∙ sym its-output)) in
       record {
         opening = going.opening;
+        begun = end-not-empty h.events (Line number) [];
         legal = its-legal calm;
         front = whole.0;
         rest = whole.1;
@@ -259,6 +260,7 @@ module _ (course : Course) (number : ℕ) (line : List ℕ) (left : List (ℕ ×
       let here = its-output course number line left refused taken h going in
       record {
         opening = going.opening;
+        begun = begun-more (h.events ++ Line number ∷ []) (dids (batch splices)) (end-not-empty h.events (Line number) []);
         legal = all-legal;
         front = output h.opening course.script h.events;
         rest = [];

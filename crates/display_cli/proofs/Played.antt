@@ -1,5 +1,5 @@
 -- A run from its first version to its last.
-use Rattle.std.proofs.Common.{◌≡◌, ℕ, zero, suc, ◌+◌, ◌<◌, ◌≤◌, Bool, true, false, not, cond, List, [], ◌∷◌, ◌++◌, map, length, take, drop, get_or, Option, Some, None, Result, Ok, Err, refl, sym, ap, ◌∙◌, subst, arith}
+use Rattle.std.proofs.Common.{◌≡◌, ℕ, zero, suc, ◌+◌, ◌<◌, ◌≤◌, inl, inr, Bool, true, false, not, cond, List, [], ◌∷◌, ◌++◌, map, length, take, drop, get_or, Option, Some, None, Result, Ok, Err, refl, sym, ap, ◌∙◌, subst, arith}
 use Rattle.std.specs.Prelude.{◌||◌, ◌==◌, nat_lt}
 use Rattle.std.specs.Result.{IsErrAnd}
 use Rattle.std.specs.List.{filter, position, position_or_len, prefix_len}
@@ -14,9 +14,10 @@ use Rattle.display_cli.specs.Ended.{IsFull}
 use Rattle.display_map.specs.Replay.{History, replayed, state_of, appended}
 use Rattle.edit_script.specs.Verdict.{is_blank}
 use Rattle.display_cli.specs.declared.stop.Stop.{Stop}
+use Rattle.display_cli.specs.declared.stop.Stop.TheVariants as stops
 use Rattle.display_cli.specs.Outside.{Appends}
 use Rattle.display_cli.specs.Legal.{AtEach, Opens, TakesNextLine, DoesChanges, PublishesLandings, Sends, LandsOnce, AnswersSettled, KeepsBusy, Ends, IsLegalSoFar, IsDone, script_lines, numbered_lines, lines_in}
-use Rattle.display_cli.specs.Going.{Course, IsGoing, IsCut, IsCalm, IsWhy, AreOver, IsHandled, IsPlayed, HasEnded, course_of, numbered_from}
+use Rattle.display_cli.specs.Going.{Course, IsGoing, IsCut, IsCalm, IsWhy, IsUnbegun, AreOver, IsHandled, IsPlayed, HasEnded, course_of, numbered_from}
 use Rattle.display_cli.proofs.Snoc.{quiet-append, last-snoc}
 use Rattle.display_cli.proofs.Next.{legal-snoc, free-snoc, next-opening, next-last}
 use Rattle.display_cli.proofs.Rounds.{all-settled, none-outstanding}
@@ -144,11 +145,6 @@ none-legal text script =
     }
 
 module _ (h : History) (script : List ℕ) (before : Option (List ℕ)) (fresh : h.events ≡ []) where
-  pub cut-fresh : IsCut (course_of h script before) before h
-  cut-fresh =
-      let P : List Event → Type 0 = λ events. IsCut (course_of h script before) before (record { opening = h.opening; events = events }) in
-      subst P (sym fresh) (record { opening = refl; legal = none-legal h.opening script; front = []; rest = []; written = appends-none before; is_front = refl })
-
   pub going-fresh : IsGoing (course_of h script before) (numbered_from 1 (script_lines script)) false before (appended h (Published false ∷ []))
   going-fresh =
       let P : List Event → Type 0 = λ events. IsGoing (course_of h script before) (numbered_from 1 (script_lines script)) false before
@@ -204,4 +200,10 @@ pub ended-err : (course : Course) (a b : ℕ) (taken : Option (List ℕ)) (h : H
     → IsErrAnd r (λ e. e ≡ stop) → IsCut course taken h × IsWhy course.script a b h.events stop → HasEnded course a b taken h r
 ended-err course a b taken h (Ok now) stop e it = absurd e
 ended-err course a b taken h (Err other) stop e it =
-    let P : Stop → Type 0 = λ s. IsCut course taken h × IsWhy course.script a b h.events s in subst P (sym e) it
+    let P : Stop → Type 0 = λ s. HasEnded course a b taken h (Err s) in subst P (sym e) (inl it)
+
+-- there was no memory to begin
+pub ended-unbegun : (course : Course) (a b : ℕ) (taken : Option (List ℕ)) (h : History) (r : Result Bool Stop)
+    → IsErrAnd r (λ e. e ≡ stops.Memory) → IsUnbegun course taken h.events → HasEnded course a b taken h r
+ended-unbegun course a b taken h (Ok now) e it = absurd e
+ended-unbegun course a b taken h (Err other) e it = inr (e, it)

@@ -1,5 +1,5 @@
 -- How a run ends, and what each end means.
-use Rattle.std.specs.Prelude.{ℕ, ◌≡◌, ◌+◌, ◌<◌, ◌≤◌, ◌⊎◌, ◌↔◌, ◌++◌, true, List, [], length, Option, Some, None, IfSome}
+use Rattle.std.specs.Prelude.{ℕ, ◌≡◌, ◌≢◌, ◌+◌, ◌<◌, ◌≤◌, ◌⊎◌, ◌↔◌, ◌++◌, true, List, [], length, Option, Some, None, IfSome}
 use Rattle.std.specs.Str.{IsUtf8}
 use Rattle.std.specs.Str.Lossy.{utf8_valid_len}
 use Rattle.cell_units.specs.Text.{clean}
@@ -8,6 +8,7 @@ use Rattle.display_map.specs.Changes.{text_limit}
 use Rattle.display_map.specs.Faults.{event_limit}
 use Rattle.edit_script.specs.Commands.{Command, Edit, command_of}
 use Rattle.display_cli.specs.declared.words.Plan.{Plan}
+use Rattle.display_cli.specs.declared.ended.Ended.{Ended}
 use Rattle.display_cli.specs.declared.ended.Note.{Note}
 use Rattle.display_cli.specs.declared.ended.Note.TheVariants.{Fine, Usage, ReadText, ReadScript, Write, TextNotUtf8, TextTooLong, ScriptTooLong, JournalFull, Memory}
 use Rattle.display_cli.specs.Outside.{Faults, HasRisen, AreTold, Appends}
@@ -35,13 +36,24 @@ HasStatus Memory status = status ≡ 6
 abbrev pub IsAccepted : List ℕ → Type 0
 IsAccepted bytes = (length bytes ≤ text_limit) × IsUtf8 bytes
 
--- what the inputs tell of each name, what the sink told that it took before and after, the status, and the history
+-- a run, as it is seen: what the inputs tell of each name, what the sink told that it took before and after, the status and
+-- the history
 pub record Run : Type 0 where
   pub told : List ℕ → Option (List ℕ)
   pub taken_before : Option (List ℕ)
   pub taken_after : Option (List ℕ)
   pub status : ℕ
   pub history : List Event
+
+-- the run that ended so
+abbrev pub run_of : (told : List ℕ → Option (List ℕ)) (taken_before taken_after : Option (List ℕ)) → Ended → Run
+run_of told taken_before taken_after ended = record {
+  told = told;
+  taken_before = taken_before;
+  taken_after = taken_after;
+  status = ended.status;
+  history = ended.history;
+}
 
 -- a text and a script that were read whole and accepted
 pub record HasRead (told : List ℕ → Option (List ℕ)) (plan : Plan) (bytes script : List ℕ) : Type 0 where
@@ -59,11 +71,12 @@ pub record IsFinished (run : Run) (plan : Plan) : Type 0 where
   pub written : Appends run.taken_before run.taken_after (output (clean bytes) script run.history)
   pub status : (run.status ≡ 1) ↔ (any_refused (clean bytes) script run.history ≡ true)
 
--- a stopped run: its history is legal so far, and it wrote a front of its output
+-- a stopped run: its history has begun and is legal so far, and it wrote a front of its output
 pub record IsStopped (run : Run) (plan : Plan) : Type 0 where
   pub bytes : List ℕ
   pub script : List ℕ
   pub read : HasRead run.told plan bytes script
+  pub begun : run.history ≢ []
   pub legal : IsLegalSoFar (clean bytes) script 1 run.history
   pub front : List ℕ
   pub rest : List ℕ
@@ -74,7 +87,7 @@ pub record IsStopped (run : Run) (plan : Plan) : Type 0 where
 abbrev pub IsNothing : Run → Type 0
 IsNothing run = (run.history ≡ []) × (run.taken_after ≡ run.taken_before)
 
--- what a run is by its note. Want of memory may also come before the display is started
+-- what a run is by its note. Want of memory alone may also come before the history has begun
 abbrev pub IsRunOf : Run → Plan → Note → Type 0
 IsRunOf run plan Fine = IsFinished run plan
 IsRunOf run plan Write = IsStopped run plan

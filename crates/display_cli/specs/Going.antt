@@ -44,9 +44,10 @@ pub record IsGoing (course : Course) (left : List (ℕ × List ℕ)) (refused : 
   pub written : Appends course.before taken (output h.opening course.script h.events)
   pub refusals : any_refused h.opening course.script h.events ≡ refused
 
--- a run that stopped: its history is legal so far, and a front of its output was written
+-- a run that stopped: its history has begun and is legal so far, and a front of its output was written
 pub record IsCut (course : Course) (taken : Option (List ℕ)) (h : History) : Type 0 where
   pub opening : h.opening ≡ course.text
+  pub begun : h.events ≢ []
   pub legal : IsLegalSoFar h.opening course.script 1 h.events
   pub front : List ℕ
   pub rest : List ℕ
@@ -135,10 +136,16 @@ pub record IsPlayed (course : Course) (refused : Bool) (taken : Option (List ℕ
   pub written : Appends course.before taken (output h.opening course.script h.events)
   pub refusals : any_refused h.opening course.script h.events ≡ refused
 
--- how a run ended: it came to its end, or it stopped
+-- a run that hasn't begun: there is no event, and nothing was taken
+abbrev pub IsUnbegun : Course → Option (List ℕ) → List Event → Type 0
+IsUnbegun course taken events = (events ≡ []) × (taken ≡ course.before)
+
+-- how a run ended: it came to its end, or it stopped, or there was no memory to begin it
 abbrev pub HasEnded : Course → ℕ → ℕ → Option (List ℕ) → History → Result Bool Stop → Type 0
 HasEnded course old new taken h (Ok refused) = IsPlayed course refused taken h
-HasEnded course old new taken h (Err stop) = IsCut course taken h × IsWhy course.script old new h.events stop
+HasEnded course old new taken h (Err stop) =
+    (IsCut course taken h × IsWhy course.script old new h.events stop)
+    ⊎ ((stop ≡ stops.Memory) × IsUnbegun course taken h.events)
 
 -- the course of a run that is about to start
 abbrev pub course_of : History → List ℕ → Option (List ℕ) → Course

@@ -1,5 +1,5 @@
 -- How a text is opened and a script read.
-use Rattle.std.specs.Prelude.{ℕ, ◌≡◌, ◌<◌, ◌≤◌, ◌↔◌, Bool, true, List, [], length, Option, IfSome}
+use Rattle.std.specs.Prelude.{ℕ, ◌≡◌, ◌<◌, ◌≤◌, ◌⊎◌, ◌↔◌, Bool, true, List, [], length, Option, IfSome}
 use Rattle.std.specs.Str.{IsUtf8}
 use Rattle.std.specs.Str.Lossy.{utf8_valid_len}
 use Rattle.cell_units.specs.Text.{clean}
@@ -12,7 +12,7 @@ use Rattle.display_cli.specs.declared.stop.Stop.{Stop}
 use Rattle.display_cli.specs.declared.stop.Stop.TheVariants as stops
 use Rattle.display_cli.specs.Outside.{HasRisen, AreTold}
 use Rattle.display_cli.specs.Ended.{IsAccepted, IsFull, script_limit}
-use Rattle.display_cli.specs.Going.{Course, IsPlayed, IsCut}
+use Rattle.display_cli.specs.Going.{Course, IsPlayed, IsCut, IsUnbegun}
 
 -- a display was started on accepted bytes, which are those that are told
 abbrev pub IsOpenedOn : Option (List ℕ) → History → Type 0
@@ -48,7 +48,7 @@ HasRun course old new taken status events Fine =
     (refused : Bool) × IsPlayed course refused taken (history_of course events) × ((status ≡ 1) ↔ (refused ≡ true))
 HasRun course old new taken status events Write = IsCut course taken (history_of course events) × HasRisen old new
 HasRun course old new taken status events JournalFull = IsCut course taken (history_of course events) × IsFull course.script events
-HasRun course old new taken status events Memory = IsCut course taken (history_of course events)
+HasRun course old new taken status events Memory = IsCut course taken (history_of course events) ⊎ IsUnbegun course taken events
 HasRun course old new taken status events _ = ⊥
 
 -- the note of a run that stopped

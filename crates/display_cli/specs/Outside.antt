@@ -8,6 +8,10 @@ pub record Faults : Type 0 where
   pub text : ℕ
   pub script : ℕ
 
+-- no read failed
+abbrev pub no_faults : Faults
+no_faults = record { text = 0; script = 0 }
+
 abbrev pub faults_of : Faults → Part → ℕ
 faults_of faults Text = faults.text
 faults_of faults Script = faults.script

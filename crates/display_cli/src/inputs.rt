@@ -1,8 +1,8 @@
 //! Inputs: over names in memory, and over files.
-ghost use Rattle.std.specs.Prelude.{◌≡◌, ◌≤◌, length, take, drop, min, IfSome};
+ghost use Rattle.std.specs.Prelude.{◌≡◌, ◌≤◌, None, length, take, drop, min, IfSome};
 ghost use Rattle.std.specs.Option.{option_copied};
 ghost use Rattle.display_cli.specs.Named.{bytes_named, bytes_or_none, faults_in};
-ghost use Rattle.display_cli.specs.Outside.{Faults, HasRisen, faults_of, other};
+ghost use Rattle.display_cli.specs.Outside.{Faults, HasRisen, faults_of, no_faults, other};
 
 use crate::outside::{Failed, Inputs, Part};
 use cell_units::Text;
@@ -18,7 +18,9 @@ struct FaultCounts {
 }
 
 impl FaultCounts {
-    fn none() -> FaultCounts {
+    fn none() -> FaultCounts
+        ensures { faults_in result ≡ no_faults }
+    {
         FaultCounts { text: 0, script: 0 }
     }
 
@@ -82,6 +84,7 @@ impl MapInputs {
         ensures files { result.files ≡ files }
         ensures failing { result.failing ≡ failing }
         ensures calls { result.calls ≡ 0 }
+        ensures faults { faults_in result.faults ≡ no_faults }
     {
         MapInputs {
             files,
@@ -127,7 +130,7 @@ impl SureInputs {
 impl Inputs for SureInputs {
     ghost use Rattle.std.specs.Prelude.{Some};
 
-    ghost faults = { λ _. record { text = 0; script = 0 } };
+    ghost faults = { λ _. no_faults };
 
     ghost told = { λ s name. Some (bytes_or_none s.files.items name) };
 
@@ -156,7 +159,11 @@ pub struct FileInputs<'a, R: Files> {
 }
 
 impl<'a, R: Files> FileInputs<'a, R> {
-    pub fn new(files: &'a R) -> FileInputs<'a, R> {
+    /// Inputs over these files, of which none is open.
+    pub fn new(files: &'a R) -> FileInputs<'a, R>
+        ensures opened { result.opened ≡ None }
+        ensures faults { faults_in result.faults ≡ no_faults }
+    {
         FileInputs {
             files,
             opened: None,

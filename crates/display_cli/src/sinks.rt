@@ -20,6 +20,7 @@ impl ListSink {
         ensures taken { result.taken.items ≡ [] }
         ensures failing { result.failing ≡ failing }
         ensures calls { result.calls ≡ 0 }
+        ensures faults { result.faults ≡ 0 }
     {
         ListSink {
             taken: Vec::new(alloc),
@@ -64,8 +65,10 @@ pub struct StreamSink<W> {
 }
 
 impl<W: Write> StreamSink<W> {
+    /// A sink over this writer.
     pub fn new(writer: W) -> StreamSink<W>
-        ensures { result.writer ≡ writer }
+        ensures writer { result.writer ≡ writer }
+        ensures faults { result.faults ≡ 0 }
     {
         StreamSink { writer, faults: 0 }
     }

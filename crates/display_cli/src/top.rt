@@ -3,7 +3,7 @@ ghost use Rattle.std.specs.Prelude.{◌≡◌, ◌≢◌, ◌↔◌, ℕ, true, 
 ghost use Rattle.display_cli.specs.declared.words.Plan.{Plan};
 ghost use Rattle.display_cli.specs.declared.ended.Note.TheVariants as notes;
 ghost use Rattle.display_cli.specs.Words.{reading};
-ghost use Rattle.display_cli.specs.Ended.{HasStatus, IsRunOf, IsNothing, IsCaused, IsOwed, IsComplete};
+ghost use Rattle.display_cli.specs.Ended.{HasStatus, run_of, IsRunOf, IsNothing, IsCaused, IsOwed, IsComplete};
 ghost use Rattle.display_cli.specs.Opening.{IsOpenedOn, IsTextRefused, IsScript, IsScriptRefused, HasRun, note_of};
 ghost use Rattle.display_cli.specs.Going.{course_of};
 
@@ -145,7 +145,7 @@ fn run_script<K: Sink>(alloc: Global, script: &[u8], display: Display, out: &mut
 fn run_plan<I: Inputs, K: Sink>(alloc: Global, plan: &Plan, inputs: &mut I, out: &mut K) -> Ended
     ensures read { result.note ≢ notes.Usage }
     ensures status { HasStatus result.note result.status }
-    ensures meaning { IsRunOf (record { told = I.told inputs.old; taken_before = K.taken out.old; taken_after = K.taken out.new; status = result.status; history = result.history }) plan.now result.note }
+    ensures meaning { IsRunOf (run_of (I.told inputs.old) (K.taken out.old) (K.taken out.new) result) plan.now result.note }
     ensures caused { IsCaused (I.told inputs.old) plan.now (I.faults inputs.old) (I.faults inputs.new) (K.faults out.old) (K.faults out.new) result.history result.note }
 {
     let display = match open_text(alloc, plan, inputs) {
@@ -176,8 +176,9 @@ pub fn run<I: Inputs, K: Sink>(
 ) -> Ended
     ensures usage { (reading (map string_bytes words.now) ≡ None) ↔ (result.note ≡ notes.Usage) }
     ensures status { HasStatus result.note result.status }
-    ensures nothing { result.note ≡ notes.Usage → IsNothing (record { told = I.told inputs.old; taken_before = K.taken out.old; taken_after = K.taken out.new; status = result.status; history = result.history }) }
-    ensures meaning { (plan : Plan) → reading (map string_bytes words.now) ≡ Some plan → IsRunOf (record { told = I.told inputs.old; taken_before = K.taken out.old; taken_after = K.taken out.new; status = result.status; history = result.history }) plan result.note }
+    ensures nothing { result.note ≡ notes.Usage → IsNothing (run_of (I.told inputs.old) (K.taken out.old) (K.taken out.new) result) }
+    ensures untouched { result.note ≡ notes.Usage → (inputs.new ≡ inputs.old) × (out.new ≡ out.old) }
+    ensures meaning { (plan : Plan) → reading (map string_bytes words.now) ≡ Some plan → IsRunOf (run_of (I.told inputs.old) (K.taken out.old) (K.taken out.new) result) plan result.note }
     ensures caused { (plan : Plan) → reading (map string_bytes words.now) ≡ Some plan → IsCaused (I.told inputs.old) plan (I.faults inputs.old) (I.faults inputs.new) (K.faults out.old) (K.faults out.new) result.history result.note }
     ensures owed { (plan : Plan) → reading (map string_bytes words.now) ≡ Some plan → IsOwed (I.told inputs.old) plan (I.faults inputs.old) (I.faults inputs.new) result.note }
     ensures complete { (plan : Plan) → reading (map string_bytes words.now) ≡ Some plan → IsComplete (I.told inputs.old) plan (I.faults inputs.old) (I.faults inputs.new) (K.faults out.old) (K.faults out.new) result.note }

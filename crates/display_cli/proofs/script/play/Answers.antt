@@ -1,10 +1,9 @@
 -- From the first version over all lines to the last.
-use Rattle.std.proofs.Common.{false, subst, sym}
+use Rattle.std.proofs.Common.{false, subst, sym, ap, ◌∙◌, refl}
 use Rattle.display_map.specs.Replay.{History, state_of}
 use Rattle.display_cli.specs.Legal.{script_lines}
-use Rattle.display_cli.specs.declared.stop.Stop.TheVariants as stops
-use Rattle.display_cli.specs.Going.{Course, IsGoing, IsCut, AreOver, course_of, numbered_from}
-use Rattle.display_cli.proofs.Played.{cut-fresh, going-fresh, over-fresh, ended-err}
+use Rattle.display_cli.specs.Going.{Course, IsGoing, AreOver, course_of, numbered_from}
+use Rattle.display_cli.proofs.Played.{going-fresh, over-fresh, ended-err, ended-unbegun}
 use Rattle.display_cli.proofs.script.play.Goals as goal
 
 pub run_lines-requires : goal.run_lines-requires
@@ -15,10 +14,9 @@ run_lines-requires g c =
 pub returns-in_err-publish : goal.returns-in_err-publish
 returns-in_err-publish g c =
     let course : Course = course_of c.args.display.now c.args.script.now (g.K.Sink.taken c.args.out.now) in
-    let P : History → Type 0 = λ h. IsCut course (g.K.Sink.taken c.args.out.now) h in
-    ended-err course (g.K.Sink.faults c.args.out.now) (g.K.Sink.faults c.args.out.now)
-    (g.K.Sink.taken c.args.out.now) c.publish.new.self c.from_residual.result stops.Memory c.from_residual.ensures.1
-    (subst P (sym c.in_err-publish.ensures.unchanged) (cut-fresh c.args.display.now c.args.script.now (g.K.Sink.taken c.args.out.now) c.requires), tt)
+    ended-unbegun course (g.K.Sink.faults c.args.out.now) (g.K.Sink.faults c.args.out.now)
+    (g.K.Sink.taken c.args.out.now) c.publish.new.self c.from_residual.result c.from_residual.ensures.1
+    (ap (λ h. h.events) c.in_err-publish.ensures.unchanged ∙ c.requires, refl)
 
 pub returns-in_err-refused : goal.returns-in_err-refused
 returns-in_err-refused g c =
