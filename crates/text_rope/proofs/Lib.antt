@@ -1,0 +1,6 @@
+pub mod Returns
+pub mod Chunks
+pub mod Limits
+pub mod Orders
+pub mod Finds
+pub mod Parts

@@ -1,0 +1,4 @@
+pub mod Sizes
+pub mod Chunks
+pub mod Ropes
+pub mod Orders
