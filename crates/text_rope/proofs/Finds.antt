@@ -1,9 +1,10 @@
 -- Where a cursor finds an offset.
-use Rattle.std.proofs.Common.{◌≡◌, ℕ, ◌+◌, ◌-◌, ◌<◌, ◌≤◌, List, length, take, take_all, ap, sym, ◌∙◌, subst, inl, inr, arith}
+use Rattle.std.proofs.Common.{◌≡◌, ℕ, ◌+◌, ◌-◌, ◌≤◌, List, length, take, take_all, ap, sym, ◌∙◌, subst, inl, inr, arith}
 use Rattle.std.specs.List.{concat}
 use Rattle.std.proofs.lemmas.Bool.{cases_lt}
 use Rattle.cell_units.specs.declared.place.Bias.TheVariants.{Left}
 use Rattle.sum_tree.specs.Cursors.{IsSought}
+use Rattle.text_rope.specs.Finds.{IsBefore}
 use Rattle.text_rope.specs.Orders.{size_cmp}
 use Rattle.text_rope.specs.Sizes.{joined_size, no_size, size_of, total_size}
 use Rattle.text_rope.specs.declared.chunk.TextSize.{TextSize}
@@ -38,13 +39,6 @@ found_end chunks offset place within sought =
           let reached = first_at_most offset (total_size (take place chunks)).bytes _ (sought.reached at) in
           omega (arith, reached, total_bytes (take place chunks))
     ])
-
--- r is the size of what stands before the first chunk that ends at the offset or behind it
-pub record IsBefore (chunks : List (List ℕ)) (offset : ℕ) (r : TextSize) : Type 0 where
-  pub size : r ≡ total_size (take r.chunks chunks)
-  pub within : r.chunks ≤ length chunks
-  pub start : r.bytes ≤ offset
-  pub end : offset ≤ length (concat (take (r.chunks + 1) chunks))
 
 pub found : (chunks items seen : List (List ℕ)) (offset place : ℕ) (r : TextSize) → items ≡ chunks → seen ≡ items → offset ≤ length (concat chunks) → IsFound items offset place → r ≡ total_size (take (place - 1) seen) → IsBefore chunks offset r
 found chunks items seen offset place r e f within sought s =

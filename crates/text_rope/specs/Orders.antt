@@ -19,7 +19,7 @@ by_tests true equal rest h e = refl
 by_tests false equal rest h e = subst (λ (t : Bool). is_gt (ordering_then (cond t Equal Greater) rest) ≡ false) (sym (h refl)) e
 
 -- a first number that is no greater, and then others that are no greater
-then_not_greater : (m n : ℕ) (rest : Ordering) → m ≤ n → is_gt rest ≡ false → is_gt (ordering_then (nat_cmp m n) rest) ≡ false
+pub then_not_greater : (m n : ℕ) (rest : Ordering) → m ≤ n → is_gt rest ≡ false → is_gt (ordering_then (nat_cmp m n) rest) ≡ false
 then_not_greater m n rest le e = by_tests (nat_lt m n) (m == n) rest (λ f. eq-eqb m n (le_antisymm le (ltb-false m n f))) e
 
 pub size_dimension : DimensionLaws joined_size SizeFits joined_size (λ a b. SizeFits (joined_size a b)) (λ s. s) size_cmp

@@ -1,5 +1,5 @@
 -- How large a part of a text is.
-use Rattle.std.specs.Prelude.{◌≡◌, ℕ, ◌+◌, ◌<◌, ◌^◌, List, length, count_by}
+use Rattle.std.specs.Prelude.{ℕ, ◌+◌, ◌<◌, ◌^◌, List, length, count_by}
 use Rattle.sum_core.specs.Sums.{SummaryLaws, total}
 use Rattle.std.proofs.Common.{zero-add, add-zero, add_assoc, lt_of_le_of_lt, le-add_left, le-add_right}
 use borrow.Author.Tests.{ltb-true}

@@ -1,8 +1,8 @@
 //! The chunks that a rope keeps, and what is summed over them.
-ghost use Rattle.std.specs.Prelude.{◌≡◌, ◌^◌, ◌<◌, ◌++◌, length, count_by, IfOk};
-ghost use Rattle.std.specs.List.{concat};
+ghost use Rattle.std.specs.Prelude.{◌≡◌, ◌+◌, ◌^◌, ◌<◌, ◌≤◌, ◌++◌, length, count_by, min, IfOk};
+ghost use Rattle.std.specs.List.{All, concat};
 ghost use Rattle.cell_units.specs.Text.{is_feed};
-ghost use Rattle.text_rope.specs.Chunks.{AreChunks, IsChunk};
+ghost use Rattle.text_rope.specs.Chunks.{AreChunks, IsChunk, least};
 
 use cell_units::{NoMemory, Text};
 use std::alloc::Global;
@@ -141,7 +141,7 @@ impl Item for Chunk {
 }
 
 /// How many line feeds a text has.
-fn count_feeds(text: &str) -> u32
+pub(crate) fn count_feeds(text: &str) -> u32
     requires { length text.now < 2 ^ 32 }
     ensures { result ≡ count_by is_feed text.now }
 {
@@ -154,20 +154,37 @@ fn count_feeds(text: &str) -> u32
     feeds
 }
 
-/// The front of a text that is as long as a chunk may be, and the rest.
+/// How many of this many bytes go into the next chunk: all that it can hold, but no more than half of what it can't.
+fn share_of(len: usize) -> usize
+    ensures most { result ≤ CHUNK_BYTES }
+    ensures all { len ≤ CHUNK_BYTES → result ≡ len }
+    ensures least { CHUNK_BYTES < len → 64 ≤ result }
+    ensures rest { CHUNK_BYTES < len → result + 64 ≤ len }
+{
+    if len <= CHUNK_BYTES {
+        len
+    } else {
+        CHUNK_BYTES.min(len / 2)
+    }
+}
+
+/// The front of a text that goes into one chunk, and the rest. Neither is short unless the text is.
 fn cut(text: &str) -> (&str, &str)
     requires { 0 < length text.now }
     ensures whole { result.0.now ++ result.1.now ≡ text.now }
     ensures chunk { IsChunk result.0.now }
     ensures shorter { length result.1.now < length text.now }
+    ensures front { min least (length text.now) ≤ length result.0.now }
+    ensures rest { 0 < length result.1.now → least ≤ length result.1.now }
 {
-    text.split_at(text.floor_char_boundary(CHUNK_BYTES))
+    text.split_at(text.floor_char_boundary(share_of(text.len())))
 }
 
-/// The text cut into chunks, each as long as one may be.
+/// The text cut into chunks, none of which is short unless the text is.
 pub(crate) fn chunks_of(alloc: Global, text: &str) -> Result<Vec<Chunk>, NoMemory>
     ensures text { IfOk result (λ v. concat v.items ≡ text.now) }
     ensures chunks { IfOk result (λ v. AreChunks v.items) }
+    ensures filled { IfOk result (λ v. All (λ c. min least (length text.now) ≤ length c) v.items) }
 {
     let mut chunks = Vec::new(alloc);
     let mut rest = text;

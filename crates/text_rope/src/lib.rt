@@ -7,10 +7,16 @@
 
 mod chunk;
 mod cleaning;
+mod edit;
 mod fault;
 mod find;
 mod rope;
+mod rows;
 
 pub use chunk::{Chunk, TextSize};
 pub use fault::TextFault;
 pub use rope::{LIMIT, Rope};
+pub use rows::RowSize;
+
+#[cfg(test)]
+mod tests;

@@ -1,7 +1,8 @@
-use Rattle.std.proofs.Common.{◌≡◌, ℕ, ◌+◌, List, count_by, ap, ◌∙◌, arith}
+use Rattle.std.proofs.Common.{◌≡◌, count_by, ap, ◌∙◌, arith}
 use Rattle.std.specs.List.{concat}
 use Rattle.cell_units.specs.Text.{is_feed}
 use Rattle.text_rope.proofs.Chunks.{feeds_within, total_feeds}
+use Rattle.text_rope.proofs.RowStarts.{line_count_sum}
 use Rattle.text_rope.specs.declared.chunk.TextSize.{TextSize}
 use Rattle.text_rope.proofs.rope.Rope.line_count.Goals as goal
 
@@ -11,4 +12,4 @@ overflow_add-result c =
     omega (arith, feeds, feeds_within (concat c.self.inside.chunks), c.self.invariant.small)
 
 pub returns : goal.returns
-returns c = ap (λ (n : ℕ). n + 1) (ap (λ (s : TextSize). s.feeds) c.sum.ensures ∙ total_feeds c.self.inside.chunks ∙ ap (λ (t : List ℕ). count_by is_feed t) c.self.view_is)
+returns c = line_count_sum c.self.inside.chunks c.args.self.now c.sum.result c.sum.ensures c.self.view_is
