@@ -1,0 +1,15 @@
+pub mod Returns
+pub mod Chunks
+pub mod Limits
+pub mod Orders
+pub mod Finds
+pub mod Parts
+pub mod Boundaries
+pub mod Cuts
+pub mod Fullness
+pub mod Places
+pub mod Renewals
+pub mod Nearest
+pub mod Bounds
+pub mod RowFinds
+pub mod RowStarts

@@ -1,0 +1,17 @@
+use Rattle.std.proofs.Common.{◌≡◌, ℕ, ◌+◌, ◌-◌, ◌*◌, ◌/◌, ◌≤◌, ◌++◌, length, drop, string_bytes}
+use Rattle.std.specs.List.{concat}
+use Rattle.text_rope.specs.Ropes.{HasHeight}
+use Rattle.text_rope.proofs.find.gather.Given as goal
+
+-- the text so far and then the chunks to come
+abbrev pub invariant-loop-steps : goal.invariant-loop-steps
+invariant-loop-steps l = record {
+  gathered : string_bytes l.text ++ concat (drop l.at l.chunks) ≡ concat (drop l.fn.first l.fn.chunks);
+  order : l.fn.first ≤ l.at;
+  few : 60 * (l.at - l.fn.first) ≤ length (string_bytes l.text) + 60;
+  turns : l.at - l.fn.first ≤ l.fn.count / 60 + 2;
+  steps : (h : ℕ) → HasHeight h (concat l.fn.chunks) → l.steps ≤ l.fn.steps + (l.at - l.fn.first) * (64 * (h + 1));
+}
+
+abbrev pub decreases-loop-steps : goal.decreases-loop-steps
+decreases-loop-steps l = length l.chunks - l.at

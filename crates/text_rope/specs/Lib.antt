@@ -1,0 +1,8 @@
+pub mod Sizes
+pub mod Chunks
+pub mod Ropes
+pub mod Orders
+pub mod RowSizes
+pub mod Finds
+pub mod Points
+pub mod Edits

@@ -1,0 +1,116 @@
+//! The chunk in which an offset lies, and what is found there.
+ghost use Rattle.std.specs.Prelude.{◌≡◌, ◌+◌, ◌*◌, ◌/◌, ◌≤◌, ◌↔◌, [], ℕ, length, drop, string_bytes, slice_index_or, count_by, IfOk, IsTrue};
+ghost use Rattle.std.specs.List.{concat};
+ghost use Rattle.cell_units.specs.Text.{IsBoundary, is_feed, row_of};
+ghost use Rattle.text_rope.specs.Finds.{IsBefore};
+ghost use Rattle.text_rope.specs.Points.{IsNearBoundary};
+ghost use Rattle.text_rope.specs.Ropes.{HasHeight, IsFront, IsRope};
+
+use crate::chunk::{Chunk, TextSize, count_feeds};
+use cell_units::{Bias, NoMemory, Steps};
+use std::alloc::Global;
+use sum_tree::SumTree;
+
+/// The size of what stands before the first chunk that ends at the offset or behind it.
+pub(crate) fn before(chunks: &SumTree<Chunk>, offset: u32, steps: &mut Steps) -> TextSize
+    requires rope { IsRope chunks.now }
+    requires within { offset ≤ length (concat chunks.now) }
+    ensures found { IsBefore chunks.now offset result }
+    ensures steps { (h : ℕ) → HasHeight h (concat chunks.now) → steps.new ≤ steps.old + 64 * (h + 1) }
+{
+    let target = TextSize {
+        bytes: offset,
+        feeds: 0,
+        chunks: 0,
+    };
+    let mut cursor = chunks.cursor::<TextSize>();
+    cursor.seek(target, Bias::Left, steps);
+    cursor.start()
+}
+
+/// The text of the chunk at a place, and none past the last.
+pub(crate) fn text_at<'a>(chunks: &'a SumTree<Chunk>, at: u32, steps: &mut Steps) -> &'a str
+    requires { IsRope chunks.now }
+    ensures text { result.now ≡ slice_index_or chunks.now at [] }
+    ensures steps { (h : ℕ) → HasHeight h (concat chunks.now) → steps.new ≤ steps.old + 64 * (h + 1) }
+{
+    match chunks.get(at, steps) {
+        None => "",
+        Some(chunk) => chunk.as_str(),
+    }
+}
+
+/// Whether the offset is a boundary of the text.
+pub(crate) fn is_boundary(chunks: &SumTree<Chunk>, offset: u32, steps: &mut Steps) -> bool
+    requires { IsRope chunks.now }
+    ensures test { IsTrue result ↔ IsBoundary (concat chunks.now) offset }
+    ensures steps { (h : ℕ) → HasHeight h (concat chunks.now) → steps.new ≤ steps.old + 128 * (h + 1) }
+{
+    if offset > chunks.sum().bytes {
+        return false;
+    }
+    let before = before(chunks, offset, steps);
+    let text = text_at(chunks, before.chunks, steps);
+    text.is_char_boundary((offset - before.bytes) as usize)
+}
+
+/// The boundary at the offset, or on the side of the bias where the offset is inside a character.
+pub(crate) fn near_boundary(
+    chunks: &SumTree<Chunk>,
+    offset: u32,
+    bias: Bias,
+    steps: &mut Steps,
+) -> u32
+    requires rope { IsRope chunks.now }
+    requires within { offset ≤ length (concat chunks.now) }
+    ensures near { IsNearBoundary (concat chunks.now) offset bias result }
+    ensures steps { (h : ℕ) → HasHeight h (concat chunks.now) → steps.new ≤ steps.old + 128 * (h + 1) }
+{
+    let before = before(chunks, offset, steps);
+    let text = text_at(chunks, before.chunks, steps);
+    let at = (offset - before.bytes) as usize;
+    let near = match bias {
+        Bias::Left => text.floor_char_boundary(at),
+        Bias::Right => text.ceil_char_boundary(at),
+    };
+    before.bytes + near as u32
+}
+
+/// The row of a boundary: how many line feeds stand before it.
+pub(crate) fn row_at(chunks: &SumTree<Chunk>, offset: u32, steps: &mut Steps) -> u32
+    requires rope { IsRope chunks.now }
+    requires boundary { IsBoundary (concat chunks.now) offset }
+    ensures row { result ≡ row_of (concat chunks.now) offset }
+    ensures steps { (h : ℕ) → HasHeight h (concat chunks.now) → steps.new ≤ steps.old + 128 * (h + 1) }
+{
+    let before = before(chunks, offset, steps);
+    let text = text_at(chunks, before.chunks, steps);
+    let (front, _) = text.split_at((offset - before.bytes) as usize);
+    before.feeds + count_feeds(front)
+}
+
+/// The text from the chunk at place `first` on, up to the end of the chunk with which it has `count` bytes.
+pub(crate) fn gather(
+    alloc: Global,
+    chunks: &SumTree<Chunk>,
+    first: u32,
+    count: usize,
+    steps: &mut Steps,
+) -> Result<String, NoMemory>
+    requires rope { IsRope chunks.now }
+    requires some { count ≤ length (concat (drop first chunks.now)) }
+    ensures front { IfOk result (λ s. IsFront (string_bytes s) (concat (drop first chunks.now))) }
+    ensures enough { IfOk result (λ s. count ≤ length (string_bytes s)) }
+    ensures steps { (h : ℕ) → HasHeight h (concat chunks.now) → steps.new ≤ steps.old + (count / 60 + 2) * (64 * (h + 1)) }
+{
+    let mut text = String::new(alloc);
+    let mut at = first;
+    while text.len() < count {
+        match chunks.get(at, steps) {
+            None => return Ok(text),
+            Some(chunk) => text.push_str(chunk.as_str())?,
+        }
+        at += 1;
+    }
+    Ok(text)
+}

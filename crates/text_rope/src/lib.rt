@@ -1,0 +1,22 @@
+//! The rope: a text as chunks of at most 128 bytes in a sum tree.
+//!
+//! Contracts see a [`Rope`] as the bytes of its text, which is UTF-8 without carriage returns and at most 33,554,432
+//! bytes long. Ropes share the chunks that they have in common, and no later change of the one is seen by another. A call
+//! that is refused leaves the rope as it was.
+#![tactic(auto)]
+
+mod chunk;
+mod cleaning;
+mod edit;
+mod fault;
+mod find;
+mod rope;
+mod rows;
+
+pub use chunk::{Chunk, TextSize};
+pub use fault::TextFault;
+pub use rope::{LIMIT, Rope};
+pub use rows::RowSize;
+
+#[cfg(test)]
+mod tests;

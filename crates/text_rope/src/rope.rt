@@ -1,0 +1,200 @@
+//! The rope as the bytes of a text.
+ghost use Rattle.std.specs.Prelude.{◌≡◌, ℕ, ◌+◌, ◌-◌, ◌*◌, ◌/◌, ◌<◌, ◌≤◌, ◌↔◌, length, take, drop, slice_get, IfOk, IsTrue, OnErr};
+ghost use Rattle.std.specs.Result.{MatchResult};
+ghost use Rattle.cell_units.specs.BufferLines.{buffer_lines, line_end, line_start};
+ghost use Rattle.cell_units.specs.Operation.{replaced_text};
+ghost use Rattle.cell_units.specs.Record.{line_count};
+ghost use Rattle.cell_units.specs.Text.{IsBoundary, IsText, clean, row_of, row_start};
+ghost use Rattle.text_rope.specs.Edits.{IsReplaceFault, IsReplaced};
+ghost use Rattle.text_rope.specs.Points.{IsAtPoint};
+ghost use Rattle.text_rope.specs.Ropes.{HasHeight, IsMadeOf, IsRefusal, limit};
+
+use crate::chunk::{Chunk, chunks_of};
+use crate::cleaning::cleaned;
+use crate::edit::{is_range, patch_of, renewal_of};
+use crate::fault::TextFault;
+use crate::find::{before, gather, is_boundary, near_boundary, row_at};
+use crate::rows::{end_of_row, start_of_row};
+use cell_units::{Bias, Fault, NoMemory, Point, Refusal, Steps, Text};
+use edit_patch::Patch;
+use std::alloc::Global;
+use std::marker::Model;
+use sum_tree::SumTree;
+
+/// The most bytes in a text.
+pub const LIMIT: usize = 33_554_432;
+
+/// A text. Ropes share what they have in common, and no later change of the one is seen by another.
+///
+/// The bounds on the steps of a call are given for each h such that the text has fewer than 120 * 6^(h + 1) bytes. The
+/// least such h is the greatest height of the rope's tree.
+#[derive(Drop)]
+pub struct Rope {
+    chunks: SumTree<Chunk>,
+}
+
+impl Model for Rope {
+    ghost use Rattle.std.specs.Prelude.{ℕ, List};
+    ghost use Rattle.std.specs.List.{concat};
+    ghost use Rattle.text_rope.specs.Ropes.{IsRope};
+
+    ghost Value = { List ℕ };
+
+    ghost view = { λ r. concat r.chunks };
+
+    ghost invariant = { λ r. IsRope r.chunks };
+}
+
+impl Rope {
+    /// The text of these bytes, with each CR LF and then each lone CR turned into LF. `TooLong` where there are more than
+    /// 33,554,432 bytes, and else `NotUtf8` where they aren't UTF-8, with the length of the longest prefix that is.
+    pub fn from_bytes(alloc: Global, bytes: &[u8], steps: &mut Steps) -> Result<Rope, TextFault>
+        ensures cases { MatchResult result (λ r. (r ≡ clean bytes.now) × IsMadeOf bytes.now) (IsRefusal bytes.now) }
+        ensures steps { steps.new ≤ steps.old + 8 * (length bytes.now / 64 + 1) }
+    {
+        if bytes.len() > LIMIT {
+            return Err(TextFault::TooLong);
+        }
+        let text = match str::from_utf8(bytes) {
+            Ok(text) => text,
+            Err(error) => {
+                return Err(TextFault::NotUtf8 {
+                    at: error.valid_up_to() as u64,
+                });
+            }
+        };
+        let text = cleaned(alloc, text)?;
+        let chunks = SumTree::from_vec(alloc, chunks_of(alloc, text.as_str())?, steps)?;
+        Ok(Rope { chunks })
+    }
+
+    /// An equal text.
+    pub fn share(&self) -> Result<Rope, NoMemory>
+        ensures { IfOk result (λ r. r ≡ self.now) }
+    {
+        Ok(Rope {
+            chunks: self.chunks.share()?,
+        })
+    }
+
+    /// The number of bytes, which is at most 33,554,432. They are UTF-8 without carriage returns.
+    pub fn len(&self) -> u32
+        ensures value { result ≡ length self.now }
+        ensures within { result ≤ limit }
+        ensures text { IsText self.now }
+    {
+        self.chunks.sum().bytes
+    }
+
+    /// The number of lines: one more than there are line feeds.
+    pub fn line_count(&self) -> u32
+        ensures { result ≡ line_count self.now }
+    {
+        self.chunks.sum().feeds + 1
+    }
+
+    /// Puts the text, with each CR LF and then each lone CR turned into LF, in the place of the range, and tells of that
+    /// by a patch: of one edit, or of none where nothing replaces nothing. `BadRange` where the range is backwards or one
+    /// of its ends is past the text's or within a character, and else `TooLong` where there would be more than 33,554,432
+    /// bytes.
+    pub fn replace(
+        &mut self,
+        alloc: Global,
+        start: u32,
+        end: u32,
+        text: &str,
+        steps: &mut Steps,
+    ) -> Result<Patch, Fault>
+        ensures cases { MatchResult result (IsReplaced self.old start end (clean text.now) self.new) (IsReplaceFault self.old start end (clean text.now)) }
+        ensures err { OnErr result (self.new ≡ self.old) }
+        ensures steps { (h : ℕ) → HasHeight h self.old → HasHeight h (replaced_text self.old start end (clean text.now)) →
+            steps.new ≤ steps.old + 1500 * (length (clean text.now) / 64 + 1) * (h + 1) }
+    {
+        if !is_range(&self.chunks, start, end, steps) {
+            return Err(Fault::Refused(Refusal::BadRange));
+        }
+        let text = cleaned(alloc, text)?;
+        let kept = (self.chunks.sum().bytes - (end - start)) as usize;
+        if text.len() > LIMIT - kept {
+            return Err(Fault::Refused(Refusal::TooLong));
+        }
+        let patch = patch_of(alloc, start, end, text.len() as u32)?;
+        let new = renewal_of(alloc, &self.chunks, start, end, text.as_str(), steps)?;
+        self.chunks
+            .replace(alloc, new.from, new.to, new.chunks, steps)?;
+        Ok(patch)
+    }
+
+    /// Whether the offset is a boundary: not past the text's end, and not inside a character.
+    pub fn is_boundary(&self, offset: u32, steps: &mut Steps) -> bool
+        ensures test { IsTrue result ↔ IsBoundary self.now offset }
+        ensures steps { (h : ℕ) → HasHeight h self.now → steps.new ≤ steps.old + 128 * (h + 1) }
+    {
+        is_boundary(&self.chunks, offset, steps)
+    }
+
+    /// The row of a boundary, and its column of bytes in that row.
+    pub fn point_of(&self, offset: u32, steps: &mut Steps) -> Point
+        requires { IsBoundary self.now offset }
+        ensures row { result.row ≡ row_of self.now offset }
+        ensures column { result.column ≡ offset - row_start self.now offset }
+        ensures steps { (h : ℕ) → HasHeight h self.now → steps.new ≤ steps.old + 256 * (h + 1) }
+    {
+        let row = row_at(&self.chunks, offset, steps);
+        Point {
+            row,
+            column: offset - start_of_row(&self.chunks, row, steps),
+        }
+    }
+
+    /// The offset of a point: past the last row the text's end, past a row's end that end, and inside a character its start
+    /// (Left) or its end (Right).
+    pub fn offset_of(&self, point: Point, bias: Bias, steps: &mut Steps) -> u32
+        ensures offset { IsAtPoint self.now point bias result }
+        ensures steps { (h : ℕ) → HasHeight h self.now → steps.new ≤ steps.old + 384 * (h + 1) }
+    {
+        let sum = self.chunks.sum();
+        if point.row > sum.feeds {
+            return sum.bytes;
+        }
+        let start = start_of_row(&self.chunks, point.row, steps);
+        let end = end_of_row(&self.chunks, point.row, steps);
+        if point.column > end - start {
+            return end;
+        }
+        near_boundary(&self.chunks, start + point.column, bias, steps)
+    }
+
+    /// The text of a row, without its line feed.
+    pub fn line_text(&self, alloc: Global, row: u32, steps: &mut Steps) -> Result<Text, NoMemory>
+        requires { row < line_count self.now }
+        ensures text { IfOk result (λ t. slice_get (buffer_lines self.now) row ≡ Some t) }
+        ensures steps { (h : ℕ) → HasHeight h self.now →
+            steps.new ≤ steps.old + 704 * ((line_end self.now row - line_start self.now row) / 64 + 1) * (h + 1) }
+    {
+        let start = start_of_row(&self.chunks, row, steps);
+        let end = end_of_row(&self.chunks, row, steps);
+        self.slice(alloc, start, end, steps)
+    }
+
+    /// The text from one boundary to another, which isn't before the first.
+    pub fn slice(
+        &self,
+        alloc: Global,
+        start: u32,
+        end: u32,
+        steps: &mut Steps,
+    ) -> Result<Text, NoMemory>
+        requires start { IsBoundary self.now start }
+        requires end { IsBoundary self.now end }
+        requires order { start ≤ end }
+        ensures text { IfOk result (λ t. t ≡ take (end - start) (drop start self.now)) }
+        ensures steps { (h : ℕ) → HasHeight h self.now → steps.new ≤ steps.old + 448 * ((end - start) / 64 + 1) * (h + 1) }
+    {
+        let before = before(&self.chunks, start, steps);
+        let from = (start - before.bytes) as usize;
+        let to = (end - before.bytes) as usize;
+        let text = gather(alloc, &self.chunks, before.chunks, to, steps)?;
+        Text::from_str(alloc, &text.as_str()[from..to])
+    }
+}

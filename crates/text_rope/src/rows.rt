@@ -1,0 +1,116 @@
+//! Where the rows of a text start and end.
+ghost use Rattle.std.specs.Prelude.{◌≡◌, ◌+◌, ◌*◌, ◌<◌, ◌≤◌, ℕ, length, take, count_by};
+ghost use Rattle.std.specs.List.{concat};
+ghost use Rattle.cell_units.specs.BufferLines.{line_end, line_start};
+ghost use Rattle.cell_units.specs.Text.{is_feed};
+ghost use Rattle.text_rope.specs.Finds.{IsBehindFeed, IsBeforeRow};
+ghost use Rattle.text_rope.specs.Ropes.{HasHeight, IsRope};
+
+use crate::chunk::{Chunk, TextSize};
+use crate::find::text_at;
+use cell_units::{Bias, Steps};
+use sum_core::Dimension;
+use sum_tree::SumTree;
+
+/// The size of a part of a text, where rows are sought: of two parts that begin at one place the one with more line
+/// feeds is the greater.
+#[derive(Clone, Copy, Debug, PartialEq, Eq, PartialOrd, Ord)]
+pub struct RowSize {
+    pub feeds: u32,
+    pub bytes: u32,
+    pub chunks: u32,
+}
+
+impl Dimension<TextSize> for RowSize {
+    ghost use Rattle.text_rope.specs.RowSizes.{RowSizeFits, joined_rows, row_dimension, row_size_of};
+
+    ghost measure = { row_size_of };
+
+    ghost joined_with = { joined_rows };
+
+    ghost fits_with = { λ a b. RowSizeFits (joined_rows a b) };
+
+    ghost dimension_laws = { row_dimension };
+
+    fn of(sum: TextSize) -> RowSize {
+        RowSize {
+            feeds: sum.feeds,
+            bytes: sum.bytes,
+            chunks: sum.chunks,
+        }
+    }
+
+    fn plus(self, other: RowSize) -> RowSize {
+        RowSize {
+            feeds: self.feeds + other.feeds,
+            bytes: self.bytes + other.bytes,
+            chunks: self.chunks + other.chunks,
+        }
+    }
+}
+
+/// The size of what stands before the chunk with the line feed behind which the row starts.
+fn before_row(chunks: &SumTree<Chunk>, row: u32, steps: &mut Steps) -> RowSize
+    requires rope { IsRope chunks.now }
+    requires some { 0 < row }
+    requires within { row ≤ count_by is_feed (concat chunks.now) }
+    ensures found { IsBeforeRow chunks.now row result }
+    ensures steps { (h : ℕ) → HasHeight h (concat chunks.now) → steps.new ≤ steps.old + 64 * (h + 1) }
+{
+    let target = RowSize {
+        feeds: row,
+        bytes: 0,
+        chunks: 0,
+    };
+    let mut cursor = chunks.cursor::<RowSize>();
+    cursor.seek(target, Bias::Left, steps);
+    cursor.start()
+}
+
+/// The place right behind the line feed that is number `feeds`, counted from 1.
+fn behind_feed(text: &str, feeds: u32) -> usize
+    requires some { 0 < feeds }
+    requires within { feeds ≤ count_by is_feed text.now }
+    ensures { IsBehindFeed text.now feeds result }
+{
+    let mut left = feeds;
+    for (at, byte) in text.as_bytes().iter().enumerate() {
+        if *byte == b'\n' {
+            left -= 1;
+            if left == 0 {
+                return at + 1;
+            }
+        }
+    }
+    text.len()
+}
+
+/// The first offset of a row of the text.
+pub(crate) fn start_of_row(chunks: &SumTree<Chunk>, row: u32, steps: &mut Steps) -> u32
+    requires rope { IsRope chunks.now }
+    requires within { row ≤ count_by is_feed (concat chunks.now) }
+    ensures start { result ≡ line_start (concat chunks.now) row }
+    ensures steps { (h : ℕ) → HasHeight h (concat chunks.now) → steps.new ≤ steps.old + 128 * (h + 1) }
+{
+    if row == 0 {
+        return 0;
+    }
+    let before = before_row(chunks, row, steps);
+    let text = text_at(chunks, before.chunks, steps);
+    before.bytes + behind_feed(text, row - before.feeds) as u32
+}
+
+/// The end of a row of the text: before its line feed, or the text's end.
+pub(crate) fn end_of_row(chunks: &SumTree<Chunk>, row: u32, steps: &mut Steps) -> u32
+    requires rope { IsRope chunks.now }
+    requires within { row ≤ count_by is_feed (concat chunks.now) }
+    ensures end { result ≡ line_end (concat chunks.now) row }
+    ensures steps { (h : ℕ) → HasHeight h (concat chunks.now) → steps.new ≤ steps.old + 128 * (h + 1) }
+{
+    let sum = chunks.sum();
+    if row == sum.feeds {
+        sum.bytes
+    } else {
+        start_of_row(chunks, row + 1, steps) - 1
+    }
+}
