@@ -104,7 +104,7 @@ impl Chunk {
     {
         let size = TextSize {
             bytes: text.len() as u32,
-            feeds: count_feeds(text),
+            feeds: count_feeds(text.as_bytes()),
             chunks: 1,
         };
         Ok(Chunk {
@@ -140,13 +140,13 @@ impl Item for Chunk {
     }
 }
 
-/// How many line feeds a text has.
-pub(crate) fn count_feeds(text: &str) -> u32
-    requires { length text.now < 2 ^ 32 }
-    ensures { result ≡ count_by is_feed text.now }
+/// How many line feeds are among the bytes.
+pub(crate) fn count_feeds(bytes: &[u8]) -> u32
+    requires { length bytes.now < 2 ^ 32 }
+    ensures { result ≡ count_by is_feed bytes.now }
 {
     let mut feeds = 0;
-    for byte in text.as_bytes() {
+    for byte in bytes {
         if *byte == b'\n' {
             feeds += 1;
         }

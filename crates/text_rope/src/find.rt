@@ -76,16 +76,16 @@ pub(crate) fn near_boundary(
     before.bytes + near as u32
 }
 
-/// The row of a boundary: how many line feeds stand before it.
+/// The row of an offset: how many line feeds stand before it.
 pub(crate) fn row_at(chunks: &SumTree<Chunk>, offset: u32, steps: &mut Steps) -> u32
     requires rope { IsRope chunks.now }
-    requires boundary { IsBoundary (concat chunks.now) offset }
+    requires within { offset ≤ length (concat chunks.now) }
     ensures row { result ≡ row_of (concat chunks.now) offset }
     ensures steps { (h : ℕ) → HasHeight h (concat chunks.now) → steps.new ≤ steps.old + 128 * (h + 1) }
 {
     let before = before(chunks, offset, steps);
     let text = text_at(chunks, before.chunks, steps);
-    let (front, _) = text.split_at((offset - before.bytes) as usize);
+    let front = &text.as_bytes()[..(offset - before.bytes) as usize];
     before.feeds + count_feeds(front)
 }
 

@@ -10,6 +10,7 @@ mod cleaning;
 mod edit;
 mod fault;
 mod find;
+mod layer;
 mod rope;
 mod rows;
 

@@ -133,9 +133,22 @@ impl Rope {
         is_boundary(&self.chunks, offset, steps)
     }
 
-    /// The row of a boundary, and its column of bytes in that row.
+    /// The first offset of a row and its end.
+    pub(crate) fn row_range(&self, row: u32, steps: &mut Steps) -> (u32, u32)
+        requires { row < line_count self.now }
+        ensures range { result ≡ (line_start self.now row, line_end self.now row) }
+        ensures start { IsBoundary self.now result.0 }
+        ensures end { IsBoundary self.now result.1 }
+        ensures order { result.0 ≤ result.1 }
+    {
+        let start = start_of_row(&self.chunks, row, steps);
+        let end = end_of_row(&self.chunks, row, steps);
+        (start, end)
+    }
+
+    /// The row of an offset, which is at most the text's length, and its column of bytes in that row.
     pub fn point_of(&self, offset: u32, steps: &mut Steps) -> Point
-        requires { IsBoundary self.now offset }
+        requires { offset ≤ length self.now }
         ensures row { result.row ≡ row_of self.now offset }
         ensures column { result.column ≡ offset - row_start self.now offset }
         ensures steps { (h : ℕ) → HasHeight h self.now → steps.new ≤ steps.old + 256 * (h + 1) }
@@ -151,6 +164,7 @@ impl Rope {
     /// (Left) or its end (Right).
     pub fn offset_of(&self, point: Point, bias: Bias, steps: &mut Steps) -> u32
         ensures offset { IsAtPoint self.now point bias result }
+        ensures boundary { IsBoundary self.now result }
         ensures steps { (h : ℕ) → HasHeight h self.now → steps.new ≤ steps.old + 384 * (h + 1) }
     {
         let sum = self.chunks.sum();

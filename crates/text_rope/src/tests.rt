@@ -1,7 +1,7 @@
 //! Texts of which the bytes are known.
 use crate::fault::TextFault;
 use crate::rope::Rope;
-use cell_units::{Bias, Fault, NoMemory, Point, Refusal, Steps};
+use cell_units::{Bias, Fault, Layer, NoMemory, PieceKind, Point, Refusal, Steps};
 use edit_patch::Edit;
 use std::alloc::Global;
 use std::test::Fail;
@@ -173,5 +173,62 @@ fn types_and_deletes(rt: HostRuntime) -> Result<(), Fail> {
     }
     let none = rope.replace(alloc, 0, 0, "", &mut steps)?;
     assert!(rt; none.edits().is_empty());
+    Ok(())
+}
+
+/// Whether a layer shows the line as one piece of the buffer with this range and text, or as none where the range is empty.
+fn shows_line<L: Layer>(
+    alloc: Global,
+    layer: &L,
+    line: u32,
+    start: u32,
+    end: u32,
+    text: &str,
+) -> Result<bool, NoMemory> {
+    if line >= layer.lines() || layer.span(line) != (line, line) {
+        return Ok(false);
+    }
+    let pieces = layer.pieces(alloc, line)?;
+    if pieces.is_empty() {
+        return Ok(start == end);
+    }
+    let piece = &pieces[0];
+    Ok(
+        pieces.len() == 1
+            && piece.kind == PieceKind::Buffer
+            && piece.start == start
+            && piece.end == end
+            && piece.text.as_str() == text,
+    )
+}
+
+/// Whether the offset is a boundary at its own place, which stands at this point in a row of these ends.
+fn is_placed<L: Layer>(layer: &L, offset: u32, point: Point, row_ends: (u32, u32)) -> bool {
+    layer.on_boundary(offset)
+        && layer.place(offset, Bias::Left) == offset
+        && layer.place(offset, Bias::Right) == offset
+        && offset <= layer.length()
+        && layer.point(offset) == point
+        && layer.row_ends(offset) == row_ends
+        && layer.back(offset, Bias::Left) == Some(offset)
+}
+
+/// A text as a layer has a line for each row, in one piece or none, and each offset at its own place.
+#[test]
+fn layer_is_the_text_by_itself(rt: HostRuntime) -> Result<(), Fail> {
+    let alloc = rt.alloc();
+    let mut steps = Steps::new();
+    let rope = Rope::from_bytes(alloc, "ab\n\nc€".as_bytes(), &mut steps)?;
+    let layer = Layer::share(&rope)?;
+    assert_eq!(rt; layer.buffer_len(), 8);
+    assert_eq!(rt; layer.length(), 8);
+    assert_eq!(rt; layer.lines(), 3);
+    assert!(rt; shows_line(alloc, &layer, 0, 0, 2, "ab")?);
+    assert!(rt; shows_line(alloc, &layer, 1, 3, 3, "")?);
+    assert!(rt; shows_line(alloc, &layer, 2, 4, 8, "c€")?);
+    assert!(rt; is_placed(&layer, 3, Point { row: 1, column: 0 }, (3, 3)));
+    assert!(rt; is_placed(&layer, 5, Point { row: 2, column: 1 }, (4, 8)));
+    assert!(rt; !layer.on_boundary(6));
+    assert_eq!(rt; layer.back(6, Bias::Right), None);
     Ok(())
 }

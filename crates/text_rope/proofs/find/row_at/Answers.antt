@@ -1,23 +1,32 @@
-use Rattle.std.proofs.Common.{◌≡◌, ◌+◌, ◌-◌, List, ℕ, take, ap, sym, subst, ◌∙◌, arith}
+use Rattle.std.proofs.Common.{◌≡◌, ◌+◌, ◌-◌, ◌≤◌, [], List, ℕ, count_by, get_or, length, take, ap, sym, ◌∙◌, arith}
 use Rattle.std.specs.List.{concat}
-use Rattle.std.specs.Str.{IsCharBoundary}
-use Rattle.cell_units.specs.Text.{row_of}
+use Rattle.std.proofs.lemmas.List.{length-take-le}
+use Rattle.cell_units.specs.Text.{is_feed, row_of}
 use Rattle.text_rope.proofs.Nearest.{row_here, row_small}
-use Rattle.text_rope.proofs.Places.{boundary_here}
+use Rattle.text_rope.proofs.Places.{within_chunk}
 use Rattle.text_rope.proofs.find.row_at.Goals as goal
 use Rattle.text_rope.proofs.find.row_at.Goals.{After-count_feeds}
 
-pub split_at-requires : goal.split_at-requires
-split_at-requires c =
-    let r = c.before-before.result in
-    let here = boundary_here c.args.chunks.now c.args.offset r c.requires.rope.cut c.before-before.ensures.found in
-    subst (λ (m : List ℕ). IsCharBoundary m (c.args.offset - r.bytes)) (sym c.text_at-text.ensures.text) (here.1 c.requires.boundary)
+-- the bytes of the chunk
+chunk_is : (c : After-count_feeds) → c.as_bytes.result.now ≡ get_or c.args.chunks.now c.before-before.result.chunks []
+chunk_is c = c.as_bytes.ensures.value ∙ c.text_at-text.ensures.text
 
 row : (c : After-count_feeds) → c.before-before.result.feeds + c.count_feeds.result ≡ row_of (concat c.args.chunks.now) c.args.offset
 row c =
     let r = c.before-before.result in
-    let front = c.split_at.ensures.front ∙ ap (λ (m : List ℕ). take (c.args.offset - r.bytes) m) c.text_at-text.ensures.text in
-    ap (λ (n : ℕ). r.feeds + n) c.count_feeds.ensures ∙ row_here c.args.chunks.now c.args.offset r c.split_at.result.0.now c.before-before.ensures.found front
+    let n = c.args.offset - r.bytes in
+    ap (λ (k : ℕ). r.feeds + k) c.count_feeds.ensures
+    ∙ row_here c.args.chunks.now c.args.offset r (take n c.as_bytes.result.now) c.before-before.ensures.found (ap (take n) (chunk_is c))
+
+pub slice_bounds-front-end : goal.slice_bounds-front-end
+slice_bounds-front-end c =
+    let r = c.before-before.result in
+    let n = c.args.offset - r.bytes in
+    sym (length-take-le n c.as_bytes.result.now (omega (
+      arith,
+      within_chunk c.args.chunks.now c.args.offset r c.before-before.ensures.found,
+      ap length (c.as_bytes.ensures.value ∙ c.text_at-text.ensures.text),
+    )))
 
 pub overflow_add-result : goal.overflow_add-result
 overflow_add-result c = omega (arith, row (goal.at.overflow_add-result c).After-count_feeds, row_small c.args.chunks.now c.args.offset c.requires.rope)

@@ -1,11 +1,17 @@
-use Rattle.std.proofs.Common.{◌≡◌, ◌+◌, ◌<◌, ◌≤◌, List, ℕ, length, ap, subst, ◌∙◌, arith}
+use Rattle.std.proofs.Common.{◌≡◌, ◌+◌, ◌<◌, ◌≤◌, List, ℕ, length, ap, sym, subst, ◌∙◌, arith}
 use Rattle.cell_units.specs.BufferLines.{line_end, line_start}
 use Rattle.cell_units.specs.Record.{line_count}
 use Rattle.cell_units.proofs.BufferLines.{line_bounds}
+use Rattle.cell_units.specs.Text.{IsBoundary}
+use Rattle.cell_units.specs.declared.place.Bias.{Bias}
+use Rattle.cell_units.specs.declared.place.Bias.TheVariants.{Left, Right}
 use Rattle.text_rope.specs.Points.{IsNearBoundary}
 use Rattle.text_rope.specs.declared.chunk.TextSize.{TextSize}
 use Rattle.text_rope.proofs.Chunks.{total_bytes, total_feeds}
-use Rattle.text_rope.proofs.RowStarts.{line_count_sum}
+use Rattle.std.specs.Str.{IsUtf8}
+use Rattle.std.proofs.Math.Seq.{take-length}
+use Rattle.text_rope.proofs.Parts.{chunks_utf8}
+use Rattle.text_rope.proofs.RowStarts.{end_boundary, line_count_sum}
 use Rattle.text_rope.proofs.rope.Rope.offset_of.Goals as goal
 use Rattle.text_rope.proofs.rope.Rope.offset_of.Goals.{After-end_of_row-end}
 
@@ -66,3 +72,25 @@ returns-clause-offset c =
       in_row = λ _ _. subst (λ (o : ℕ). IsNearBoundary text o c.args.bias c.near_boundary.result) place
           (subst (λ (t : List ℕ). IsNearBoundary t (c.start_of_row-start.result + c.args.point.column) c.args.bias c.near_boundary.result) c.self.view_is c.near_boundary.ensures.near);
     }
+
+pub returns-then-point-sum-clause-boundary : goal.returns-then-point-sum-clause-boundary
+returns-then-point-sum-clause-boundary c =
+    let text = c.args.self.now in
+    let end : c.sum-sum.result.bytes ≡ length text =
+    ap (λ (s : TextSize). s.bytes) c.sum-sum.ensures ∙ total_bytes c.self.inside.chunks ∙ ap (λ (t : List ℕ). length t) c.self.view_is in
+    let utf8 : IsUtf8 text = subst IsUtf8 c.self.view_is (chunks_utf8 c.self.inside.chunks c.self.invariant.cut) in
+    subst (IsBoundary text) (sym end) (omega arith, subst IsUtf8 (sym (take-length text)) utf8)
+
+pub returns-then-point-end-clause-boundary : goal.returns-then-point-end-clause-boundary
+returns-then-point-end-clause-boundary c =
+    let here = (goal.at.returns-then-point-end-clause-boundary c).After-end_of_row-end in
+    let text = c.args.self.now in
+    let utf8 : IsUtf8 text = subst IsUtf8 c.self.view_is (chunks_utf8 c.self.inside.chunks c.self.invariant.cut) in
+    subst (IsBoundary text) (sym (end_is here)) (end_boundary text c.args.point.row utf8 (row_within here))
+
+near_is_boundary : (text : List ℕ) (o : ℕ) (bias : Bias) (r : ℕ) → IsNearBoundary text o bias r → IsBoundary text r
+near_is_boundary text o Left r near = near.boundary
+near_is_boundary text o Right r near = near.boundary
+
+pub returns-clause-boundary : goal.returns-clause-boundary
+returns-clause-boundary c = subst (λ (t : List ℕ). IsBoundary t c.near_boundary.result) c.self.view_is (near_is_boundary _ _ _ _ c.near_boundary.ensures.near)

@@ -11,7 +11,7 @@ start_is c =
     ∙ ap (λ (n : ℕ). line_start c.args.self.now n) (c.row_at-row.ensures.row ∙ ap (λ (t : List ℕ). row_of t c.args.offset) c.self.view_is)
 
 pub overflow_sub-result : goal.overflow_sub-result
-overflow_sub-result c = omega (arith, start_is (goal.at.overflow_sub-result c).After-start_of_row, starts_before c.args.self.now c.args.offset c.requires.0)
+overflow_sub-result c = omega (arith, start_is (goal.at.overflow_sub-result c).After-start_of_row, starts_before c.args.self.now c.args.offset c.requires)
 
 pub returns-clause-column : goal.returns-clause-column
-returns-clause-column c = ap (λ (n : ℕ). c.args.offset - n) (start_is (goal.at.returns-clause-column c).After-start_of_row ∙ sym (row_start_is c.args.self.now c.args.offset c.requires.0))
+returns-clause-column c = ap (λ (n : ℕ). c.args.offset - n) (start_is (goal.at.returns-clause-column c).After-start_of_row ∙ sym (row_start_is c.args.self.now c.args.offset c.requires))
