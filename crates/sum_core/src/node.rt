@@ -57,7 +57,7 @@ impl<T: Item> Node<T> {
         ensures value { result.now ≡ entries_of self.now }
         ensures ticks { steps.new ≡ ticked steps.old }
     {
-        steps.tick();
+        steps.tick(); // reading is one step
         &self.inner
     }
 

@@ -36,13 +36,15 @@ pub fn build(alloc: Global, count: u32, steps: &mut Steps) -> Result<SumTree<Ent
     SumTree::from_vec(alloc, items, steps)
 }
 
-/// A tree of the numbers below `count`, one by one. It gives how many there are.
-pub fn push_each(alloc: Global, count: u32, steps: &mut Steps) -> Result<u64, NoMemory> {
+/// The same tree, with the numbers added one by one.
+pub fn push_each(alloc: Global, count: u32, steps: &mut Steps) -> Result<SumTree<Entry>, NoMemory>
+    ensures { IfOk result (λ t. length t ≡ count) }
+{
     let mut tree = SumTree::new(alloc);
     for number in 0..count {
         tree.push(alloc, Entry(number), steps)?;
     }
-    Ok(tree.len() as u64)
+    Ok(tree)
 }
 
 /// Seeks places at random. It gives the sum of the numbers that stand there.
@@ -105,4 +107,29 @@ pub fn change_copies(
         replace_one(alloc, &mut copy, numbers.below(tree.len()), number, steps)?;
     }
     Ok(times as u64)
+}
+
+/// Changes each item of a shared copy, one at a time. It gives the number of places where the tree still holds its own
+/// number and the copy the next one.
+pub fn count_apart(
+    alloc: Global,
+    tree: &SumTree<Entry>,
+    steps: &mut Steps,
+) -> Result<u64, NoMemory> {
+    let mut copy = tree.share()?;
+    for at in 0..tree.len() {
+        replace_one(alloc, &mut copy, at, at.wrapping_add(1), steps)?;
+    }
+    let mut apart = 0;
+    for at in 0..tree.len() {
+        if holds(tree, at, at, steps) && holds(&copy, at, at.wrapping_add(1), steps) {
+            apart += 1;
+        }
+    }
+    Ok(apart)
+}
+
+/// The item at this place is this number.
+fn holds(tree: &SumTree<Entry>, at: u32, number: u32, steps: &mut Steps) -> bool {
+    tree.get(at, steps).is_some_and(|entry| entry.0 == number)
 }
