@@ -1,11 +1,13 @@
-//! Makes trees of the size that it is told, reads and changes them, and prints a check of what it read. On standard error
+//! Makes trees and ropes of the size that it is told, reads and changes them, and prints a check of what it read. On standard error
 //! it says how many nodes it opened or made.
 //!
-//! The words are what to do, the number of items, and how often: `seek 1000000 1000000`. `bench/trees` times it. With no
+//! The words are what to do, the number of items or bytes, and how often: `seek 1000000 1000000`. `bench/trees` times it. With no
 //! words it checks on a small tree that a change of a copy leaves the tree as it was.
 #![tactic(auto)]
 
 mod entry;
+mod numbers;
+mod ropes;
 mod work;
 
 use cell_units::{NoMemory, Steps};
@@ -13,7 +15,7 @@ use std::alloc::Global;
 use std::{env, io};
 use work::{build, change_copies, count_apart, push_each, replace_each, seek_each};
 
-/// What to do, on how many items and how often.
+/// What to do, on how many items or bytes and how often.
 #[derive(Drop)]
 struct Order {
     task: Task,
@@ -29,6 +31,10 @@ enum Task {
     Replace,
     Share,
     Check,
+    Rope,
+    Letters,
+    Offsets,
+    Points,
 }
 
 impl Order {
@@ -59,22 +65,44 @@ impl Task {
             "replace" => Task::Replace,
             "seek" => Task::Seek,
             "share" => Task::Share,
+            "rope" => Task::Rope,
+            "letters" => Task::Letters,
+            "offsets" => Task::Offsets,
+            "points" => Task::Points,
             _ => Task::Check,
         }
     }
 }
 
-fn carry_out(alloc: Global, order: &Order, steps: &mut Steps) -> Result<u64, NoMemory> {
+/// The check of what was read, or none where memory ran out or there can be no such text.
+fn carry_out(alloc: Global, order: &Order, steps: &mut Steps) -> Option<u64> {
+    match order.task {
+        Task::Rope | Task::Letters | Task::Offsets | Task::Points => on_rope(alloc, order, steps),
+        _ => on_tree(alloc, order, steps).ok(),
+    }
+}
+
+fn on_tree(alloc: Global, order: &Order, steps: &mut Steps) -> Result<u64, NoMemory> {
     let mut tree = match order.task {
         Task::Push | Task::Check => push_each(alloc, order.items, steps)?,
         _ => build(alloc, order.items, steps)?,
     };
     match order.task {
-        Task::Build | Task::Push => Ok(tree.len() as u64),
         Task::Seek => Ok(seek_each(&tree, order.times, steps)),
         Task::Replace => replace_each(alloc, &mut tree, order.times, steps),
         Task::Share => change_copies(alloc, &tree, order.times, steps),
         Task::Check => count_apart(alloc, &tree, steps),
+        _ => Ok(tree.len() as u64),
+    }
+}
+
+fn on_rope(alloc: Global, order: &Order, steps: &mut Steps) -> Option<u64> {
+    let mut rope = ropes::build(alloc, order.items, steps).ok()?;
+    match order.task {
+        Task::Letters => ropes::replace_letters(alloc, &mut rope, order.times, steps).ok(),
+        Task::Offsets => Some(ropes::find_offsets(&rope, order.times, steps)),
+        Task::Points => Some(ropes::find_points(&rope, order.times, steps)),
+        _ => Some(rope.line_count() as u64),
     }
 }
 
@@ -82,8 +110,8 @@ fn main(rt: HostRuntime) -> io::Result<()> {
     let order = Order::read(&rt)?;
     let mut steps = Steps::new();
     match carry_out(rt.alloc(), &order, &mut steps) {
-        Ok(check) => println!(rt; "{check}")?,
-        Err(NoMemory) => println!(rt; "no memory")?,
+        Some(check) => println!(rt; "{check}")?,
+        None => println!(rt; "no memory, or no such text")?,
     }
     eprintln!(rt; "{steps:?}")
 }

@@ -2,28 +2,10 @@
 ghost use Rattle.std.specs.Prelude.{◌≡◌, IfOk, length};
 
 use crate::entry::Entry;
+use crate::numbers::Numbers;
 use cell_units::{Bias, NoMemory, Steps};
 use std::alloc::Global;
 use sum_tree::SumTree;
-
-/// A sequence of numbers that look random, and are the same in every run.
-#[derive(Drop)]
-struct Numbers(u64);
-
-impl Numbers {
-    /// The next number below the limit, or 0 where that is 0.
-    fn below(&mut self, limit: u32) -> u32 {
-        self.0 = self
-            .0
-            .wrapping_mul(6364136223846793005)
-            .wrapping_add(1442695040888963407);
-        if limit == 0 {
-            0
-        } else {
-            ((self.0 >> 33) % limit as u64) as u32
-        }
-    }
-}
 
 /// A tree of the numbers below `count`.
 pub fn build(alloc: Global, count: u32, steps: &mut Steps) -> Result<SumTree<Entry>, NoMemory>
@@ -49,7 +31,7 @@ pub fn push_each(alloc: Global, count: u32, steps: &mut Steps) -> Result<SumTree
 
 /// Seeks places at random. It gives the sum of the numbers that stand there.
 pub fn seek_each(tree: &SumTree<Entry>, times: u32, steps: &mut Steps) -> u64 {
-    let mut numbers = Numbers(1);
+    let mut numbers = Numbers::new();
     let mut cursor = tree.cursor::<u64>();
     let mut check = 0;
     for _ in 0..times {
@@ -85,7 +67,7 @@ pub fn replace_each(
     times: u32,
     steps: &mut Steps,
 ) -> Result<u64, NoMemory> {
-    let mut numbers = Numbers(1);
+    let mut numbers = Numbers::new();
     let mut at = 0;
     for number in 0..times {
         at = numbers.below(tree.len());
@@ -101,7 +83,7 @@ pub fn change_copies(
     times: u32,
     steps: &mut Steps,
 ) -> Result<u64, NoMemory> {
-    let mut numbers = Numbers(1);
+    let mut numbers = Numbers::new();
     for number in 0..times {
         let mut copy = tree.share()?;
         replace_one(alloc, &mut copy, numbers.below(tree.len()), number, steps)?;
