@@ -1,5 +1,5 @@
 -- Bytes under names, and counts of faults.
-use Rattle.std.specs.Prelude.{ℕ, List, [], Option, Some, None, find, unwrap_or}
+use Rattle.std.specs.Prelude.{ℕ, List, [], Option, find, unwrap_or}
 use Rattle.std.specs.Option.{option_map}
 use Rattle.std.specs.Str.{bytes_eq}
 use Rattle.display_cli.specs.declared.inputs.NamedBytes.{NamedBytes}

@@ -1,5 +1,5 @@
 -- A job that didn't land was sent, or it landed and its version wasn't published.
-use Rattle.std.proofs.Common.{◌≡◌, subst, sym}
+use Rattle.std.proofs.Common.{subst, sym}
 use Rattle.display_cli.specs.declared.stop.Stop.{Stop}
 use Rattle.display_cli.specs.Going.{IsRoundStopped}
 use Rattle.display_cli.proofs.GoingOn.{within-round, sent-some}

@@ -1,5 +1,4 @@
 -- The journal grew, so there was an operation, and its version is published.
-use Rattle.std.proofs.Common.{◌≡◌, ◌+◌, ◌<◌}
 use Rattle.display_map.specs.Changes.{ops_of}
 use Rattle.display_map.specs.Faults.{event_limit}
 use Rattle.display_cli.proofs.Lines.{changed-more}
