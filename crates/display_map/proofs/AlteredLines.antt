@@ -1,8 +1,8 @@
 -- Lines that are altered one after another.
-use Rattle.std.proofs.Common.{◌≡◌, ℕ, ◌+◌, ◌-◌, ◌<◌, ◌≤◌, zero, suc, List, [], ◌∷◌, ◌++◌, length, map, zip, take, drop, set, get_or, refl, sym, ap, ◌∙◌, arith, add-one, append_assoc, length-append}
+use Rattle.std.proofs.Common.{◌≡◌, ℕ, ◌+◌, ◌-◌, ◌<◌, zero, suc, List, [], ◌∷◌, ◌++◌, length, map, take, drop, set, get_or, refl, sym, ap, ◌∙◌, arith, add-one, append_assoc}
 use Rattle.std.proofs.lemmas.List.{length-map, length-take-le, drop_more, get_or-append_right, map-append, take_more}
 use Rattle.display_map.specs.declared.wrap.Wrap.{Wrap}
-use Rattle.display_map.specs.Kept.{no_wrap, sent_wrap, landed_wraps}
+use Rattle.display_map.specs.Kept.{no_wrap, landed_wraps}
 
 set_seam : {A : Type 0} (done rest : List A) (x y : A) → set (done ++ x ∷ rest) (length done) y ≡ done ++ y ∷ rest
 set_seam [] rest x y = refl

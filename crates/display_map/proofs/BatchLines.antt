@@ -6,27 +6,17 @@ use Rattle.std.proofs.lemmas.List.Elements.{All-weaker}
 use Rattle.std.proofs.lemmas.List.Folds.{list_any_none}
 use Rattle.std.proofs.lemmas.List.{take-append-drop, length-take-le, drop-drop, map-append, take-map, drop-map}
 use Rattle.cell_units.specs.Text.{clean, row_of, is_feed}
-use Rattle.cell_units.specs.Record.{Record, Mark, plain_mark, plain_marks, line_count}
+use Rattle.cell_units.specs.Record.{Record, Mark, plain_mark, plain_marks}
 use Rattle.cell_units.specs.BufferLines.{buffer_lines}
 use Rattle.cell_units.specs.Operation.{replaced_text}
 use Rattle.cell_units.proofs.BufferLines.{length-buffer_lines}
 use Rattle.cell_units.proofs.ReplacedRows.{line_count-replaced_text}
 use Rattle.cell_units.proofs.ReplacedLines.{lines_above-replaced, lines_below-replaced}
 use Rattle.display_map.specs.declared.change.Splice.{Splice}
-use Rattle.display_map.specs.declared.event.Event.TheVariants.{Did}
-use Rattle.display_map.specs.Changes.{is_operation, batch, are_ranges}
-use Rattle.display_map.specs.Replay.{SentJob, History, State, state_of, present_of, appended, holds, is_held, waits}
-use Rattle.display_map.proofs.PlainLines.{IsPlain}
-use Rattle.display_map.proofs.Replays.{state_of-appended}
+use Rattle.display_map.specs.Changes.{is_operation, are_ranges}
+use Rattle.display_map.specs.Replay.{SentJob, State, holds, is_held, waits}
 use Rattle.display_map.proofs.Batches.{AreOrdered, are_ordered, ordered-le, backwards, backwards-text, spliced}
-use Rattle.display_map.proofs.BatchMarks.{Marking, marked_by, batch_marking, after_batch, state_after_batch, row_kept}
-
--- the record of a history after a batch
-pub present_after_batch : (h : History) (splices : List Splice) → IsPlain (present_of h) → length (present_of h).marks ≡ line_count (present_of h).text →
-    are_ranges (present_of h).text 0 splices ≡ true →
-    present_of (appended h (map (λ op. Did op) (batch splices))) ≡ after_batch (present_of h) splices
-present_after_batch h splices plain marked ok =
-    ap (λ (s : State). s.present) (state_of-appended h (map (λ op. Did op) (batch splices)) ∙ state_after_batch (state_of h) splices plain marked ok)
+use Rattle.display_map.proofs.BatchMarks.{Marking, marked_by, batch_marking, row_kept}
 
 -- of what is kept of each line, a splice gives the rows of its ends and those between them a fresh one
 abbrev pub kept_by : {Y : Type 0} → Y → List ℕ → List Y → Splice → List Y
@@ -138,12 +128,6 @@ module _ {Y : Type 0} (R : List ℕ → Y → Type 0) where
   AreAlong (line ∷ lines) (y ∷ ys) = R line y × AreAlong lines ys
   AreAlong [] (y ∷ ys) = ⊥
   AreAlong (line ∷ lines) [] = ⊥
-
-  pub length-along : (lines : List (List ℕ)) (ys : List Y) → AreAlong lines ys → length ys ≡ length lines
-  length-along [] [] h = refl
-  length-along [] (y ∷ ys) h = absurd h
-  length-along (l ∷ ls) [] h = absurd h
-  length-along (l ∷ ls) (y ∷ ys) h = ap suc (length-along ls ys h.1)
 
   along-append : (ls ms : List (List ℕ)) (ys zs : List Y) → AreAlong ls ys → AreAlong ms zs → AreAlong (ls ++ ms) (ys ++ zs)
   along-append [] ms [] zs a b = b

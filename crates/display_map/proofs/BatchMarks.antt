@@ -150,15 +150,6 @@ state_after_batch s splices plain marked ok =
     ∙ (does_all s 0 splices (record { plain = plain; marked = marked }) ordered).is
     ∙ ap (λ (t : List ℕ). shaped s t (batch_marking s.present splices)) (backwards-text s.present.text 0 splices ordered)
 
--- there is a mark for each line again
-pub marked_after_batch : (r : Record) (splices : List Splice) → IsPlain r → length r.marks ≡ line_count r.text → are_ranges r.text 0 splices ≡ true →
-    length (after_batch r splices).marks ≡ line_count (after_batch r splices).text
-marked_after_batch r splices plain marked ok =
-    let s : State = record { present = r; jobs = [] } in
-    let ordered = are_ordered r.text 0 splices (omega arith) ok in
-    let d = does_all s 0 splices (record { plain = plain; marked = marked }) ordered in
-    (subst (λ (t : State). IsReady t.present) (d.is ∙ ap (λ (t : List ℕ). shaped s t (batch_marking r splices)) (backwards-text r.text 0 splices ordered)) d.ready).marked
-
 sound_all : (s : State) (from : ℕ) (splices : List Splice) → IsSound s → AreOrdered (length s.present.text) from splices → IsSound (backwards does s splices)
 sound_all s from [] sound h = sound
 sound_all s from (splice ∷ splices) sound h = go (is_operation splice) (sound_all s splice.end splices sound h.2) where

@@ -1,10 +1,10 @@
 -- A batch in one pass: what it makes of a text and of the marks.
-use Rattle.std.proofs.Common.{◌≡◌, ℕ, ◌+◌, ◌-◌, ◌<◌, ◌≤◌, eqb, leb, ltb, ◌&&◌, not, cond, Bool, true, false, List, [], ◌∷◌, ◌++◌, length, map, reverse, take, drop, get_or, slice_range, refl, sym, ap, subst, ◌∙◌, inl, inr, arith, length-append, length-drop}
+use Rattle.std.proofs.Common.{◌≡◌, ℕ, ◌+◌, ◌-◌, ◌≤◌, eqb, leb, ltb, ◌&&◌, not, cond, Bool, true, false, List, [], ◌∷◌, ◌++◌, length, map, reverse, take, drop, slice_range, refl, sym, ap, ◌∙◌, inl, inr, arith}
 use Rattle.std.specs.Prelude.{slice_index}
-use Rattle.std.specs.List.{fold, filter, sum_by}
+use Rattle.std.specs.List.{fold, filter}
 use Rattle.std.proofs.lemmas.Bool.{not-false, and_parts, eqb-true, leb-true, ltb-true, or_cases}
-use Rattle.std.proofs.lemmas.List.{append_assoc, append-nil, map-append, reverse-append, take-append-drop, take-take, drop-take, drop_at, take-append-le, length-take-le, drop_more, nil_from_length}
-use Rattle.std.proofs.lemmas.List.Sums.{fold_push, sum_by-cons}
+use Rattle.std.proofs.lemmas.List.{append_assoc, append-nil, map-append, reverse-append, take-append-drop, take-take, drop-take, drop_at, take-append-le, length-take-le, nil_from_length}
+use Rattle.std.proofs.lemmas.List.Sums.{fold_push}
 use Rattle.cell_units.specs.Text.{clean, is_boundary, goes_on}
 use Rattle.cell_units.specs.Record.{Record}
 use Rattle.cell_units.specs.Operation.{operated, replaced_text}
@@ -85,20 +85,6 @@ batch-cons s splices = go (is_operation s) where
   go true = ap (map (λ (t : Splice). Replace t)) (reverse-append (s ∷ []) rest) ∙ map-append (λ (t : Splice). Replace t) (reverse rest) (s ∷ [])
   go false = sym (append-nil (map (λ t. Replace t) (reverse rest)))
 
-pub length-batch-le : (splices : List Splice) → length (batch splices) ≤ length splices
-length-batch-le [] = omega arith
-length-batch-le (s ∷ splices) =
-    omega (
-      arith,
-      ap length (batch-cons s splices),
-      length-append (batch splices) (cond (is_operation s) (Replace s ∷ []) []),
-      one_at_most (is_operation s),
-      length-batch-le splices,
-    ) where
-      one_at_most : (b : Bool) → length (cond b (Replace s ∷ []) []) ≤ 1
-      one_at_most true = omega arith
-      one_at_most false = omega arith
-
 -- what is no operation replaces nothing by nothing
 no_operation : (s : Splice) → is_operation s ≡ false → (s.start ≡ s.end) × (s.text ≡ [])
 no_operation s h =
@@ -174,44 +160,3 @@ text_after_batch r splices ok =
     ∙ backwards-text r.text 0 splices (are_ordered r.text 0 splices (omega arith) ok)
 
 -- ---- one pass over it
-
--- what is left of the pass, one splice on
-pub spliced_more : (text : List ℕ) (from : ℕ) (splices : List Splice) (i : ℕ) (s : Splice) → i < length splices → get_or splices i s ≡ s →
-    spliced text from (drop i splices) ≡ slice_range text from s.start ++ (clean s.text ++ spliced text s.end (drop (i + 1) splices))
-spliced_more text from splices i s lt is =
-    ap (spliced text from) (drop_more splices i s lt ∙ ap (λ (t : Splice). t ∷ drop (i + 1) splices) is)
-
-pub ordered_more : (size from : ℕ) (splices : List Splice) (i : ℕ) (s : Splice) → i < length splices → get_or splices i s ≡ s →
-    AreOrdered size from (drop i splices) → (from ≤ s.start) × (s.start ≤ s.end) × AreOrdered size s.end (drop (i + 1) splices)
-ordered_more size from splices i s lt is h =
-    subst (AreOrdered size from) (drop_more splices i s lt ∙ ap (λ (t : Splice). t ∷ drop (i + 1) splices) is) h
-
--- its length is that of the text without what is removed and with what is inserted
-pub length-spliced : (text : List ℕ) (from : ℕ) (splices : List Splice) → AreOrdered (length text) from splices →
-    length (spliced text from splices) + sum_by (λ s. s.end - s.start) splices ≡ length text - from + sum_by (λ s. length (clean s.text)) splices
-length-spliced text from [] h = omega (arith, length-drop from text)
-length-spliced text from (s ∷ splices) h =
-    omega (
-      arith,
-      h.0,
-      h.1,
-      ordered-le (length text) s.end splices h.2,
-      length-append (slice_range text from s.start) (clean s.text ++ spliced text s.end splices),
-      length-append (clean s.text) (spliced text s.end splices),
-      length-take-le (s.start - from) (drop from text) (omega (arith, h.0, h.1, ordered-le (length text) s.end splices h.2, length-drop from text)),
-      sum_by-cons (λ (t : Splice). t.end - t.start) s splices,
-      sum_by-cons (λ (t : Splice). length (clean t.text)) s splices,
-      length-spliced text s.end splices h.2,
-    )
-
--- what is inserted is part of it
-pub inserted-le : (text : List ℕ) (from : ℕ) (splices : List Splice) → sum_by (λ s. length (clean s.text)) splices ≤ length (spliced text from splices)
-inserted-le text from [] = omega arith
-inserted-le text from (s ∷ splices) =
-    omega (
-      arith,
-      length-append (slice_range text from s.start) (clean s.text ++ spliced text s.end splices),
-      length-append (clean s.text) (spliced text s.end splices),
-      sum_by-cons (λ (t : Splice). length (clean t.text)) s splices,
-      inserted-le text s.end splices,
-    )

@@ -1,5 +1,5 @@
 -- Cleaning a text character by character gives the clean text.
-use Rattle.std.proofs.Common.{◌≡◌, ◌≢◌, ℕ, ◌+◌, ◌<◌, ◌≤◌, zero, suc, eqb, cond, Bool, true, false, List, [], ◌∷◌, ◌++◌, ◌&&◌, length, get_or, drop, map, refl, sym, ap, subst, ◌∙◌, arith, inl, inr, append-nil, append_assoc}
+use Rattle.std.proofs.Common.{◌≡◌, ℕ, ◌<◌, ◌≤◌, suc, eqb, cond, Bool, true, false, List, [], ◌∷◌, ◌++◌, ◌&&◌, length, get_or, map, refl, sym, ap, subst, ◌∙◌, arith, inl, inr, append-nil, append_assoc}
 use lib.Utf8.{encode, encodes}
 use Rattle.std.specs.Str.{IsUtf8, chars, encode_utf8_all}
 use Rattle.std.proofs.lemmas.Bool.{cases_lt, cases_Bool, eqb-true}

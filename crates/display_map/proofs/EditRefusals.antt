@@ -1,5 +1,5 @@
 -- Why a batch is refused, by the text that one pass leaves.
-use Rattle.std.proofs.Common.{◌≡◌, ℕ, ◌<◌, ◌≤◌, not, nat_lt, cond, Bool, true, false, List, length, Option, Some, None, ap, ◌∙◌}
+use Rattle.std.proofs.Common.{◌≡◌, ℕ, ◌<◌, ◌≤◌, not, nat_lt, cond, Bool, true, List, length, Option, Some, None, ap, ◌∙◌}
 use Rattle.std.proofs.lemmas.Bool.{lt-ltb, le-ltb}
 use Rattle.cell_units.specs.declared.fault.Refusal.{Refusal}
 use Rattle.cell_units.specs.declared.fault.Refusal.TheVariants.{BadRange, TooLong}
@@ -11,9 +11,6 @@ use Rattle.display_map.proofs.Batches.{spliced, text_after_batch}
 -- by whether the ranges are in order, and by the length
 abbrev refusal : Bool → ℕ → Option Refusal
 refusal ordered long = cond (not ordered) (Some BadRange) (cond (nat_lt text_limit long) (Some TooLong) None)
-
-pub refused_range : (r : Record) (splices : List Splice) → are_ranges r.text 0 splices ≡ false → edit_refusal r splices ≡ Some BadRange
-refused_range r splices bad = ap (λ (b : Bool). refusal b (length (operated_all (batch splices) r).text)) bad
 
 by_length : (r : Record) (splices : List Splice) → are_ranges r.text 0 splices ≡ true →
     edit_refusal r splices ≡ cond (nat_lt text_limit (length (spliced r.text 0 splices))) (Some TooLong) None

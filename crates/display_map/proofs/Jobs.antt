@@ -146,12 +146,3 @@ landed_stamps r (Some job) = go (job.width == r.width) where
   go : (b : Bool) → stamps (cond b (wrapped_at job.width job.stamps r.marks) r.marks) ≡ stamps r.marks
   go true = stamps-wrapped_at job.width job.stamps r.marks
   go false = refl
-
--- and keep the stamps
-pub stamps-still : (s : State) (e : Event) → ((op : Op) → e ≡ Did op → ⊥) → stamps (happens s e).present.marks ≡ stamps s.present.marks
-stamps-still s (Line number) other = refl
-stamps-still s (Did op) other = absurd (other op refl)
-stamps-still s (Sent job first count) other = refl
-stamps-still s (Landed job) other =
-    ap (λ (r : Record). stamps r.marks) (landed_on-is s.present (job_numbered job s.jobs)) ∙ landed_stamps s.present (job_numbered job s.jobs)
-stamps-still s (Published last) other = refl

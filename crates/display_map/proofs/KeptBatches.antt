@@ -1,11 +1,10 @@
 -- What is kept over a batch.
-use Rattle.std.proofs.Common.{◌≡◌, ℕ, ◌+◌, ◌-◌, ◌<◌, ◌≤◌, ◌==◌, eqb, not, zero, suc, cond, Bool, true, false, List, [], ◌∷◌, ◌++◌, length, map, replicate, slice_range, Option, Some, None, refl, sym, ap, subst, ◌∙◌, inl, arith, length-append}
-use Rattle.std.specs.List.{All, count_by}
+use Rattle.std.proofs.Common.{◌≡◌, ℕ, ◌+◌, ◌-◌, ◌<◌, ◌≤◌, eqb, not, cond, true, List, [], ◌∷◌, ◌++◌, length, map, replicate, slice_range, Some, None, refl, sym, ap, subst, ◌∙◌, inl, arith, length-append}
+use Rattle.std.specs.List.{count_by}
 use Rattle.std.proofs.lemmas.List.Sums.{sum_by-append}
-use Rattle.cell_units.specs.declared.fault.Refusal.{Refusal}
-use Rattle.cell_units.specs.declared.fault.Refusal.TheVariants.{BadRange, TooLong}
+use Rattle.cell_units.specs.declared.fault.Refusal.TheVariants.{TooLong}
 use Rattle.cell_units.specs.Text.{clean, is_feed, row_of}
-use Rattle.cell_units.specs.Record.{Record, Mark, line_count}
+use Rattle.cell_units.specs.Record.{Record}
 use Rattle.cell_units.specs.BufferLines.{buffer_lines}
 use Rattle.display_map.specs.declared.change.Splice.{Splice}
 use Rattle.display_map.specs.declared.change.Op.{Op}
@@ -13,15 +12,15 @@ use Rattle.display_map.specs.declared.event.Event.{Event}
 use Rattle.display_map.specs.declared.event.Event.TheVariants.{Did}
 use Rattle.display_map.specs.declared.wrap.Wrap.{Wrap}
 use Rattle.display_map.specs.Changes.{are_ranges, batch, edit_refusal, is_operation, text_limit}
-use Rattle.display_map.specs.Kept.{AreWrapped, IsStamped, IsWrapped, Keeps, KeepsHistory, plain_wrap}
+use Rattle.display_map.specs.Kept.{AreWrapped, IsStamped, IsWrapped, Keeps, KeepsHistory}
 use Rattle.display_map.specs.Replay.{State, History, state_of, present_of, appended, waits, versions_of, is_published, replayed}
 use Rattle.display_map.specs.Splicing.{did_events, fresh_wrap, spliced_text, spliced_wraps}
-use Rattle.display_map.proofs.Replays.{IsSound, state_of-appended}
+use Rattle.display_map.proofs.Replays.{state_of-appended}
 use Rattle.display_map.proofs.Batches.{backwards, spliced}
 use Rattle.display_map.proofs.BatchMarks.{after_batch, batch_marking, state_after_batch, sound_after_batch}
 use Rattle.display_map.proofs.BatchLines.{AreAlong, along_after_batch, kept_by, map-batch, waits_after_batch, widths_after_batch}
 use Rattle.display_map.proofs.BatchPass.{backwards-kept_by, kept_from}
-use Rattle.display_map.proofs.EditRefusals.{accepted, refused_length, refused_range}
+use Rattle.display_map.proofs.EditRefusals.{accepted, refused_length}
 use Rattle.display_map.proofs.KeptHistories.{sound_of, stamped_of}
 use Rattle.display_map.proofs.WrappedRows.{lines_kept, marked_kept, plain_of, plain_wrapped}
 
@@ -148,7 +147,3 @@ module _ (h : History) (splices : List Splice) (text : List ℕ) (tab width : �
 
   pub too_long : text_limit < length (spliced_text text 0 splices) → edit_refusal (present_of h) splices ≡ Some TooLong
   too_long long = refused_length r splices ranges (omega (arith, long, short_is))
-
-pub bad_range : (h : History) (splices : List Splice) (text : List ℕ) → (present_of h).text ≡ text → are_ranges text 0 splices ≡ false →
-    edit_refusal (present_of h) splices ≡ Some BadRange
-bad_range h splices text is bad = refused_range (present_of h) splices (ap (λ (t : List ℕ). are_ranges t 0 splices) is ∙ bad)

@@ -1,16 +1,16 @@
 -- What is kept over an event that changes nothing of rows and marks.
-use Rattle.std.proofs.Common.{◌≡◌, ℕ, ◌+◌, eqb, Bool, true, false, cond, ◌&&◌, List, [], ◌∷◌, ◌++◌, length, map, get_or, drop, Option, Some, None, refl, ap, sym, subst, ◌∙◌, arith, ◌<◌, ◌≤◌, length-append, zero, suc, replicate, inr}
-use Rattle.std.specs.List.{count_by, list_all, last_or}
+use Rattle.std.proofs.Common.{◌≡◌, ℕ, ◌+◌, eqb, Bool, true, cond, ◌&&◌, List, [], ◌∷◌, ◌++◌, length, map, get_or, drop, Option, Some, None, refl, ap, sym, subst, ◌∙◌, arith, ◌≤◌, length-append, zero, suc, replicate, inr}
+use Rattle.std.specs.List.{list_all, last_or}
 use Rattle.std.proofs.lemmas.List.Sums.{sum_by-append}
-use Rattle.cell_units.specs.Record.{Record, Mark, opened, plain_marks, line_count}
+use Rattle.cell_units.specs.Record.{Mark, opened, plain_marks, line_count}
 use Rattle.cell_units.specs.BufferLines.{buffer_lines}
 use Rattle.cell_units.proofs.BufferLines.{length-buffer_lines}
 use Rattle.display_map.specs.declared.event.Event.{Event}
-use Rattle.display_map.specs.declared.event.Event.TheVariants.{Line, Did, Sent, Landed, Published}
+use Rattle.display_map.specs.declared.event.Event.TheVariants.{Line, Published}
 use Rattle.display_map.specs.Changes.{text_limit}
 use Rattle.display_map.specs.declared.wrap.Wrap.{Wrap}
 use Rattle.display_map.specs.Kept.{AreWrapped, IsStamped, Keeps, KeepsHistory, plain_wrap}
-use Rattle.display_map.specs.Replay.{State, History, begun, state_of, present_of, appended, happens, versions_of, is_published, ends, is_last, is_settled, waits}
+use Rattle.display_map.specs.Replay.{State, History, begun, state_of, present_of, appended, versions_of, is_published, ends, is_last, is_settled, waits}
 use Rattle.display_map.proofs.Replays.{IsSound, IsSound-begun, replayed-none, state_of-one_more}
 use Rattle.display_map.proofs.WrappedRows.{all_plain, plain_of, marked_kept}
 

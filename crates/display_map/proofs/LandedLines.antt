@@ -1,5 +1,5 @@
 -- What is kept over a landing.
-use Rattle.std.proofs.Common.{◌≡◌, ℕ, ◌^◌, ◌+◌, ◌-◌, ◌<◌, ◌≤◌, ◌==◌, eqb, not, zero, suc, cond, Bool, true, false, List, [], ◌∷◌, ◌++◌, length, map, zip, take, drop, set, replicate, get_or, slice_range, Option, Some, None, refl, sym, ap, subst, ◌∙◌, arith, length-append, length-drop}
+use Rattle.std.proofs.Common.{◌≡◌, ℕ, ◌^◌, ◌+◌, ◌<◌, ◌≤◌, eqb, zero, suc, cond, Bool, true, false, List, [], ◌∷◌, ◌++◌, length, map, take, drop, replicate, get_or, slice_range, Some, refl, sym, ap, subst, ◌∙◌, arith, length-append, length-drop}
 use Rattle.std.specs.List.{All}
 use Rattle.std.proofs.lemmas.Bool.{eq-eqb}
 use Rattle.std.proofs.lemmas.List.{length-map, map-append, take-map, drop-map, length-take-le, get_or-map}
@@ -9,21 +9,18 @@ use Rattle.cell_line.specs.Wrapping.{IsWidth, cuts_of}
 use Rattle.cell_units.specs.Record.{Record, Mark}
 use Rattle.cell_units.specs.BufferLines.{buffer_lines}
 use Rattle.cell_units.proofs.BufferLines.{length-buffer_lines}
-use Rattle.plain_rows.specs.Rows.{line_elements}
-use Rattle.wrap_workers.specs.Jobs.{JobParts, wraps_of, lines_of_run}
+use Rattle.wrap_workers.specs.Jobs.{JobParts, wraps_of}
 use Rattle.display_map.specs.Changes.{text_limit}
-use Rattle.display_map.specs.declared.event.Event.{Event}
 use Rattle.display_map.specs.declared.event.Event.TheVariants.{Landed}
 use Rattle.display_map.specs.declared.wrap.Wrap.{Wrap}
-use Rattle.display_map.specs.Kept.{AreWrapped, IsStamped, IsWrapped, Keeps, KeepsHistory, NoneWaits, landed_wraps, no_wrap, over_run, text_elements}
-use Rattle.display_map.specs.Replay.{SentJob, State, History, state_of, present_of, appended, happens, waits, wrapped_at, stamps_of}
-use Rattle.display_map.proofs.Stamps.{stamps, times}
+use Rattle.display_map.specs.Kept.{AreWrapped, IsStamped, Keeps, KeepsHistory, NoneWaits, landed_wraps, no_wrap, over_run, text_elements}
+use Rattle.display_map.specs.Replay.{SentJob, State, History, state_of, present_of, appended, happens, waits, wrapped_at}
 use Rattle.display_map.proofs.Replays.{IsSound, IsSound-after, state_of-one_more}
 use Rattle.display_map.proofs.Jobs.{landed_marks}
 use Rattle.display_map.proofs.Runs.{wrapped_run}
 use Rattle.display_map.proofs.Landings.{landed_state, landed_state-is, waits_landed}
 use Rattle.display_map.proofs.KeptHistories.{sound_of, stamped_of, versions-more}
-use Rattle.display_map.proofs.WrappedRows.{length_wrapped, lines_kept, marked_kept}
+use Rattle.display_map.proofs.WrappedRows.{length_wrapped, lines_kept}
 use Rattle.display_map.proofs.PlainRows.{length-cuts_of}
 use Rattle.display_map.proofs.RowBounds.{length_of_text}
 use Rattle.display_map.proofs.AlteredLines.{length-landed}

@@ -1,8 +1,8 @@
 -- What is kept over the landing of a job that this display sent.
-use Rattle.std.proofs.Common.{◌≡◌, ℕ, ◌+◌, ◌-◌, ◌<◌, ◌≤◌, ◌==◌, ◌||◌, eqb, not, zero, suc, cond, Bool, true, false, List, [], ◌∷◌, ◌++◌, length, map, zip, take, drop, replicate, get_or, slice_range, Option, Some, None, refl, sym, ap, subst, ◌∙◌, arith, inl, inr, length-append, length-drop, add_comm}
-use Rattle.std.specs.List.{All, list_any, range_with_len}
-use Rattle.std.proofs.lemmas.Bool.{cases_Bool, or_cases, eqb-true, ne_eqb, eq-eqb, true≢false}
-use Rattle.std.proofs.lemmas.List.{length-map, map-append, take-map, drop-map, length-take-le, length_push, get_or-map, get_or_append_left, get_or_at}
+use Rattle.std.proofs.Common.{◌≡◌, ℕ, ◌+◌, ◌<◌, ◌||◌, eqb, cond, Bool, true, false, List, [], ◌∷◌, length, map, take, drop, get_or, Option, Some, None, refl, sym, ap, subst, ◌∙◌, arith, add_comm}
+use Rattle.std.specs.List.{list_any, range_with_len}
+use Rattle.std.proofs.lemmas.Bool.{ne_eqb, eq-eqb, true≢false}
+use Rattle.std.proofs.lemmas.List.{length-map, take-map, drop-map, length_push, get_or-map, get_or_append_left, get_or_at}
 use Rattle.std.proofs.lemmas.List.FromFn.{get_or-range_with_len}
 use Rattle.cell_units.specs.Record.{Record, Mark}
 use Rattle.display_map.specs.declared.event.Event.{Event}
@@ -10,7 +10,7 @@ use Rattle.display_map.specs.declared.event.Event.TheVariants.{Line, Did, Sent, 
 use Rattle.plain_rows.specs.Rows.{line_elements}
 use Rattle.cell_line.specs.declared.element.Element.{Element}
 use Rattle.wrap_workers.specs.Jobs.{JobParts}
-use Rattle.display_map.specs.Replay.{SentJob, State, History, state_of, present_of, appended, happens, replayed, landed_on, job_numbered, landed_if, with_landed, wrapped_at, stamps_of}
+use Rattle.display_map.specs.Replay.{SentJob, State, History, state_of, present_of, happens, replayed, landed_on, job_numbered, landed_if, wrapped_at, stamps_of}
 use Rattle.display_map.specs.Sending.{IsOutstanding, is_did, is_landing, sending}
 use Rattle.display_map.proofs.Replays.{replayed-none, replayed-cons, state_of-appended}
 use Rattle.display_map.proofs.Stamps.{stamps, stamps-wrapped_at}

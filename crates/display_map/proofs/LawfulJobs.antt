@@ -1,10 +1,9 @@
 -- The lines of a display, and that a job may be made of a run of them.
-use Rattle.std.proofs.Common.{◌≡◌, ℕ, ◌+◌, ◌-◌, ◌*◌, ◌<◌, ◌≤◌, not, min, zero, suc, cond, Bool, true, false, List, [], ◌∷◌, length, map, take, drop, get_or, slice_range, Option, Some, None, refl, sym, ap, subst, ◌∙◌, arith, length-drop}
+use Rattle.std.proofs.Common.{◌≡◌, ℕ, ◌+◌, ◌-◌, ◌<◌, ◌≤◌, not, suc, cond, Bool, true, false, List, [], ◌∷◌, length, map, drop, get_or, Some, refl, sym, ap, subst, ◌∙◌, arith, length-drop}
 use Rattle.std.specs.List.{All, prefix_len}
 use Rattle.std.proofs.lemmas.List.{length-map, get_or-map, length-take-le}
 use Rattle.std.proofs.lemmas.List.Elements.{All-from_get_or}
 use Rattle.std.proofs.lemmas.List.Sums.{prefix_len-le-length}
-use Rattle.cell_line.specs.declared.element.Element.{Element}
 use Rattle.cell_line.specs.declared.lines.Run.{Run}
 use Rattle.cell_line.specs.Lines.{LineFitsU32}
 use Rattle.cell_line.specs.Wrapping.{IsWidth}
@@ -15,8 +14,7 @@ use Rattle.plain_rows.specs.Rows.{line_elements}
 use Rattle.wrap_workers.specs.Jobs.{IsLawful}
 use Rattle.display_map.specs.Changes.{text_limit}
 use Rattle.display_map.specs.declared.wrap.Wrap.{Wrap}
-use Rattle.display_map.specs.Kept.{Keeps, IsNextRun, NoneWaits, first_waiting_in, text_elements}
-use Rattle.display_map.specs.Replay.{run_limit}
+use Rattle.display_map.specs.Kept.{Keeps, IsNextRun, first_waiting_in, text_elements}
 use Rattle.display_map.proofs.PlainLines.{line_elements-plain}
 use Rattle.display_map.proofs.RowBounds.{cells_of_text, length_of_text}
 use Rattle.display_map.proofs.WrappedRows.{plain_of}

@@ -22,5 +22,4 @@ pub mod Jobs
 pub mod Runs
 pub mod Landings
 pub mod BatchPass
-pub mod Holders
 pub mod EditRefusals

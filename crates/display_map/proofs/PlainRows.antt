@@ -1,24 +1,22 @@
 -- The rows of a record without inlays, folds and blocks.
-use Rattle.std.proofs.Common.{◌≡◌, ℕ, ◌+◌, ◌-◌, ◌<◌, ◌≤◌, ◌&&◌, ◌==◌, nat_lt, filter, cond, zero, suc, true, false, Bool, List, [], ◌∷◌, ◌++◌, length, map, drop, get_or, slice_range, Some, None, refl, sym, ap, ◌∙◌, arith}
+use Rattle.std.proofs.Common.{◌≡◌, ℕ, ◌+◌, ◌-◌, ◌<◌, ◌≤◌, ◌&&◌, ◌==◌, nat_lt, filter, cond, zero, suc, true, false, Bool, List, [], ◌∷◌, ◌++◌, length, map, drop, get_or, slice_range, Some, refl, sym, ap, ◌∙◌, arith}
 use Rattle.std.specs.Prelude.{slice_get}
 use Rattle.std.specs.List.{flat_map, sum_by, zip, enumerate_from}
-use Rattle.std.proofs.lemmas.List.{append-nil, length-map, get_or-map, drop_more, drop_all, take_rest}
+use Rattle.std.proofs.lemmas.List.{append-nil, length-map, drop_more, take_rest}
 use Rattle.std.proofs.lemmas.List.Concat.{length-flat_map}
 use Rattle.std.proofs.lemmas.List.Sums.{sum_by-cons}
-use Rattle.std.proofs.lemmas.Slice.Zip.{length-zip, get_or-zip}
-use Rattle.cell_units.specs.declared.piece.Piece.{Piece}
-use Rattle.cell_units.specs.declared.piece.PieceKind.TheVariants.{Buffer}
 use Rattle.cell_units.specs.declared.place.Side.{Side}
 use Rattle.cell_units.specs.declared.place.Side.TheVariants.{Above, Below}
-use Rattle.cell_units.specs.Record.{Mark, Record, line_count}
+use Rattle.cell_units.specs.Record.{Mark, Record}
 use Rattle.cell_units.specs.BufferLines.{buffer_lines}
 use Rattle.cell_line.specs.declared.element.Element.{Element}
 use Rattle.cell_line.specs.Wrapping.{cuts_of, indent_of, next_start_of, row_starts}
 use Rattle.cell_units.proofs.BufferLines.{bytes_of_lines}
 use Rattle.cell_line.proofs.Rows.{cuts-off, cuts-on}
-use Rattle.cell_line.proofs.CellBounds.{length-elements_of}
-use Rattle.plain_rows.specs.Rows.{Row, is_on, line_of_block, block_rows, blocks_at, line_elements, line_rows, rows_by_line, rows_of, text_rows, head_row, more_row, parted, head_and_more}
-use Rattle.display_map.proofs.PlainLines.{IsPlain, elements_of_text, elements_of_one, line_elements-plain, length-line_elements, get_or-line_elements}
+use Rattle.plain_rows.specs.Rows.{Row, is_on, line_of_block, block_rows, blocks_at, line_rows, rows_by_line, rows_of, text_rows, head_row, more_row, parted, head_and_more}
+use Rattle.display_map.specs.Kept.{text_elements}
+use Rattle.display_map.proofs.PlainLines.{IsPlain, line_elements-plain}
+use Rattle.display_map.proofs.RowBounds.{length_of_text}
 
 pub blocks_at-plain : (r : Record) (side : Side) (line : ℕ) → IsPlain r → blocks_at r side line ≡ []
 blocks_at-plain r side line plain =
@@ -41,21 +39,6 @@ unfolding rows_of
 rows_of-plain r plain = ap (flat_map (λ (rows : List Row). rows)) (rows_by_line-plain r plain)
 
 -- ---- the rows of one line
-
-pub length-line_rows : (r : Record) → IsPlain r → length r.marks ≡ line_count r.text → length (line_rows r) ≡ line_count r.text
-length-line_rows r plain marked =
-    length-map (zip (line_elements r) r.marks) (λ l. text_rows l.0 l.1.width)
-    ∙ omega (arith, length-zip (line_elements r) r.marks, length-line_elements r plain, marked)
-
--- a line's rows are those of its elements at its own width
-pub get_or-line_rows : (r : Record) (line : ℕ) (mark : Mark) → IsPlain r → length r.marks ≡ line_count r.text → line < line_count r.text →
-    get_or (line_rows r) line [] ≡ text_rows (elements_of_text r.tab (get_or (buffer_lines r.text) line [])) (get_or r.marks line mark).width
-get_or-line_rows r line mark plain marked lt =
-    let in_elements : line < length (line_elements r) = omega (arith, length-line_elements r plain) in
-    let in_marks : line < length r.marks = omega (arith, marked) in
-    get_or-map (λ (l : List Element × Mark). text_rows l.0 l.1.width) (zip (line_elements r) r.marks) line ([], mark) [] (omega (arith, length-zip (line_elements r) r.marks))
-    ∙ ap (λ (l : List Element × Mark). text_rows l.0 l.1.width) (get_or-zip (line_elements r) r.marks line ([], mark) in_elements in_marks)
-    ∙ ap (λ (es : List Element). text_rows es (get_or r.marks line mark).width) (get_or-line_elements r line plain lt)
 
 length-row_starts : (es : List Element) (room most start : ℕ) → length (row_starts es room most start) ≤ most
 unfolding row_starts
@@ -155,32 +138,23 @@ row_further lines line n lt past =
     ap (λ (ls : List (List Row)). slice_get (flat_map (λ rows. rows) ls) n) (drop_more lines line [] lt)
     ∙ slice_get_right (get_or lines line []) (flat_map (λ rows. rows) (drop (line + 1) lines)) n past
 
--- past the last line there is none
-pub row_past : (lines : List (List Row)) (line n : ℕ) → length lines ≤ line → slice_get (flat_map (λ rows. rows) (drop line lines)) n ≡ None
-row_past lines line n le = ap (λ (ls : List (List Row)). slice_get (flat_map (λ rows. rows) ls) n) (drop_all line lines le)
-
 -- the rows are counted line by line
 pub length-rows_of : (r : Record) → IsPlain r → length (rows_of r) ≡ sum_by length (line_rows r)
 length-rows_of r plain = ap length (rows_of-plain r plain) ∙ length-flat_map (λ (rows : List Row). rows) (line_rows r)
 
-length-elements : (tab : ℕ) (line : List ℕ) → length (elements_of_text tab line) ≤ length line
-length-elements tab line =
-    let piece : Piece = record { kind = Buffer; text = line; start = 0; end = 0 } in
-    omega (arith, ap length (elements_of_one tab piece), length-elements_of (piece ∷ []) tab)
-
 -- a line has at most one row for each byte, and one more
-pub length-text_rows-le : (tab width : ℕ) (line : List ℕ) → length (text_rows (elements_of_text tab line) width) ≤ length line + 1
+pub length-text_rows-le : (tab width : ℕ) (line : List ℕ) → length (text_rows (text_elements tab line) width) ≤ length line + 1
 length-text_rows-le tab width line =
-    let es = elements_of_text tab line in
-    omega (arith, length-text_rows es width, length-cuts_of es width, length-elements tab line)
+    let es = text_elements tab line in
+    omega (arith, length-text_rows es width, length-cuts_of es width, length_of_text tab line)
 
 rows_within : (tab : ℕ) (lines : List (List ℕ)) (marks : List Mark) →
-    sum_by length (map (λ l. text_rows l.0 l.1.width) (zip (map (elements_of_text tab) lines) marks)) ≤ sum_by (λ line. length line + 1) lines
+    sum_by length (map (λ l. text_rows l.0 l.1.width) (zip (map (text_elements tab) lines) marks)) ≤ sum_by (λ line. length line + 1) lines
 rows_within tab [] marks = omega arith
 rows_within tab (line ∷ lines) [] = omega arith
 rows_within tab (line ∷ lines) (m ∷ ms) =
-    let first = text_rows (elements_of_text tab line) m.width in
-    let rest = map (λ l. text_rows l.0 l.1.width) (zip (map (elements_of_text tab) lines) ms) in
+    let first = text_rows (text_elements tab line) m.width in
+    let rest = map (λ l. text_rows l.0 l.1.width) (zip (map (text_elements tab) lines) ms) in
     omega (
       arith,
       sum_by-cons (λ (rows : List Row). length rows) first rest,
@@ -193,6 +167,6 @@ rows_within tab (line ∷ lines) (m ∷ ms) =
 pub length-rows_of-le : (r : Record) → IsPlain r → length (rows_of r) ≤ length r.text + 1
 length-rows_of-le r plain =
     let es = line_elements-plain r plain in
-    let rows : length (rows_of r) ≡ sum_by length (map (λ l. text_rows l.0 l.1.width) (zip (map (elements_of_text r.tab) (buffer_lines r.text)) r.marks)) =
+    let rows : length (rows_of r) ≡ sum_by length (map (λ l. text_rows l.0 l.1.width) (zip (map (text_elements r.tab) (buffer_lines r.text)) r.marks)) =
     length-rows_of r plain ∙ (λ i. sum_by length (map (λ l. text_rows l.0 l.1.width) (zip (es i) r.marks))) in
     omega (arith, rows, rows_within r.tab (buffer_lines r.text) r.marks, bytes_of_lines r.text)

@@ -63,10 +63,6 @@ IsDue s (Sent job first count) = job ≡ length s.jobs + 1
 IsDue s (Landed job) = Unit {0}
 IsDue s (Published last) = Unit {0}
 
-abbrev pub AreDue : State → List Event → Type 0
-AreDue s [] = Unit {0}
-AreDue s (e ∷ es) = IsDue s e × AreDue (happens s e) es
-
 IsKept-opened : (text : List ℕ) → IsKept (opened text)
 IsKept-opened text = record {
   plain = record { no_inlays = refl; no_folds = refl; no_blocks = refl };
@@ -188,8 +184,3 @@ IsSound-after s (Did (Replace splice)) sound due = sound_did s splice sound due.
 IsSound-after s (Sent job first count) sound due = sound_sent s job first count sound due
 IsSound-after s (Landed job) sound due = sound_landed s job sound
 IsSound-after s (Published last) sound due = sound
-
-pub IsSound-replayed : (s : State) (es : List Event) → IsSound s → AreDue s es → IsSound (replayed s es)
-IsSound-replayed s [] sound due = subst IsSound (sym (replayed-none s)) sound
-IsSound-replayed s (e ∷ es) sound due =
-    subst IsSound (sym (replayed-cons s e es)) (IsSound-replayed (happens s e) es (IsSound-after s e sound due.0) due.1)

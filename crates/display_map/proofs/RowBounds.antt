@@ -1,9 +1,9 @@
 -- Bounds of a line of text and of its rows.
-use Rattle.std.proofs.Common.{◌≡◌, ℕ, ◌+◌, ◌-◌, ◌*◌, ◌<◌, ◌≤◌, zero, suc, List, [], ◌∷◌, length, get_or, ap, sym, arith}
+use Rattle.std.proofs.Common.{ℕ, ◌-◌, ◌*◌, ◌≤◌, zero, suc, List, [], ◌∷◌, length, get_or, ap, arith}
 use Rattle.cell_units.specs.declared.piece.Piece.{Piece}
 use Rattle.cell_units.specs.declared.piece.PieceKind.TheVariants.{Buffer}
 use Rattle.cell_line.specs.declared.element.Element.{Element}
-use Rattle.cell_line.specs.Elements.{total_cells, elements_of}
+use Rattle.cell_line.specs.Elements.{total_cells}
 use Rattle.cell_line.specs.Wrapping.{cuts_of, indent_of, next_start_of}
 use Rattle.cell_line.specs.Laws.{AreRowStarts}
 use Rattle.cell_line.proofs.LineLaws.{cuts_law}

@@ -1,5 +1,5 @@
 -- What is kept over the sending of a run.
-use Rattle.std.proofs.Common.{◌≡◌, ℕ, ◌+◌, ◌-◌, ◌<◌, ◌≤◌, not, min, zero, suc, cond, Bool, true, false, List, [], ◌∷◌, ◌++◌, length, map, take, drop, replicate, get_or, Option, Some, None, refl, sym, ap, subst, ◌∙◌, arith, inl, inr, length-append, length-drop}
+use Rattle.std.proofs.Common.{◌≡◌, ℕ, ◌+◌, ◌-◌, ◌<◌, ◌≤◌, not, min, Bool, false, List, [], ◌∷◌, ◌++◌, length, map, take, drop, replicate, get_or, Some, None, refl, sym, ap, subst, ◌∙◌, arith, inl, inr, length-append, length-drop}
 use Rattle.std.specs.List.{prefix_len}
 use Rattle.std.proofs.lemmas.Bool.{cases_lt}
 use Rattle.std.proofs.lemmas.List.{length-map, map-append, take-map, drop-map, take-append-drop, drop-drop, length-take-le, length_push, get_or-map, get_or-append_right, get_or_append_left}
@@ -11,13 +11,12 @@ use Rattle.display_map.specs.declared.event.Event.{Event}
 use Rattle.display_map.specs.declared.event.Event.TheVariants.{Sent}
 use Rattle.display_map.specs.declared.wrap.Wrap.{Wrap}
 use Rattle.display_map.specs.Kept.{AreWrapped, IsStamped, Keeps, KeepsHistory, NoneWaits, first_waiting_in, no_wrap, over_run, sent_wrap, text_elements}
-use Rattle.display_map.specs.Replay.{State, History, state_of, present_of, appended, happens, waits, run_limit, first_waiting, next_run, stamps_of}
+use Rattle.display_map.specs.Replay.{State, History, state_of, appended, happens, waits, run_limit, first_waiting, next_run, stamps_of}
 use Rattle.display_map.proofs.Stamps.{stamps, times}
-use Rattle.display_map.proofs.Replays.{IsSound, IsSound-after, state_of-one_more}
+use Rattle.display_map.proofs.Replays.{IsSound-after, state_of-one_more}
 use Rattle.display_map.proofs.Jobs.{same_prefix, next_run-none, next_run-some}
 use Rattle.display_map.proofs.Runs.{waits_run}
 use Rattle.display_map.proofs.KeptHistories.{sound_of, stamped_of, versions-more}
-use Rattle.display_map.proofs.WrappedRows.{marked_kept, lines_kept}
 
 -- ---- a run among the lines
 

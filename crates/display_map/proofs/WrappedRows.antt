@@ -1,5 +1,5 @@
 -- The rows of lines that stand wrapped, and that they are those of the record.
-use Rattle.std.proofs.Common.{◌≡◌, ℕ, ◌+◌, ◌-◌, ◌<◌, ◌≤◌, zero, suc, List, [], ◌∷◌, ◌++◌, length, map, zip, take, drop, replicate, get_or, flat_map, slice_get, Option, Some, None, refl, sym, ap, subst, ◌∙◌, arith, length-append, inl}
+use Rattle.std.proofs.Common.{◌≡◌, ℕ, ◌+◌, ◌-◌, ◌<◌, ◌≤◌, zero, suc, List, [], ◌∷◌, length, map, zip, take, drop, replicate, get_or, flat_map, slice_get, None, refl, sym, ap, ◌∙◌, arith, length-append, inl}
 use Rattle.std.proofs.lemmas.List.{length-map}
 use Rattle.std.proofs.lemmas.List.Sums.{sum_by-cons}
 use Rattle.cell_units.specs.Record.{Record, Mark, line_count}
@@ -7,7 +7,7 @@ use Rattle.cell_units.specs.BufferLines.{buffer_lines}
 use Rattle.cell_units.proofs.BufferLines.{length-buffer_lines}
 use Rattle.cell_line.specs.declared.element.Element.{Element}
 use Rattle.cell_line.proofs.Rows.{cuts-off}
-use Rattle.plain_rows.specs.Rows.{Row, rows_of, line_rows, line_elements, text_rows}
+use Rattle.plain_rows.specs.Rows.{Row, rows_of, text_rows}
 use Rattle.display_map.specs.declared.wrap.Wrap.{Wrap}
 use Rattle.display_map.specs.Kept.{text_elements, IsWrapped, AreWrapped, wrapped_rows, Keeps, rows_in, no_wrap, plain_wrap}
 use Rattle.display_map.proofs.PlainLines.{IsPlain, line_elements-plain}

@@ -5,7 +5,7 @@ use Rattle.std.specs.declared.sync.Arc.{Arc}
 use Rattle.std.specs.declared.vec.Vec.{Vec}
 use Rattle.std.specs.Arc.{arc_value}
 use Rattle.unicode_segmentation.specs.Grapheme.{graphemes}
-use Rattle.cell_units.specs.Record.{Mark, Record}
+use Rattle.cell_units.specs.Record.{Record}
 use Rattle.cell_units.specs.BufferLines.{buffer_lines}
 use Rattle.cell_line.specs.declared.element.Element.{Element}
 use Rattle.cell_line.specs.declared.lines.Run.{Run}

@@ -1,5 +1,5 @@
 -- What a journal makes of an opening text.
-use Rattle.std.specs.Prelude.{ℕ, ◌+◌, ◌-◌, ◌==◌, ◌&&◌, not, min, Bool, true, false, if◌then◌else◌, List, [], ◌∷◌, ◌++◌, length, map, filter, take, drop, fold, find, count_by, Option, Some, None}
+use Rattle.std.specs.Prelude.{ℕ, ◌==◌, ◌&&◌, not, min, Bool, true, false, if◌then◌else◌, List, [], ◌∷◌, ◌++◌, length, map, take, drop, fold, find, count_by, Option, Some, None}
 use Rattle.std.specs.List.{list_any, list_all, prefix_len, last_or}
 use Rattle.cell_line.specs.declared.lines.Run.{Run}
 use Rattle.cell_units.specs.Record.{Mark, Record, opened}

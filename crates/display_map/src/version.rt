@@ -34,6 +34,7 @@ impl Version {
         u64::from(self.number)
     }
 
+    /// What was published.
     pub fn view(&self) -> &View
         ensures { result.now ≡ self.now }
     {

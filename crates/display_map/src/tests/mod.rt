@@ -4,6 +4,7 @@ ghost use Rattle.display_map.specs.Faults.{event_limit};
 
 use crate::change::{Change, Splice};
 use crate::display::Display;
+use crate::event::Event;
 use crate::fault::TextFault;
 use crate::laws::job_laws;
 use crate::shown::Kind;
@@ -102,6 +103,24 @@ fn first_landing(rt: HostRuntime) -> Result<(), Fail> {
     assert!(rt; version.last());
     assert_row(&rt, alloc, version.view(), 0, Kind::Head, "abc");
     assert!(rt; version.view().row(alloc, 1, &mut Steps::new())?.is_none());
+    Ok(())
+}
+
+#[test]
+fn a_line_that_is_noted_changes_no_row(rt: HostRuntime) -> Result<(), Fail> {
+    let alloc = rt.alloc();
+    let mut display = Display::start(alloc, b"abc", &mut Steps::new())?;
+    assert!(rt; display.room() >= 1000);
+    display.note_line(alloc, 7)?;
+    let view = display.view()?;
+    assert_eq!(rt; view.row_count(), 1);
+    assert_row(&rt, alloc, &view, 0, Kind::Head, "abc");
+    let journal = display.into_journal();
+    assert_eq!(rt; journal.len(), 1);
+    match journal.get(0) {
+        Some(Event::Line { number }) => assert_eq!(rt; *number, 7),
+        _ => panic!(rt; "no line is noted"),
+    }
     Ok(())
 }
 

@@ -1,6 +1,6 @@
-use Rattle.std.proofs.Common.{◌≡◌, ℕ, ◌+◌, ◌<◌, length, get_or, ap, arith, List}
+use Rattle.std.proofs.Common.{ℕ, ◌+◌, ◌<◌, length, get_or, ap, arith, List}
 use Rattle.cell_units.specs.Record.{line_count}
-use Rattle.cell_units.proofs.BufferLines.{length-line_starts, line_end_next, line_end_last}
+use Rattle.cell_units.proofs.BufferLines.{length-line_starts, line_end_next}
 use Rattle.display_map.proofs.buffer.line_end.Goals as goal
 
 pub overflow_sub-result : goal.overflow_sub-result

@@ -1,6 +1,6 @@
-use Rattle.std.proofs.Common.{◌≡◌, ℕ, ◌+◌, ◌-◌, ◌<◌, ◌≤◌, rules, length, get_or, slice_range, take, drop, ap, sym, ◌∙◌, arith, List, subst}
+use Rattle.std.proofs.Common.{◌≡◌, ℕ, ◌<◌, rules, length, get_or, slice_range, ap, sym, ◌∙◌, arith, List, subst}
 use Rattle.std.specs.Str.{IsCharBoundary}
-use Rattle.cell_units.specs.BufferLines.{line_starts, line_start, line_end}
+use Rattle.cell_units.specs.BufferLines.{line_starts, line_start}
 use Rattle.cell_units.proofs.BufferLines.{length-line_starts, line_bounds, get_or-buffer_lines, boundary_at_end, boundary_at_start}
 use Rattle.display_map.proofs.buffer.line_in.Goals as goal
 

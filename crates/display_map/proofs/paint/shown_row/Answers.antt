@@ -1,7 +1,7 @@
 use Rattle.std.proofs.Common.{◌≡◌, ◌<◌, ◌≤◌, ℕ, Option, Some, IfOk, slice_get, List, ◌∷◌, length, get_or, slice_range, ap, sym, ◌∙◌, arith, subst}
 use Rattle.cell_line.specs.declared.element.Element.{Element}
 use Rattle.display_map.specs.Shown.{shown_row}
-use Rattle.cell_line.specs.Wrapping.{cuts_of, indent_of}
+use Rattle.cell_line.specs.Wrapping.{cuts_of}
 use Rattle.plain_rows.specs.Rows.{Row, head_row, more_row, text_rows}
 use Rattle.display_map.proofs.PlainRows.{first_text_row, later_text_row, row_elements}
 use Rattle.display_map.proofs.RowBounds.{row_bounds}

@@ -1,8 +1,7 @@
-use Rattle.std.proofs.Common.{◌≡◌, ℕ, length, ap, arith}
+use Rattle.std.proofs.Common.{length, ap, arith}
 use Rattle.cell_units.specs.declared.piece.Piece.{Piece}
 use Rattle.cell_units.specs.declared.piece.PieceKind.TheVariants.{Buffer}
-use Rattle.cell_line.specs.Elements.{total_cells, elements_of}
-use Rattle.display_map.specs.Kept.{text_elements}
+use Rattle.cell_line.specs.Elements.{total_cells}
 use Rattle.display_map.proofs.PlainLines.{elements_of_one}
 use Rattle.display_map.proofs.RowBounds.{cells_of_text}
 use Rattle.display_map.proofs.paint.text_elements.Goals as goal

@@ -1,4 +1,4 @@
-use Rattle.std.proofs.Common.{◌≡◌, ◌≤◌, ◌++◌, length, drop}
+use Rattle.std.proofs.Common.{◌≡◌, ◌++◌, drop}
 use Rattle.display_map.specs.Splicing.{did_events}
 use Rattle.display_map.proofs.splicing.push_each.Given as goal
 

@@ -1,4 +1,4 @@
-use Rattle.std.proofs.Common.{◌≡◌, ◌<◌, List, [], length, get_or, slice_get, ap, sym, ◌∙◌, arith}
+use Rattle.std.proofs.Common.{List, length, get_or, slice_get, ap, sym, ◌∙◌, arith}
 use Rattle.cell_units.specs.BufferLines.{buffer_lines}
 use Rattle.cell_units.proofs.BufferLines.{length-buffer_lines}
 use Rattle.cell_line.specs.declared.element.Element.{Element}

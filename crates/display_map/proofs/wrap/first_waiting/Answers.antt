@@ -1,4 +1,4 @@
-use Rattle.std.proofs.Common.{◌≡◌, length, inl, inr, refl, arith}
+use Rattle.std.proofs.Common.{length, inl, inr, refl, arith}
 use Rattle.display_map.proofs.WaitingLines.{first_waiting-at}
 use Rattle.display_map.proofs.wrap.first_waiting.Goals as goal
 

@@ -1,4 +1,4 @@
-use Rattle.std.proofs.Common.{◌≡◌, ◌++◌, map, take, drop}
+use Rattle.std.proofs.Common.{◌≡◌, ◌++◌, take, drop}
 use Rattle.wrap_workers.specs.Jobs.{places_of}
 use Rattle.display_map.specs.Kept.{landed_wraps}
 use Rattle.display_map.proofs.wrap.take_cuts.Given as goal

@@ -1,7 +1,6 @@
 use Rattle.std.proofs.Common.{◌≡◌, ap, ◌∙◌, length, arith}
 use Rattle.std.proofs.lemmas.List.Sums.{count_by-le-length}
 use Rattle.std.specs.String.{string_bytes}
-use Rattle.std.specs.Vec.{vec_len}
 use Rattle.cell_units.specs.Text.{is_feed}
 use Rattle.cell_units.specs.Record.{line_count}
 use Rattle.cell_units.proofs.BufferLines.{length-line_starts, line_count-is}

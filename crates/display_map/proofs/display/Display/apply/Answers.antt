@@ -1,9 +1,8 @@
-use Rattle.std.proofs.Common.{◌≡◌, ◌<◌, ◌≤◌, ℕ, List, ◌++◌, length, map, true, ap, sym, subst, ◌∙◌, arith, Option, Some, None}
+use Rattle.std.proofs.Common.{◌≡◌, ◌<◌, ◌≤◌, ℕ, List, length, true, ap, sym, subst, ◌∙◌, arith, Some, None}
 use Rattle.std.specs.Arc.{arc_value}
 use Rattle.std.specs.String.{string_bytes}
 use Rattle.cell_units.specs.declared.fault.Refusal.TheVariants.{TooLong}
 use Rattle.cell_units.specs.Record.{line_count}
-use Rattle.display_map.specs.declared.change.Splice.{Splice}
 use Rattle.display_map.specs.declared.event.Event.{Event}
 use Rattle.display_map.specs.declared.wrap.Wrap.{Wrap}
 use Rattle.display_map.specs.Changes.{are_ranges, edit_refusal, text_limit}

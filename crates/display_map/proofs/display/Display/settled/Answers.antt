@@ -1,4 +1,4 @@
-use Rattle.std.proofs.Common.{◌≡◌, eqb, List, ap, ◌∙◌}
+use Rattle.std.proofs.Common.{eqb, List, ap, ◌∙◌}
 use Rattle.std.specs.Arc.{arc_value}
 use Rattle.std.specs.List.{list_all}
 use Rattle.display_map.specs.declared.wrap.Wrap.{Wrap}

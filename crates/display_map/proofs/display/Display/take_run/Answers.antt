@@ -1,4 +1,4 @@
-use Rattle.std.proofs.Common.{◌≡◌, ◌≤◌, ◌<◌, ℕ, ◌+◌, List, [], ◌∷◌, ◌++◌, length, map, Option, Some, None, refl, ap, sym, subst, ◌∙◌, arith}
+use Rattle.std.proofs.Common.{◌≡◌, ◌≤◌, ℕ, ◌+◌, List, [], ◌∷◌, length, map, Some, None, refl, ap, sym, subst, ◌∙◌, arith}
 use Rattle.std.specs.Arc.{arc_value}
 use Rattle.std.proofs.lemmas.List.Sums.{count_by-le-length}
 use Rattle.cell_units.specs.Text.{is_feed}
@@ -10,7 +10,7 @@ use Rattle.wrap_workers.specs.Jobs.{JobParts, IsLawful}
 use Rattle.display_map.specs.declared.event.Event.{Event}
 use Rattle.display_map.specs.declared.event.Event.TheVariants.{Sent}
 use Rattle.display_map.specs.declared.wrap.Wrap.{Wrap}
-use Rattle.display_map.specs.Kept.{IsNextRun, KeepsHistory, first_waiting_in, over_run, sent_wrap, text_elements}
+use Rattle.display_map.specs.Kept.{IsNextRun, KeepsHistory, first_waiting_in, text_elements}
 use Rattle.display_map.specs.Replay.{History, state_of, present_of, appended, next_run}
 use Rattle.display_map.specs.Sending.{IsSent}
 use Rattle.display_map.proofs.LawfulJobs.{lawful_job, lines_of, run_within}

@@ -1,7 +1,6 @@
-use Rattle.std.proofs.Common.{◌≡◌, length, ap, sym, ◌∙◌, arith, List}
+use Rattle.std.proofs.Common.{length, ap, sym, ◌∙◌, arith}
 use Rattle.std.specs.Arc.{arc_value}
 use Rattle.plain_rows.specs.Rows.{rows_of}
-use Rattle.display_map.specs.declared.wrap.Wrap.{Wrap}
 use Rattle.display_map.specs.Kept.{rows_in}
 use Rattle.display_map.specs.Replay.{History, present_of}
 use Rattle.display_map.proofs.WrappedRows.{rows_in_kept, rows_in-le}
