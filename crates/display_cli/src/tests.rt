@@ -163,6 +163,23 @@ fn a_text_one_byte_over_the_limit_is_refused(rt: HostRuntime) -> Result<(), Fail
 }
 
 #[test]
+fn a_text_of_just_the_limit_is_accepted(rt: HostRuntime) -> Result<(), Fail> {
+    let alloc = rt.alloc();
+    let line = "abcdefghijklmnopqrstuvwxyzabcdefghijklmnopqrstuvwxyzabcdefghijk";
+    let mut text = Vec::new(alloc);
+    for _ in 0..524_288u32 {
+        text.extend_from_slice(line.as_bytes())?;
+        text.push(b'\n')?;
+    }
+    assert_eq!(rt; text.len(), 33_554_432);
+    let outcome = run_of(alloc, text.as_slice(), "{\"rows\":[524287,9]}", &[], &[])?;
+    let written = format!(in alloc; "524287 t|{line}\n524288 t|\n")?;
+    assert_eq!(rt; outcome.out.taken(), written.as_bytes());
+    assert_eq!(rt; outcome.ended.status, 0);
+    Ok(())
+}
+
+#[test]
 fn one_word_has_no_reading(rt: HostRuntime) -> Result<(), Fail> {
     let alloc = rt.alloc();
     let mut inputs = MapInputs::new(Vec::new(alloc), Vec::new(alloc));
