@@ -13,3 +13,4 @@ pub mod Nearest
 pub mod Bounds
 pub mod RowFinds
 pub mod RowStarts
+pub mod PointLaws

@@ -18,11 +18,11 @@ use Rattle.text_rope.proofs.Chunks.{total_feeds}
 pub line_count_sum : (chunks : List (List ℕ)) (text : List ℕ) (sum : TextSize) → sum ≡ total_size chunks → concat chunks ≡ text → sum.feeds + 1 ≡ line_count text
 line_count_sum chunks text sum e f = ap (λ (n : ℕ). n + 1) (ap (λ (s : TextSize). s.feeds) e ∙ total_feeds chunks ∙ ap (λ (t : List ℕ). count_by is_feed t) f) ∙ sym (line_count-is text)
 
-rows_rise : (text : List ℕ) (a b : ℕ) → a ≤ b → row_of text a ≤ row_of text b
+pub rows_rise : (text : List ℕ) (a b : ℕ) → a ≤ b → row_of text a ≤ row_of text b
 rows_rise text a b le =
     omega (arith, sum_by-take-le (λ (c : ℕ). cond (is_feed c) 1 0) (take b text) a, ap (λ (t : List ℕ). count_by is_feed t) (take-take a b text le))
 
-row_within : (text : List ℕ) (o : ℕ) → o ≤ length text → row_of text o < line_count text
+pub row_within : (text : List ℕ) (o : ℕ) → o ≤ length text → row_of text o < line_count text
 row_within text o le = omega (arith, rows_rise text o (length text) le)
 
 -- before a row's start stands a line feed, where that isn't the text's start

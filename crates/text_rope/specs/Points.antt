@@ -1,7 +1,7 @@
 -- Offsets as rows and columns.
-use Rattle.std.specs.Prelude.{◌≡◌, ℕ, ◌+◌, ◌<◌, ◌≤◌, List, length}
+use Rattle.std.specs.Prelude.{◌≡◌, ℕ, ◌+◌, ◌-◌, ◌<◌, ◌≤◌, List, length}
 use Rattle.cell_units.specs.Record.{line_count}
-use Rattle.cell_units.specs.Text.{IsBoundary}
+use Rattle.cell_units.specs.Text.{IsBoundary, row_of, row_start}
 use Rattle.cell_units.specs.BufferLines.{line_end, line_start}
 use Rattle.cell_units.specs.declared.place.Bias.{Bias}
 use Rattle.cell_units.specs.declared.place.Bias.TheVariants.{Left, Right}
@@ -23,6 +23,10 @@ pub record IsFirstBoundary (text : List ℕ) (o r : ℕ) : Type 0 where
 abbrev pub IsNearBoundary : List ℕ → ℕ → Bias → ℕ → Type 0
 IsNearBoundary text o Left r = IsLastBoundary text o r
 IsNearBoundary text o Right r = IsFirstBoundary text o r
+
+-- the row of an offset, and how many bytes behind that row's start it is
+abbrev pub point_at : List ℕ → ℕ → Point
+point_at text o = record { row = row_of text o; column = o - row_start text o }
 
 -- r is the offset of the point
 pub record IsAtPoint (text : List ℕ) (p : Point) (bias : Bias) (r : ℕ) : Type 0 where

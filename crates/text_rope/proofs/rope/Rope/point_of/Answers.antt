@@ -13,5 +13,8 @@ start_is c =
 pub overflow_sub-result : goal.overflow_sub-result
 overflow_sub-result c = omega (arith, start_is (goal.at.overflow_sub-result c).After-start_of_row, starts_before c.args.self.now c.args.offset c.requires.0)
 
-pub returns-clause-column : goal.returns-clause-column
-returns-clause-column c = ap (λ (n : ℕ). c.args.offset - n) (start_is (goal.at.returns-clause-column c).After-start_of_row ∙ sym (row_start_is c.args.self.now c.args.offset c.requires.0))
+pub returns-clause-point : goal.returns-clause-point
+returns-clause-point c =
+    let row : c.row_at-row.result ≡ row_of c.args.self.now c.args.offset = c.row_at-row.ensures.row ∙ ap (λ (t : List ℕ). row_of t c.args.offset) c.self.view_is in
+    let start = start_is (goal.at.returns-clause-point c).After-start_of_row ∙ sym (row_start_is c.args.self.now c.args.offset c.requires.0) in
+    λ i. record { row = row i; column = c.args.offset - start i }
