@@ -1,38 +1,30 @@
 -- The rows of a text as the lines of the layer that it is.
-use Rattle.std.proofs.Common.{◌≡◌, ℕ, ◌+◌, ◌-◌, ◌<◌, ◌≤◌, ◌⊎◌, Bool, true, false, List, [], ◌∷◌, Some, length, take, drop, get_or, slice_range, refl, ap, sym, subst, ◌∙◌, inl, inr, arith}
+use Rattle.std.proofs.Common.{◌≡◌, ℕ, ◌+◌, ◌-◌, ◌<◌, ◌≤◌, true, false, List, [], ◌∷◌, Some, length, take, drop, get_or, slice_range, ap, ◌∙◌, arith}
 use Rattle.std.specs.Prelude.{slice_get}
-use Rattle.std.specs.List.{position_or_len}
-use Rattle.std.proofs.lemmas.Bool.{cases_lt, not-false}
 use Rattle.std.proofs.lemmas.List.{get_or-drop, length-drop, length-take-le}
-use Rattle.std.proofs.lemmas.List.Sums.{count_by_more_yes, position_or_len_is}
+use Rattle.std.proofs.lemmas.List.Sums.{position_or_len_is}
 use Rattle.cell_units.specs.Text.{is_feed, row_end, row_of}
 use Rattle.cell_units.specs.Record.{line_count}
 use Rattle.cell_units.specs.BufferLines.{line_end, line_start}
 use Rattle.cell_units.specs.declared.piece.Piece.{Piece}
 use Rattle.cell_units.specs.declared.piece.PieceKind.TheVariants.{Buffer}
 use Rattle.cell_units.specs.Layers.{plain_layout}
-use Rattle.cell_units.proofs.BufferLines.{feed_at_end, line_bounds, row_of_within}
-use Rattle.cell_units.proofs.PlainLayers.{line_of_offset, plain_line, plain_line_is}
+use Rattle.cell_units.proofs.BufferLines.{feed_at_end, line_bounds, row_of_end}
+use Rattle.cell_units.proofs.PlainLayers.{line_of_offset, plain_line_is}
 use Rattle.cell_units.proofs.ReplacedRows.{row_of-lt}
 use Rattle.cell_units.proofs.Unfolded.{line_pieces}
+use Rattle.text_rope.proofs.RowStarts.{feedless}
 
 pub true_false : true ≡ false → ⊥
 true_false e = grind (arith, e)
 
 -- ---- where a row ends
 
-bool_cases : (b : Bool) → (b ≡ true) ⊎ (b ≡ false)
-bool_cases true = inl refl
-bool_cases false = inr refl
-
 -- before a row's end there is no feed
 no_feed : (text : List ℕ) (line o : ℕ) → line < line_count text → line_start text line ≤ o → o < line_end text line → is_feed (get_or text o 0) ≡ false
-no_feed text line o lt from to = elim (bool_cases (is_feed (get_or text o 0))) [
-  | inr none ↦ none
-  | inl feed ↦
-      let more : row_of text (o + 1) ≡ row_of text o + 1 = count_by_more_yes is_feed text o 0 (omega (arith, to, (line_bounds text line lt).1)) feed in
-      absurd (omega (arith, more, row_of_within text line o lt from (omega (arith, to)), row_of_within text line (o + 1) lt (omega (arith, from)) (omega (arith, to))))
-]
+no_feed text line o lt from to =
+    let row : row_of text (line_end text line) ≡ line = row_of_end text line lt in
+    feedless text (line_end text line) o (line_bounds text line lt).1 (omega (arith, from, ap (line_start text) row)) to
 
 pub row_end_is : (text : List ℕ) (o : ℕ) → o ≤ length text → row_end text o ≡ line_end text (row_of text o)
 row_end_is text o le =

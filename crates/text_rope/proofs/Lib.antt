@@ -14,3 +14,4 @@ pub mod Bounds
 pub mod RowFinds
 pub mod RowStarts
 pub mod Layers
+pub mod PointLaws

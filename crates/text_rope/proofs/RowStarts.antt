@@ -1,29 +1,23 @@
 -- Rows and where they start, by the offsets in them.
-use Rattle.std.proofs.Common.{◌≡◌, ℕ, zero, suc, ◌+◌, ◌-◌, ◌<◌, ◌≤◌, Bool, true, false, not, cond, List, length, count_by, take, get_or, refl, ap, sym, ◌∙◌, inl, inr, arith}
+use Rattle.std.proofs.Common.{◌≡◌, ℕ, zero, suc, ◌+◌, ◌-◌, ◌<◌, ◌≤◌, Bool, true, false, not, List, length, count_by, take, get_or, refl, ap, sym, ◌∙◌, arith}
 use Rattle.std.specs.List.{concat, suffix_len}
 use Rattle.std.specs.Str.{IsCharBoundary, IsUtf8}
-use Rattle.std.proofs.lemmas.Bool.{cases_lt}
-use Rattle.std.proofs.lemmas.List.{get_or-take, length-take-le, take-take}
-use Rattle.std.proofs.lemmas.List.Sums.{count_by_more_yes, suffix_len_is, sum_by-take-le}
+use Rattle.std.proofs.lemmas.List.{get_or-take, length-take-le}
+use Rattle.std.proofs.lemmas.List.Sums.{count_by_more_yes, suffix_len_is}
 use Rattle.std.proofs.lemmas.Str.{IsUtf8-take}
 use Rattle.cell_units.specs.Record.{line_count}
 use Rattle.cell_units.specs.Text.{IsBoundary, is_feed, row_of, row_start}
 use Rattle.cell_units.specs.BufferLines.{line_end, line_start}
-use Rattle.cell_units.proofs.BufferLines.{boundary_at_end, boundary_at_start, feed_at_end, line_count-is, line_end_next, row_of_end, row_of_start}
+use Rattle.cell_units.proofs.BufferLines.{boundary_at_end, boundary_at_start, feed_at_end, line_count-is, line_end_next, row_of_start}
 use Rattle.text_rope.specs.Sizes.{total_size}
 use Rattle.text_rope.specs.declared.chunk.TextSize.{TextSize}
+use Rattle.cell_units.proofs.PlainLayers.{line_of_offset}
+use Rattle.cell_units.proofs.ReplacedRows.{row_of-le, row_of-lt}
 use Rattle.text_rope.proofs.Chunks.{total_feeds}
 
 -- the sum of a rope's chunks tells how many lines there are
 pub line_count_sum : (chunks : List (List ℕ)) (text : List ℕ) (sum : TextSize) → sum ≡ total_size chunks → concat chunks ≡ text → sum.feeds + 1 ≡ line_count text
 line_count_sum chunks text sum e f = ap (λ (n : ℕ). n + 1) (ap (λ (s : TextSize). s.feeds) e ∙ total_feeds chunks ∙ ap (λ (t : List ℕ). count_by is_feed t) f) ∙ sym (line_count-is text)
-
-rows_rise : (text : List ℕ) (a b : ℕ) → a ≤ b → row_of text a ≤ row_of text b
-rows_rise text a b le =
-    omega (arith, sum_by-take-le (λ (c : ℕ). cond (is_feed c) 1 0) (take b text) a, ap (λ (t : List ℕ). count_by is_feed t) (take-take a b text le))
-
-row_within : (text : List ℕ) (o : ℕ) → o ≤ length text → row_of text o < line_count text
-row_within text o le = omega (arith, rows_rise text o (length text) le)
 
 -- before a row's start stands a line feed, where that isn't the text's start
 feed_before : (text : List ℕ) (row : ℕ) → row < line_count text → 0 < line_start text row → line_start text row ≤ length text → is_feed (get_or text (line_start text row - 1) 0) ≡ true
@@ -34,40 +28,26 @@ feed_before text (suc row) lt some within =
     let next : line_end text row + 1 ≡ line_start text (suc row) = line_end_next text row (omega (arith, lt)) ∙ ap (line_start text) one in
     ap (λ (k : ℕ). is_feed (get_or text k 0)) (omega (arith, next)) ∙ ap is_feed (feed_at_end text row before (omega (arith, next, within)))
 
--- a row starts no later than any offset in it
-pub starts_before : (text : List ℕ) (o : ℕ) → o ≤ length text → line_start text (row_of text o) ≤ o
-starts_before text o le = go (row_of text o) refl where
-  go : (row : ℕ) → row_of text o ≡ row → line_start text row ≤ o
-  go zero e = omega arith
-  go (suc row) e =
-      let one : row + 1 ≡ suc row = omega arith in
-      let lt : row + 1 < line_count text = omega (arith, row_within text o le, e) in
-      let next : line_end text row + 1 ≡ line_start text (suc row) = line_end_next text row lt ∙ ap (line_start text) one in
-      elim (cases_lt o (line_start text (suc row))) [
-        | inl before ↦ absurd (omega (arith, rows_rise text o (line_end text row) (omega (arith, next, before)), row_of_end text row (omega (arith, lt)), e))
-        | inr at ↦ at
-      ]
-
--- and no line feed stands between
-feedless : (text : List ℕ) (o k : ℕ) → o ≤ length text → line_start text (row_of text o) ≤ k → k < o → is_feed (get_or text k 0) ≡ false
+-- between a row's start and an offset in it no line feed stands
+pub feedless : (text : List ℕ) (o k : ℕ) → o ≤ length text → line_start text (row_of text o) ≤ k → k < o → is_feed (get_or text k 0) ≡ false
 feedless text o k le from before = go (is_feed (get_or text k 0)) refl where
   go : (b : Bool) → is_feed (get_or text k 0) ≡ b → b ≡ false
   go false e = refl
   go true e =
       let row = row_of text o in
-      let start = row_of_start text row (row_within text o le) in
-      absurd (omega (arith, count_by_more_yes is_feed text k 0 (omega (arith, before, le)) e, rows_rise text (line_start text row) k from, rows_rise text (k + 1) o (omega (arith, before)), start))
+      let start = row_of_start text row (row_of-lt text o) in
+      absurd (omega (arith, count_by_more_yes is_feed text k 0 (omega (arith, before, le)) e, row_of-le text (line_start text row) k from, row_of-le text (k + 1) o (omega (arith, before)), start))
 
 -- so the row of an offset starts where the line of its number does
 pub row_start_is : (text : List ℕ) (o : ℕ) → o ≤ length text → row_start text o ≡ line_start text (row_of text o)
 row_start_is text o le =
     let start = line_start text (row_of text o) in
-    let from : start ≤ o = starts_before text o le in
+    let from : start ≤ o = (line_of_offset text o le).0 in
     let long : length (take o text) ≡ o = length-take-le o text le in
     let behind : suffix_len (λ b. not (is_feed b)) (take o text) ≡ length (take o text) - start =
     suffix_len_is (λ (b : ℕ). not (is_feed b)) (take o text) start 0 (omega (arith, long, from))
     (λ k at lt. ap (λ (b : ℕ). not (is_feed b)) (get_or-take o text k 0 (omega (arith, lt, long))) ∙ ap not (feedless text o k le at (omega (arith, lt, long))))
-    (λ some. ap (λ (b : ℕ). not (is_feed b)) (get_or-take o text (start - 1) 0 (omega (arith, some, from))) ∙ ap not (feed_before text (row_of text o) (row_within text o le) some (omega (arith, from, le)))) in
+    (λ some. ap (λ (b : ℕ). not (is_feed b)) (get_or-take o text (start - 1) 0 (omega (arith, some, from))) ∙ ap not (feed_before text (row_of text o) (row_of-lt text o) some (omega (arith, from, le)))) in
     omega (arith, behind, long, from)
 
 -- ---- the line of a row

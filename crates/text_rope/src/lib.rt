@@ -10,12 +10,14 @@ mod cleaning;
 mod edit;
 mod fault;
 mod find;
+mod laws;
 mod layer;
 mod rope;
 mod rows;
 
 pub use chunk::{Chunk, TextSize};
 pub use fault::TextFault;
+pub use laws::point_laws;
 pub use rope::{LIMIT, Rope};
 pub use rows::RowSize;
 

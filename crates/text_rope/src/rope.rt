@@ -2,9 +2,10 @@
 ghost use Rattle.std.specs.Prelude.{◌≡◌, ℕ, ◌+◌, ◌-◌, ◌*◌, ◌/◌, ◌<◌, ◌≤◌, ◌↔◌, length, take, drop, slice_get, IfOk, IsTrue, OnErr};
 ghost use Rattle.std.specs.Result.{MatchResult};
 ghost use Rattle.cell_units.specs.BufferLines.{buffer_lines, line_end, line_start};
+ghost use Rattle.cell_units.specs.Layers.{point_of};
 ghost use Rattle.cell_units.specs.Operation.{replaced_text};
 ghost use Rattle.cell_units.specs.Record.{line_count};
-ghost use Rattle.cell_units.specs.Text.{IsBoundary, IsText, clean, row_of, row_start};
+ghost use Rattle.cell_units.specs.Text.{IsBoundary, IsText, clean};
 ghost use Rattle.text_rope.specs.Edits.{IsReplaceFault, IsReplaced};
 ghost use Rattle.text_rope.specs.Points.{IsAtPoint};
 ghost use Rattle.text_rope.specs.Ropes.{HasHeight, IsMadeOf, IsRefusal, limit};
@@ -149,8 +150,7 @@ impl Rope {
     /// The row of an offset, which is at most the text's length, and its column of bytes in that row.
     pub fn point_of(&self, offset: u32, steps: &mut Steps) -> Point
         requires { offset ≤ length self.now }
-        ensures row { result.row ≡ row_of self.now offset }
-        ensures column { result.column ≡ offset - row_start self.now offset }
+        ensures point { result ≡ point_of self.now offset }
         ensures steps { (h : ℕ) → HasHeight h self.now → steps.new ≤ steps.old + 256 * (h + 1) }
     {
         let row = row_at(&self.chunks, offset, steps);

@@ -1,7 +1,7 @@
-use Rattle.std.proofs.Common.{◌≡◌, ◌+◌, ◌-◌, ◌≤◌, [], List, ℕ, count_by, get_or, length, take, ap, sym, ◌∙◌, arith}
+use Rattle.std.proofs.Common.{◌≡◌, ◌+◌, ◌-◌, [], ℕ, get_or, length, take, ap, sym, ◌∙◌, arith}
 use Rattle.std.specs.List.{concat}
 use Rattle.std.proofs.lemmas.List.{length-take-le}
-use Rattle.cell_units.specs.Text.{is_feed, row_of}
+use Rattle.cell_units.specs.Text.{row_of}
 use Rattle.text_rope.proofs.Nearest.{row_here, row_small}
 use Rattle.text_rope.proofs.Places.{within_chunk}
 use Rattle.text_rope.proofs.find.row_at.Goals as goal

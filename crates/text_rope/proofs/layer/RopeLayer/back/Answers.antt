@@ -1,4 +1,4 @@
-use Rattle.std.proofs.Common.{◌≡◌, true, false, sym, ◌∙◌}
+use Rattle.std.proofs.Common.{sym, ◌∙◌}
 use Rattle.cell_units.proofs.PlainLayers.{plain_back, plain_back_none}
 use Rattle.text_rope.proofs.Layers.{true_false}
 use Rattle.text_rope.proofs.layer.RopeLayer.back.Goals as goal

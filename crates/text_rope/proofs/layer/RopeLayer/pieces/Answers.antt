@@ -1,5 +1,4 @@
-use Rattle.std.proofs.Common.{◌≡◌, ◌<◌, ◌∷◌, [], List, ℕ, Some, slice_range, ap, sym, ◌∙◌, arith}
-use Rattle.cell_units.specs.declared.piece.Piece.{Piece}
+use Rattle.std.proofs.Common.{◌≡◌, ◌<◌, ◌∷◌, [], Some, slice_range, ap, sym, ◌∙◌, arith}
 use Rattle.cell_units.specs.declared.piece.PieceKind.TheVariants.{Buffer}
 use Rattle.cell_units.specs.Record.{line_count}
 use Rattle.cell_units.specs.BufferLines.{line_end, line_start}

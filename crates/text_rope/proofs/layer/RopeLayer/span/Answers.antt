@@ -1,4 +1,4 @@
-use Rattle.std.proofs.Common.{◌<◌, arith}
+use Rattle.std.proofs.Common.{arith}
 use Rattle.cell_units.proofs.PlainLayers.{plain_line_count, plain_span}
 use Rattle.text_rope.proofs.layer.RopeLayer.span.Goals as goal
 

@@ -1,7 +1,8 @@
 use Rattle.std.proofs.Common.{◌≡◌, ◌-◌, List, ℕ, ap, sym, ◌∙◌, arith}
 use Rattle.cell_units.specs.Text.{row_of}
 use Rattle.cell_units.specs.BufferLines.{line_start}
-use Rattle.text_rope.proofs.RowStarts.{row_start_is, starts_before}
+use Rattle.cell_units.proofs.PlainLayers.{line_of_offset}
+use Rattle.text_rope.proofs.RowStarts.{row_start_is}
 use Rattle.text_rope.proofs.rope.Rope.point_of.Goals as goal
 use Rattle.text_rope.proofs.rope.Rope.point_of.Goals.{After-start_of_row}
 
@@ -11,7 +12,10 @@ start_is c =
     ∙ ap (λ (n : ℕ). line_start c.args.self.now n) (c.row_at-row.ensures.row ∙ ap (λ (t : List ℕ). row_of t c.args.offset) c.self.view_is)
 
 pub overflow_sub-result : goal.overflow_sub-result
-overflow_sub-result c = omega (arith, start_is (goal.at.overflow_sub-result c).After-start_of_row, starts_before c.args.self.now c.args.offset c.requires)
+overflow_sub-result c = omega (arith, start_is (goal.at.overflow_sub-result c).After-start_of_row, (line_of_offset c.args.self.now c.args.offset c.requires).0)
 
-pub returns-clause-column : goal.returns-clause-column
-returns-clause-column c = ap (λ (n : ℕ). c.args.offset - n) (start_is (goal.at.returns-clause-column c).After-start_of_row ∙ sym (row_start_is c.args.self.now c.args.offset c.requires))
+pub returns-clause-point : goal.returns-clause-point
+returns-clause-point c =
+    let row : c.row_at-row.result ≡ row_of c.args.self.now c.args.offset = c.row_at-row.ensures.row ∙ ap (λ (t : List ℕ). row_of t c.args.offset) c.self.view_is in
+    let start = start_is (goal.at.returns-clause-point c).After-start_of_row ∙ sym (row_start_is c.args.self.now c.args.offset c.requires) in
+    λ i. record { row = row i; column = c.args.offset - start i }
