@@ -1,0 +1,9 @@
+pub mod Changing
+pub mod Coding
+pub mod Finding
+pub mod MarkViews
+pub mod Moved
+pub mod Order
+pub mod Seeking
+pub mod Sorting
+pub mod Splicing

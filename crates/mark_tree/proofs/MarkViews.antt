@@ -1,0 +1,159 @@
+-- Lists of marks, as views of things of no length.
+use Rattle.std.proofs.Common.{◌≡◌, ℕ, zero, suc, ◌+◌, ◌<◌, ◌≤◌, ◌^◌, ◌==◌, ◌&&◌, ◌||◌, nat_lt, nat_le, not, Bool, true, false, cond, List, [], ◌∷◌, length, map, filter, count_by, get_or, take, drop, Some, None, position, refl, sym, ap, subst, ◌∙◌, arith}
+use Rattle.std.specs.List.{All, Contains, list_any, slice_get}
+use Rattle.std.proofs.lemmas.List.Elements.{All-nil, All-cons, All-head, All-tail}
+use Rattle.std.proofs.lemmas.Bool.Decides.{nat_tests}
+use Rattle.cell_units.specs.declared.place.Shift.{Shift}
+use Rattle.cell_units.specs.Record.{in_order, bias_rank}
+use Rattle.cell_units.specs.Sorting.{insert_by, sort_by}
+use Rattle.mark_tree.specs.declared.entry.Placed.{Placed}
+use Rattle.mark_tree.specs.declared.mark.Mark.{Mark}
+use Rattle.mark_tree.specs.Entries.{end_at, IsCodable}
+use Rattle.mark_tree.specs.Marks.{mark_le, has_id, lacks_id, move_mark, moved_marks, IsMarkList}
+use Rattle.mark_tree.specs.Order.{placed_le, has_placed_id, lacks_placed_id, move_placed, moved_placed, IsOrdered}
+use Rattle.mark_tree.specs.Views.{mark_of, AreMarks}
+use Rattle.mark_tree.proofs.Sorting.{Every, count-cons, every-insert, every-sort}
+use Rattle.mark_tree.proofs.Changing.{every-from_all, all-from_every}
+use Rattle.mark_tree.proofs.Finding.{position-found, position-none}
+use Rattle.mark_tree.proofs.Moved.{length-map}
+
+level : (a b : ℕ) (r : Bool) → a ≡ 0 → b ≡ 0 → in_order a b r ≡ r
+level a b r p q = go (nat_lt a b) (a == b) r (grind (arith, nat_tests)) (grind (arith, nat_tests)) where
+  go : (c d e : Bool) → c ≡ false → d ≡ true → (c || (d && e)) ≡ e
+  go true d e x y = absurd (cc)
+  go false true true x y = refl
+  go false true false x y = refl
+  go false false e x y = absurd (cc)
+
+some-same : {X : Type 0} (x y : X) → Some x ≡ Some y → x ≡ y
+some-same x y e = cc
+
+module _ {P : Type 0} where
+  abbrev pub IsFlat : Placed P → Type 0
+  IsFlat p = p.length ≡ 0
+
+  le-of : (p q : Placed P) → IsFlat p → IsFlat q → placed_le p q ≡ mark_le (mark_of p) (mark_of q)
+  le-of p q a b = ap (λ r. in_order p.offset q.offset (in_order (bias_rank p.bias) (bias_rank q.bias) r)) (level p.length q.length (nat_le p.id q.id) a b)
+
+  pub insert-of : (p : Placed P) (ps : List (Placed P)) → IsFlat p → Every IsFlat ps → map mark_of (insert_by placed_le p ps) ≡ insert_by mark_le (mark_of p) (map mark_of ps)
+  insert-of p [] a b = refl
+  insert-of p (q ∷ qs) a b = (λ i. map mark_of (cond (le-of p q a b.0 i) (p ∷ q ∷ qs) (q ∷ insert_by placed_le p qs))) ∙ go (mark_le (mark_of p) (mark_of q)) (insert-of p qs a b.1) where
+    go : (c : Bool) → map mark_of (insert_by placed_le p qs) ≡ insert_by mark_le (mark_of p) (map mark_of qs)
+        → map mark_of (cond c (p ∷ q ∷ qs) (q ∷ insert_by placed_le p qs)) ≡ cond c (mark_of p ∷ mark_of q ∷ map mark_of qs) (mark_of q ∷ insert_by mark_le (mark_of p) (map mark_of qs))
+    go true r = refl
+    go false r = ap (λ l. mark_of q ∷ l) r
+
+  pub sort-of : (ps : List (Placed P)) → Every IsFlat ps → map mark_of (sort_by placed_le ps) ≡ sort_by mark_le (map mark_of ps)
+  sort-of [] a = refl
+  sort-of (p ∷ ps) a =
+      insert-of p (sort_by placed_le ps) a.0 (every-sort placed_le IsFlat ps a.1) ∙ ap (insert_by mark_le (mark_of p)) (sort-of ps a.1)
+
+  flat-moved : (s : Shift) (ps : List (Placed P)) → Every IsFlat ps → Every IsFlat (map (move_placed s) ps)
+  flat-moved s [] a = tt
+  flat-moved s (p ∷ ps) a = (a.0, flat-moved s ps a.1)
+
+  map-of : (s : Shift) (ps : List (Placed P)) → map mark_of (map (move_placed s) ps) ≡ map (move_mark s) (map mark_of ps)
+  map-of s [] = refl
+  map-of s (p ∷ ps) = ap (λ l. mark_of (move_placed s p) ∷ l) (map-of s ps)
+
+  pub moved-of : (s : Shift) (ps : List (Placed P)) → All IsFlat ps → map mark_of (moved_placed s ps) ≡ moved_marks s (map mark_of ps)
+  moved-of s ps a = sort-of (map (move_placed s) ps) (flat-moved s ps (every-from_all IsFlat ps a)) ∙ ap (sort_by mark_le) (map-of s ps)
+
+  pub any-of : (id : ℕ) (ps : List (Placed P)) → list_any (has_placed_id id) ps ≡ list_any (has_id id) (map mark_of ps)
+  any-of id [] = refl
+  any-of id (p ∷ ps) = ap (λ b. (p.id == id) || b) (any-of id ps)
+
+  pub filter-of : (id : ℕ) (ps : List (Placed P)) → map mark_of (filter (lacks_placed_id id) ps) ≡ filter (lacks_id id) (map mark_of ps)
+  filter-of id [] = refl
+  filter-of id (p ∷ ps) = go (not (p.id == id)) (filter-of id ps) where
+    go : (b : Bool) → map mark_of (filter (lacks_placed_id id) ps) ≡ filter (lacks_id id) (map mark_of ps)
+        → map mark_of (cond b (p ∷ filter (lacks_placed_id id) ps) (filter (lacks_placed_id id) ps)) ≡ cond b (mark_of p ∷ filter (lacks_id id) (map mark_of ps)) (filter (lacks_id id) (map mark_of ps))
+    go true r = ap (λ l. mark_of p ∷ l) r
+    go false r = r
+
+  pub count-of : (q : Placed P → Bool) (q' : Mark P → Bool) → ((p : Placed P) → q p ≡ q' (mark_of p)) → (ps : List (Placed P)) → count_by q ps ≡ count_by q' (map mark_of ps)
+  count-of q q' same [] = refl
+  count-of q q' same (p ∷ ps) = count-cons q p ps ∙ (λ i. cond (same p i) 1 0 + count-of q q' same ps i) ∙ sym (count-cons q' (mark_of p) (map mark_of ps))
+
+  pub contains-of : (p : Placed P) (ps : List (Placed P)) → Contains ps p → Contains (map mark_of ps) (mark_of p)
+  contains-of p ps c = (c.0, omega (arith, c.1, length-map mark_of ps), go ps c.0 c.1 ∙ ap mark_of c.2) where
+    go : (qs : List (Placed P)) (k : ℕ) → k < length qs → get_or (map mark_of qs) k (mark_of p) ≡ mark_of (get_or qs k p)
+    go [] k lt = refl
+    go (q ∷ qs) zero lt = refl
+    go (q ∷ qs) (suc k) lt = go qs k (omega arith)
+
+  pub get_or-of : (ps : List (Placed P)) (k : ℕ) (d : Mark P) → k < length ps → (e : Placed P) → get_or (map mark_of ps) k d ≡ mark_of (get_or ps k e)
+  get_or-of [] k d lt e = absurd (omega arith)
+  get_or-of (p ∷ ps) zero d lt e = refl
+  get_or-of (p ∷ ps) (suc k) d lt e = get_or-of ps k d (omega arith) e
+
+  -- what fits as marks fits as things of no length
+  pub fits-of : (s : Shift) (ps : List (Placed P)) → All IsFlat ps → All (λ m. m.offset < 2 ^ 32) (map (move_mark s) (map mark_of ps)) → All (λ p. end_at p < 2 ^ 32) (map (move_placed s) ps)
+  fits-of s [] a f = All-nil (λ p. end_at p < 2 ^ 32)
+  fits-of s (p ∷ ps) a f =
+      let first = All-head (λ m. m.offset < 2 ^ 32) (move_mark s (mark_of p)) (map (move_mark s) (map mark_of ps)) f in
+      let flat = All-head IsFlat p ps a in
+      All-cons (λ q. end_at q < 2 ^ 32) (move_placed s p) (map (move_placed s) ps) (omega (arith, first, flat)) (fits-of s ps (All-tail IsFlat p ps a) (All-tail (λ m. m.offset < 2 ^ 32) (move_mark s (mark_of p)) (map (move_mark s) (map mark_of ps)) f))
+
+  offsets-of : (ps : List (Placed P)) → All (λ p. end_at p < 2 ^ 32) ps → All (λ m. m.offset < 2 ^ 32) (map mark_of ps)
+  offsets-of [] e = All-nil (λ m. m.offset < 2 ^ 32)
+  offsets-of (p ∷ ps) e =
+      let first = All-head (λ q. end_at q < 2 ^ 32) p ps e in
+      All-cons (λ m. m.offset < 2 ^ 32) (mark_of p) (map mark_of ps) (omega arith) (offsets-of ps (All-tail (λ q. end_at q < 2 ^ 32) p ps e))
+
+  -- what a tree of marks is seen as
+  pub lawful-of : (ps : List (Placed P)) → AreMarks ps → IsCodable ps → IsMarkList (map mark_of ps)
+  lawful-of ps m c = record {
+    sorted = sym (sort-of ps (every-from_all IsFlat ps m.flat)) ∙ ap (map mark_of) m.ordered.sorted;
+    distinct = λ id. subst (λ n. n ≤ 1) (count-of (has_placed_id id) (has_id id) (λ p. refl) ps) (m.ordered.distinct id);
+    offsets = offsets-of ps c.ends;
+    small = omega (arith, length-map mark_of ps, c.small);
+  }
+
+  pub marks-added : (p : Placed P) (ps : List (Placed P)) → IsFlat p → All IsFlat ps → IsOrdered (insert_by placed_le p ps) → AreMarks (insert_by placed_le p ps)
+  marks-added p ps a b o = record { flat = all-from_every IsFlat (insert_by placed_le p ps) (every-insert placed_le IsFlat p ps a (every-from_all IsFlat ps b)); ordered = o }
+
+  pub flat-added : (p : Placed P) (ps : List (Placed P)) → IsFlat p → All IsFlat ps → All IsFlat (insert_by placed_le p ps)
+  flat-added p ps a b = all-from_every IsFlat (insert_by placed_le p ps) (every-insert placed_le IsFlat p ps a (every-from_all IsFlat ps b))
+
+  pub flat-moved_all : (s : Shift) (ps : List (Placed P)) → All IsFlat ps → All IsFlat (moved_placed s ps)
+  flat-moved_all s ps a = all-from_every IsFlat (moved_placed s ps) (every-sort placed_le IsFlat (map (move_placed s) ps) (flat-moved s ps (every-from_all IsFlat ps a)))
+
+  pub slice_get-of : (ps : List (Placed P)) (k : ℕ) (p : Placed P) → slice_get ps k ≡ Some p → slice_get (map mark_of ps) k ≡ Some (mark_of p)
+  slice_get-of [] k p e = absurd (cc)
+  slice_get-of (q ∷ qs) zero p e = ap (λ r. Some (mark_of r)) (some-same q p e)
+  slice_get-of (q ∷ qs) (suc k) p e = slice_get-of qs k p e
+
+  -- the first mark at or after an offset
+  pub first-of : (offset : ℕ) (ps : List (Placed P)) (at : ℕ) → at < length ps → All (λ p. p.offset < offset) (take at ps) → All (λ p. offset ≤ p.offset) (drop at ps)
+      → Some at ≡ position (λ (m : Mark P). nat_le offset m.offset) (map mark_of ps)
+  first-of offset ps at lt before from =
+      position-found (λ (m : Mark P). nat_le offset m.offset) (map mark_of ps) at (omega (arith, length-map mark_of ps))
+      (λ k d a. below ps at k before a (omega arith) d) (λ d. here ps at lt from d) where
+        not_le : (m n : ℕ) → n < m → nat_le m n ≡ false
+        not_le m n a = grind (arith, nat_tests)
+
+        is_le : (m n : ℕ) → m ≤ n → nat_le m n ≡ true
+        is_le m n a = grind (arith, nat_tests)
+
+        below : (qs : List (Placed P)) (n k : ℕ) → All (λ p. p.offset < offset) (take n qs) → k < n → k < length qs → (d : Mark P) → nat_le offset (get_or (map mark_of qs) k d).offset ≡ false
+        below [] n k a l b d = absurd (omega arith)
+        below (q ∷ qs) zero k a l b d = absurd (omega arith)
+        below (q ∷ qs) (suc n) zero a l b d = not_le offset q.offset (All-head (λ p. p.offset < offset) q (take n qs) a)
+        below (q ∷ qs) (suc n) (suc k) a l b d = below qs n k (All-tail (λ p. p.offset < offset) q (take n qs) a) (omega arith) (omega arith) d
+
+        here : (qs : List (Placed P)) (n : ℕ) → n < length qs → All (λ p. offset ≤ p.offset) (drop n qs) → (d : Mark P) → nat_le offset (get_or (map mark_of qs) n d).offset ≡ true
+        here [] n l a d = absurd (omega arith)
+        here (q ∷ qs) zero l a d = is_le offset q.offset (All-head (λ p. offset ≤ p.offset) q qs a)
+        here (q ∷ qs) (suc n) l a d = here qs n (omega arith) a d
+
+  pub none-of : (offset : ℕ) (ps : List (Placed P)) (at : ℕ) → length ps ≤ at → All (λ p. p.offset < offset) (take at ps) → None ≡ position (λ (m : Mark P). nat_le offset m.offset) (map mark_of ps)
+  none-of offset ps at le before = position-none (λ (m : Mark P). nat_le offset m.offset) (map mark_of ps) (λ k d a. below ps at k before le (omega (arith, length-map mark_of ps)) d) where
+    not_le : (m n : ℕ) → n < m → nat_le m n ≡ false
+    not_le m n a = grind (arith, nat_tests)
+
+    below : (qs : List (Placed P)) (n k : ℕ) → All (λ p. p.offset < offset) (take n qs) → length qs ≤ n → k < length qs → (d : Mark P) → nat_le offset (get_or (map mark_of qs) k d).offset ≡ false
+    below [] n k a l b d = absurd (omega arith)
+    below (q ∷ qs) zero k a l b d = absurd (omega arith)
+    below (q ∷ qs) (suc n) zero a l b d = not_le offset q.offset (All-head (λ p. p.offset < offset) q (take n qs) a)
+    below (q ∷ qs) (suc n) (suc k) a l b d = below qs n k (All-tail (λ p. p.offset < offset) q (take n qs) a) (omega arith) (omega arith) d

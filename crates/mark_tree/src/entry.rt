@@ -1,0 +1,52 @@
+//! What a tree keeps, and what it stands for at its offset.
+use crate::extent::Extent;
+use crate::load::Load;
+use cell_units::{Bias, NoMemory};
+use std::alloc::Global;
+use sum_core::Item;
+
+/// An entry of a list that is coded by gaps: it stands `gap` bytes behind the entry before it, the first one behind 0.
+#[derive(Drop)]
+pub(crate) struct Entry<P> {
+    pub(crate) gap: u32,
+    pub(crate) bias: Bias,
+    pub(crate) length: u32,
+    pub(crate) id: u32,
+    pub(crate) load: P,
+}
+
+impl<P: Load> Item for Entry<P> {
+    ghost use Rattle.mark_tree.specs.Entries.{extent_of};
+
+    type Sum = Extent;
+
+    ghost summary = { extent_of };
+
+    fn sum(&self) -> Extent {
+        Extent {
+            items: 1,
+            span: self.gap,
+            hang: self.length,
+        }
+    }
+
+    fn copy(&self, alloc: Global) -> Result<Entry<P>, NoMemory> {
+        Ok(Entry {
+            gap: self.gap,
+            bias: self.bias,
+            length: self.length,
+            id: self.id,
+            load: self.load.copy(alloc)?,
+        })
+    }
+}
+
+/// What stands at an offset and reaches over `length` bytes: a mark over none, a range over all of its own.
+#[derive(Drop)]
+pub(crate) struct Placed<P> {
+    pub(crate) offset: u32,
+    pub(crate) bias: Bias,
+    pub(crate) length: u32,
+    pub(crate) id: u32,
+    pub(crate) load: P,
+}

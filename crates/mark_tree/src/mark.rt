@@ -1,0 +1,11 @@
+//! Marks.
+use cell_units::Bias;
+
+/// A mark at an offset of a text. At an insertion at its offset it stays (Left) or goes behind what is inserted (Right).
+#[derive(Debug, Drop)]
+pub struct Mark<P> {
+    pub offset: u32,
+    pub bias: Bias,
+    pub id: u32,
+    pub load: P,
+}

@@ -1,0 +1,81 @@
+//! How a replacement moves things of no length.
+ghost use Rattle.std.specs.Prelude.{◌≡◌, ℕ, ◌+◌, ◌*◌, ◌^◌, ◌<◌, ◌≤◌, length, map, count_by, All, IfOk, OnOk, OnErr};
+ghost use Rattle.cell_units.specs.Anchor.{move};
+ghost use Rattle.mark_tree.specs.Entries.{end_at};
+ghost use Rattle.mark_tree.specs.Order.{IsOrdered, meets_offset, move_placed, moved_placed};
+
+use crate::entry::Placed;
+use crate::key::sort_placed;
+use crate::load::Load;
+use crate::spaced::Spaced;
+use cell_units::{Bias, NoMemory, Shift, Steps};
+use std::alloc::Global;
+
+/// Where an anchor goes.
+pub(crate) fn moved_offset(offset: u32, bias: Bias, shift: &Shift) -> u32
+    requires order { shift.now.start ≤ shift.now.end }
+    requires fits { move offset bias shift.now.start shift.now.end shift.now.count < 2 ^ 32 }
+    ensures { result ≡ move offset bias shift.now.start shift.now.end shift.now.count }
+{
+    if offset < shift.start {
+        return offset;
+    }
+    if offset == shift.start && bias == Bias::Left {
+        return offset;
+    }
+    if offset <= shift.end {
+        shift.start + shift.count
+    } else {
+        offset - (shift.end - shift.start) + shift.count
+    }
+}
+
+/// The things after the replacement, in the same order.
+fn moved_all<P: Load>(
+    alloc: Global,
+    things: Vec<Placed<P>>,
+    shift: &Shift,
+) -> Result<Vec<Placed<P>>, NoMemory>
+    requires order { shift.now.start ≤ shift.now.end }
+    requires fits { All (λ p. end_at p < 2 ^ 32) (map (move_placed shift.now) things.items) }
+    ensures { IfOk result (λ v. v.items ≡ map (move_placed shift.now) things.items) }
+{
+    let mut moved = Vec::with_capacity(alloc, things.len())?;
+    for thing in things {
+        moved.push(Placed {
+            offset: moved_offset(thing.offset, thing.bias, shift),
+            bias: thing.bias,
+            length: thing.length,
+            id: thing.id,
+            load: thing.load,
+        })?;
+    }
+    Ok(moved)
+}
+
+impl<P: Load> Spaced<P> {
+    /// Moves all things as the replacement does, and sorts them again.
+    pub(crate) fn move_marks(
+        &mut self,
+        alloc: Global,
+        shift: &Shift,
+        steps: &mut Steps,
+    ) -> Result<(), NoMemory>
+        requires order { shift.now.start ≤ shift.now.end }
+        requires ordered { IsOrdered self.old }
+        requires fits { All (λ p. end_at p < 2 ^ 32) (map (move_placed shift.now) self.old) }
+        ensures ok { OnOk result (self.new ≡ moved_placed shift.now self.old) }
+        ensures err { OnErr result (self.new ≡ self.old) }
+        ensures ordered { IsOrdered self.new }
+        ensures steps { (h : ℕ) → length self.old < 2 * 6 ^ (h + 1) → steps.new ≤ steps.old + 1200 * (h + 1) * (count_by (meets_offset shift.now) self.old + 1) }
+    {
+        // The number of things is a u32.
+        let _count = self.len();
+        let first = self.first_at(shift.start as u64, steps);
+        let last = self.first_at(shift.end as u64 + 1, steps);
+        let copies = self.copied(alloc, first, last, steps)?;
+        let mut moved = moved_all(alloc, copies, shift)?;
+        sort_placed(&mut moved)?;
+        self.splice(alloc, first, last, moved, shift, steps)
+    }
+}

@@ -1,0 +1,301 @@
+//! A list of things at offsets that don't fall, coded by the gaps between them.
+ghost use Rattle.std.specs.Prelude.{◌≡◌, ℕ, ◌+◌, ◌-◌, ◌*◌, ◌^◌, ◌<◌, ◌≤◌, [], length, map, take, drop, min, All, slice_get, slice_index_or, position, is_some, IfOk, OnOk, OnErr, MatchOption};
+ghost use Rattle.std.specs.List.{list_any};
+ghost use Rattle.mark_tree.specs.declared.entry.Placed.{Placed};
+ghost use Rattle.mark_tree.specs.Extents.{end_of};
+ghost use Rattle.mark_tree.specs.Entries.{IsCodable, IsRefill, IsSpaced, coded, end_at, extent_over, last_offset, placed_at, placed_from, shifted, spliced};
+ghost use Rattle.mark_tree.specs.Order.{has_placed_id};
+
+use crate::entry::{Entry, Placed};
+use crate::extent::{ByItems, ByOffset};
+use crate::load::Load;
+use cell_units::{Bias, NoMemory, Shift, Steps};
+use std::alloc::Global;
+use std::marker::Model;
+use sum_tree::{Cursor, SumTree};
+
+/// What stands at offsets that don't fall and fit u32, as do all ends. Contracts see it as the list of these things.
+#[derive(Drop)]
+pub(crate) struct Spaced<P: Load> {
+    entries: SumTree<Entry<P>>,
+}
+
+impl<P: Load> Model for Spaced<P> {
+    ghost use Rattle.std.specs.Prelude.{List, ◌<◌, ◌^◌};
+    ghost use Rattle.mark_tree.specs.declared.entry.Placed.{Placed};
+    ghost use Rattle.mark_tree.specs.Extents.{end_of};
+    ghost use Rattle.mark_tree.specs.Entries.{extent_over, placed_from};
+
+    ghost Value = { List (Placed P) };
+
+    ghost view = { λ s. placed_from 0 s.entries };
+
+    ghost invariant = { λ s. end_of (extent_over s.entries) < 2 ^ 32 };
+}
+
+/// An entry of the list and the offset at which it stands.
+#[derive(Drop)]
+pub(crate) struct Found<'a, P> {
+    pub(crate) offset: u32,
+    pub(crate) entry: &'a Entry<P>,
+}
+
+impl<P: Load> Spaced<P> {
+    pub(crate) fn new(alloc: Global) -> Spaced<P>
+        ensures { result ≡ [] }
+    {
+        Spaced {
+            entries: SumTree::new(alloc),
+        }
+    }
+
+    pub(crate) fn share(&self) -> Result<Spaced<P>, NoMemory>
+        ensures { IfOk result (λ s. s ≡ self.now) }
+    {
+        Ok(Spaced {
+            entries: self.entries.share()?,
+        })
+    }
+
+    pub(crate) fn len(&self) -> u32
+        ensures len { result ≡ length self.now }
+        ensures codable { IsCodable self.now }
+    {
+        self.entries.len()
+    }
+
+    /// A cursor on the entry at place `at`, or past the last.
+    fn cursor_at(&self, at: u32, steps: &mut Steps) -> Cursor<'_, Entry<P>, ByItems>
+        ensures items { placed_from 0 result.items ≡ self.now }
+        ensures place { result.place ≡ min at (length self.now) + 1 }
+        ensures fits { end_of (extent_over result.items) < 2 ^ 32 }
+        ensures steps { (h : ℕ) → length self.now < 2 * 6 ^ (h + 1) → steps.new ≤ steps.old + 64 * (h + 1) }
+    {
+        let mut cursor = self.entries.cursor::<ByItems>();
+        let target = ByItems {
+            items: at as u64,
+            span: 0,
+        };
+        cursor.seek(target, Bias::Right, steps);
+        cursor
+    }
+
+    /// What stands at place `at`, and `None` exactly past the end.
+    pub(crate) fn get(&self, at: u32, steps: &mut Steps) -> Option<Found<'_, P>>
+        ensures found { MatchOption result (length self.now ≤ at) (λ f. slice_get self.now at ≡ Some (placed_at f.offset f.entry.now)) }
+        ensures steps { (h : ℕ) → length self.now < 2 * 6 ^ (h + 1) → steps.new ≤ steps.old + 64 * (h + 1) }
+    {
+        let cursor = self.cursor_at(at, steps);
+        let entry = cursor.item()?;
+        Some(Found {
+            offset: cursor.start().span as u32 + entry.gap,
+            entry,
+        })
+    }
+
+    /// The offset of the last thing before place `at`, and 0 where there is none.
+    fn offset_before(&self, at: u32, steps: &mut Steps) -> u32
+        ensures offset { result ≡ last_offset 0 (take at self.now) }
+        ensures steps { (h : ℕ) → length self.now < 2 * 6 ^ (h + 1) → steps.new ≤ steps.old + 64 * (h + 1) }
+    {
+        self.cursor_at(at, steps).start().span as u32
+    }
+
+    /// The place of the first thing at or behind the offset, which may be that past the last.
+    pub(crate) fn first_at(&self, offset: u64, steps: &mut Steps) -> u32
+        ensures within { result ≤ length self.now }
+        ensures before { All (λ p. p.offset < offset) (take result self.now) }
+        ensures from { All (λ p. offset ≤ p.offset) (drop result self.now) }
+        ensures steps { (h : ℕ) → length self.now < 2 * 6 ^ (h + 1) → steps.new ≤ steps.old + 64 * (h + 1) }
+    {
+        // The number of entries is a u32, and so is each place.
+        let _count = self.entries.len();
+        let mut cursor = self.entries.cursor::<ByOffset>();
+        let target = ByOffset {
+            span: offset,
+            items: 0,
+        };
+        cursor.seek(target, Bias::Left, steps);
+        cursor.start().items as u32
+    }
+
+    /// The place of the first thing with this id, and `None` exactly where there is none.
+    pub(crate) fn find_id(&self, id: u32, steps: &mut Steps) -> Option<u32>
+        ensures found { result ≡ position (has_placed_id id) self.now }
+        ensures any { is_some result ≡ list_any (has_placed_id id) self.now }
+        ensures steps { (h : ℕ) → length self.now < 2 * 6 ^ (h + 1) → steps.new ≤ steps.old + 64 * (h + 1) * length self.now }
+    {
+        for at in 0..self.len() {
+            if self.id_at(at, steps) == id {
+                return Some(at);
+            }
+        }
+        None
+    }
+
+    fn id_at(&self, at: u32, steps: &mut Steps) -> u32
+        requires { at < length self.now }
+        ensures id { (d : Placed P) → result ≡ (slice_index_or self.now at d).id }
+        ensures steps { (h : ℕ) → length self.now < 2 * 6 ^ (h + 1) → steps.new ≤ steps.old + 64 * (h + 1) }
+    {
+        match self.get(at, steps) {
+            Some(found) => found.entry.id,
+            None => unreachable!(),
+        }
+    }
+
+    /// A copy of what stands at place `at`.
+    pub(crate) fn copy_at(
+        &self,
+        alloc: Global,
+        at: u32,
+        steps: &mut Steps,
+    ) -> Result<Placed<P>, NoMemory>
+        requires { at < length self.now }
+        ensures copy { IfOk result (λ p. slice_get self.now at ≡ Some p) }
+        ensures steps { (h : ℕ) → length self.now < 2 * 6 ^ (h + 1) → steps.new ≤ steps.old + 64 * (h + 1) }
+    {
+        match self.get(at, steps) {
+            Some(found) => found.copy(alloc),
+            None => unreachable!(),
+        }
+    }
+
+    /// Copies of those from place `from` to place `to`.
+    pub(crate) fn copied(
+        &self,
+        alloc: Global,
+        from: u32,
+        to: u32,
+        steps: &mut Steps,
+    ) -> Result<Vec<Placed<P>>, NoMemory>
+        requires order { from ≤ to }
+        requires within { to ≤ length self.now }
+        ensures copies { IfOk result (λ v. v.items ≡ take (to - from) (drop from self.now)) }
+        ensures steps { (h : ℕ) → length self.now < 2 * 6 ^ (h + 1) → steps.new ≤ steps.old + 64 * (h + 1) * (to - from) }
+    {
+        let mut copies = Vec::with_capacity(alloc, (to - from) as usize)?;
+        for at in from..to {
+            copies.push(self.copy_at(alloc, at, steps)?)?;
+        }
+        Ok(copies)
+    }
+
+    /// Puts others in the place of those from place `from` to place `to`, and moves all that lies behind them as the
+    /// replacement does.
+    pub(crate) fn splice(
+        &mut self,
+        alloc: Global,
+        from: u32,
+        to: u32,
+        fresh: Vec<Placed<P>>,
+        shift: &Shift,
+        steps: &mut Steps,
+    ) -> Result<(), NoMemory>
+        requires order { from ≤ to }
+        requires within { to ≤ length self.old }
+        requires replaced { shift.now.start ≤ shift.now.end }
+        requires behind { All (λ p. shift.now.end ≤ p.offset) (drop to self.old) }
+        requires codable { IsCodable (spliced from to fresh.items shift.now self.old) }
+        ensures ok { OnOk result (self.new ≡ spliced from to fresh.items shift.now self.old) }
+        ensures err { OnErr result (self.new ≡ self.old) }
+        ensures steps { (h : ℕ) → length self.old < 2 * 6 ^ (h + 1) → length (spliced from to fresh.items shift.now self.old) < 2 * 6 ^ (h + 1) → steps.new ≤ steps.old + 928 * (h + 1) + 4 * (length fresh.items + 2) }
+    {
+        let base = self.offset_before(from, steps);
+        let refill = self.refill(alloc, to, fresh, shift, steps)?;
+        let entries = code_gaps(alloc, base, refill.placed)?;
+        self.entries
+            .replace(alloc, from, refill.end, entries, steps)
+    }
+
+    /// What takes the place of all up to place `to`, with the first thing behind it, of which the gap changes.
+    fn refill(
+        &self,
+        alloc: Global,
+        to: u32,
+        fresh: Vec<Placed<P>>,
+        shift: &Shift,
+        steps: &mut Steps,
+    ) -> Result<Refill<P>, NoMemory>
+        requires within { to ≤ length self.now }
+        requires replaced { shift.now.start ≤ shift.now.end }
+        requires behind { All (λ p. shift.now.end ≤ p.offset) (drop to self.now) }
+        requires codable { All (λ p. end_at p < 2 ^ 32) (map (shifted shift.now) (drop to self.now)) }
+        ensures refill { IfOk result (λ r. IsRefill self.now to fresh.items shift.now r.placed.items r.end) }
+        ensures steps { (h : ℕ) → length self.now < 2 * 6 ^ (h + 1) → steps.new ≤ steps.old + 64 * (h + 1) }
+    {
+        // The number of things is a u32, and so is each place.
+        let _count = self.len();
+        let mut placed = fresh;
+        match self.get(to, steps) {
+            None => Ok(Refill { placed, end: to }),
+            Some(behind) => {
+                placed.push(behind.shifted(alloc, shift)?)?;
+                Ok(Refill {
+                    placed,
+                    end: to + 1,
+                })
+            }
+        }
+    }
+}
+
+/// What takes the place of things up to place `end`.
+#[derive(Drop)]
+struct Refill<P> {
+    placed: Vec<Placed<P>>,
+    end: u32,
+}
+
+impl<'a, P: Load> Found<'a, P> {
+    ghost use Rattle.mark_tree.specs.Entries.{placed_at, shifted};
+
+    /// A copy of what was found.
+    pub(crate) fn copy(&self, alloc: Global) -> Result<Placed<P>, NoMemory>
+        ensures { IfOk result (λ p. p ≡ placed_at self.now.offset self.now.entry.now) }
+    {
+        Ok(Placed {
+            offset: self.offset,
+            bias: self.entry.bias,
+            length: self.entry.length,
+            id: self.entry.id,
+            load: self.entry.load.copy(alloc)?,
+        })
+    }
+
+    /// A copy of what was found, behind a replacement that lies before it.
+    fn shifted(&self, alloc: Global, shift: &Shift) -> Result<Placed<P>, NoMemory>
+        requires order { shift.now.start ≤ shift.now.end }
+        requires behind { shift.now.end ≤ self.now.offset }
+        requires fits { self.now.offset + shift.now.count - (shift.now.end - shift.now.start) < 2 ^ 32 }
+        ensures { IfOk result (λ p. p ≡ shifted shift.now (placed_at self.now.offset self.now.entry.now)) }
+    {
+        let mut copy = self.copy(alloc)?;
+        copy.offset = self.offset - (shift.end - shift.start) + shift.count;
+        Ok(copy)
+    }
+}
+
+/// The entries that stand for these things, where the first one's gap is from the offset `base`.
+fn code_gaps<P: Load>(
+    alloc: Global,
+    base: u32,
+    placed: Vec<Placed<P>>,
+) -> Result<Vec<Entry<P>>, NoMemory>
+    requires { IsSpaced base placed.items }
+    ensures { IfOk result (λ v. v.items ≡ coded base placed.items) }
+{
+    let mut entries = Vec::with_capacity(alloc, placed.len())?;
+    let mut last = base;
+    for thing in placed {
+        entries.push(Entry {
+            gap: thing.offset - last,
+            bias: thing.bias,
+            length: thing.length,
+            id: thing.id,
+            load: thing.load,
+        })?;
+        last = thing.offset;
+    }
+    Ok(entries)
+}
