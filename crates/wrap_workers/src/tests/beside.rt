@@ -4,10 +4,11 @@ ghost use Rattle.wrap_workers.specs.Finishes.{job_of};
 ghost use Rattle.wrap_workers.specs.Crewed.{IsTakenOff};
 
 use super::{number_done, ten_lines};
-use crate::gate::FreeGate;
+use crate::gate::{FreeGate, Gate};
 use crate::job::Finished;
 use crate::owner::Crew;
 use crate::tests::alike::Alike;
+use crate::tests::counted::Counted;
 use crate::worker::Worker;
 use cell_units::NoMemory;
 use std::alloc::Global;
@@ -19,15 +20,16 @@ use std::thread::Threads;
 const TURNS: u32 = 100_000_000;
 
 /// Runs the workers to their end.
-fn run_team<R: Threads + Wait + Sync>(
+fn run_team<R: Threads + Wait + Sync, G: Gate + Sync>(
     rt: &R,
     alloc: Global,
+    gate: &G,
     team: Vec<Worker<Alike>>,
 ) -> Result<(), NoMemory> {
     thread::map_vec(
         rt,
         team,
-        &|worker: Worker<Alike>| worker.work(rt, alloc, &FreeGate),
+        &|worker: Worker<Alike>| worker.work(rt, alloc, gate),
     )?;
     Ok(())
 }
@@ -76,7 +78,7 @@ pub fn by_waiting<R: Threads + Wait + Sync>(
         move ||
             requires { crew.out ≡ [] }
         { wait_for_one(rt, crew) },
-        move || run_team(rt, alloc, team),
+        move || run_team(rt, alloc, &FreeGate, team),
     );
     ended?;
     Ok(number)
@@ -96,14 +98,19 @@ pub fn by_collecting<R: Threads + Wait + Sync>(
         move ||
             requires { crew.out ≡ [] }
         { collect_one(rt, crew) },
-        move || run_team(rt, alloc, team),
+        move || run_team(rt, alloc, &FreeGate, team),
     );
     ended?;
     Ok(number)
 }
 
 /// Takes a result, in whatever way there is one.
-fn take_one<R: Wait>(rt: &R, alloc: Global, crew: &mut Crew<Alike>) -> Finished<Alike>
+fn take_one<R: Wait>(
+    rt: &R,
+    alloc: Global,
+    gate: &Counted,
+    crew: &mut Crew<Alike>,
+) -> Finished<Alike>
     requires { 1 ≤ length crew.old.out }
     ensures taken { IsTakenOff (job_of result) crew.old.out crew.new.out }
     ensures workers { crew.new.workers ≡ crew.old.workers }
@@ -111,7 +118,7 @@ fn take_one<R: Wait>(rt: &R, alloc: Global, crew: &mut Crew<Alike>) -> Finished<
     if let Some(finished) = crew.collect(rt) {
         return finished;
     }
-    if let Some(finished) = crew.help(rt, alloc, &FreeGate) {
+    if let Some(finished) = crew.help(rt, alloc, gate) {
         return finished;
     }
     crew.wait_one(rt)
@@ -141,6 +148,7 @@ pub fn hand_out<R: Wait>(rt: &R, crew: &mut Crew<Alike>, number: u64) -> Option<
 fn take_at<R: Wait>(
     rt: &R,
     alloc: Global,
+    gate: &Counted,
     crew: &mut Crew<Alike>,
     counts: &mut Vec<u32>,
     least: u32,
@@ -151,7 +159,7 @@ fn take_at<R: Wait>(
     ensures { All (λ job. job.number < below) crew.new.out }
 {
     if crew.out() >= least {
-        note(counts, &take_one(rt, alloc, crew));
+        note(counts, &take_one(rt, alloc, gate, crew));
     }
 }
 
@@ -159,6 +167,7 @@ fn take_at<R: Wait>(
 fn count_results<R: Wait>(
     rt: &R,
     alloc: Global,
+    gate: &Counted,
     mut crew: Crew<Alike>,
     jobs: u64,
 ) -> Result<Vec<u32>, NoMemory>
@@ -172,21 +181,22 @@ fn count_results<R: Wait>(
         }
     }
     for number in 0..jobs {
-        take_at(rt, alloc, &mut crew, &mut counts, 8, number);
+        take_at(rt, alloc, gate, &mut crew, &mut counts, 8, number);
         let _full = hand_out(rt, &mut crew, number);
     }
     for _ in 0..8 {
-        take_at(rt, alloc, &mut crew, &mut counts, 1, jobs);
+        take_at(rt, alloc, gate, &mut crew, &mut counts, 1, jobs);
     }
     crew.stop(rt);
     memory?;
     Ok(counts)
 }
 
-/// How often the result of each job came, with the workers beside the owner.
+/// How often the result of each job came, with the workers beside the owner. Whoever does a job passes the gate.
 pub fn with_workers<R: Threads + Wait + Sync>(
     rt: &R,
     alloc: Global,
+    gate: &Counted,
     crew: Crew<Alike>,
     team: Vec<Worker<Alike>>,
     jobs: u64,
@@ -197,8 +207,8 @@ pub fn with_workers<R: Threads + Wait + Sync>(
         rt,
         move ||
             requires { crew.out ≡ [] }
-        { count_results(rt, alloc, crew, jobs) },
-        move || run_team(rt, alloc, team),
+        { count_results(rt, alloc, gate, crew, jobs) },
+        move || run_team(rt, alloc, gate, team),
     );
     ended?;
     counts

@@ -9,9 +9,11 @@ use alike::Alike;
 use beside::{by_collecting, by_waiting, each_once, hand_out, with_workers};
 use cell_line::{Run, line_laws};
 use cell_units::NoMemory;
+use counted::Counted;
 
 mod alike;
 mod beside;
+mod counted;
 
 /// A job of this number on ten lines `aaa bbb` at width 5.
 fn ten_lines(number: u64) -> Job<Alike>
@@ -57,10 +59,12 @@ fn crew_full(rt: HostRuntime) {
             assert_eq!(rt; hand_out(&rt, &mut crew, 2), None);
             assert_eq!(rt; crew.out(), 2);
             assert_eq!(rt; hand_out(&rt, &mut crew, 3), Some(3));
-            match crew.help(&rt, rt.alloc(), &FreeGate) {
+            let gate = Counted::new();
+            match crew.help(&rt, rt.alloc(), &gate) {
                 Some(finished) => assert_eq!(rt; number_done(&finished), Some(1)),
                 None => panic!(rt; "job 1 waits"),
             }
+            assert_eq!(rt; gate.passed(), 1);
             assert_eq!(rt; crew.out(), 1);
         }
         Err(NoMemory) => panic!(rt; "out of memory"),
@@ -86,11 +90,13 @@ fn worker_beside(rt: HostRuntime) {
 
 #[test]
 fn thousand_jobs_four_workers(rt: HostRuntime) {
+    let gate = Counted::new();
     match crew(rt.alloc(), 4) {
-        Ok((crew, team)) => match with_workers(&rt, rt.alloc(), crew, team, 1000) {
+        Ok((crew, team)) => match with_workers(&rt, rt.alloc(), &gate, crew, team, 1000) {
             Ok(counts) => assert!(rt; each_once(counts.as_slice())),
             Err(NoMemory) => panic!(rt; "out of memory"),
         },
         Err(NoMemory) => panic!(rt; "out of memory"),
     }
+    assert_eq!(rt; gate.passed(), 1000);
 }
