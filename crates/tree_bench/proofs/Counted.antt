@@ -1,5 +1,5 @@
 -- The sum of a list is how long it is.
-use Rattle.std.proofs.Common.{◌≡◌, ℕ, ◌+◌, ◌≤◌, ◌<◌, List, [], ◌∷◌, ◌++◌, length, take, drop, arith, refl, length-append}
+use Rattle.std.proofs.Common.{◌≡◌, ℕ, ◌+◌, ◌<◌, List, [], ◌∷◌, ◌++◌, length, take, drop, arith, refl, length-append}
 use Rattle.std.proofs.lemmas.List.{length-take, length-drop}
 use Rattle.sum_core.specs.Sums.{total}
 use Rattle.tree_bench.specs.Counting.{counted}

@@ -1,4 +1,4 @@
-use Rattle.std.proofs.Common.{◌≡◌, ◌<◌, arith, length}
+use Rattle.std.proofs.Common.{arith}
 use Rattle.tree_bench.proofs.Counted.{total-counted}
 use Rattle.tree_bench.proofs.work.build.Goals as goal
 

@@ -1,4 +1,4 @@
-use Rattle.std.proofs.Common.{◌≡◌, ◌<◌, ◌++◌, ◌∷◌, [], arith, length, length-append}
+use Rattle.std.proofs.Common.{◌++◌, ◌∷◌, [], arith, length-append}
 use Rattle.tree_bench.proofs.Counted.{total-counted}
 use Rattle.tree_bench.proofs.work.push_each.Goals as goal
 

@@ -1,4 +1,4 @@
-use Rattle.std.proofs.Common.{◌≡◌, ◌+◌, ◌<◌, ◌++◌, take, drop, ap, arith, length}
+use Rattle.std.proofs.Common.{◌+◌, ◌++◌, take, drop, ap, arith, length}
 use Rattle.tree_bench.proofs.Counted.{total-counted, length-replaced}
 use Rattle.tree_bench.proofs.work.replace_one.Goals as goal
 
