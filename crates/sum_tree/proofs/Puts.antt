@@ -1,12 +1,12 @@
 -- One item put in the place of at most one, below a node.
-use Rattle.std.proofs.Common.{◌≡◌, ℕ, zero, suc, ◌+◌, ◌-◌, ◌<◌, ◌≤◌, List, [], ◌∷◌, ◌++◌, map, length, take, drop, get_or, set, ap, ◌∙◌, subst, sym, refl, arith, length-append, append_assoc, Result, Ok, Err, IsErrAnd, MatchResult}
-use Rattle.std.proofs.lemmas.List.{length-set, length-map, map-set, take-set, drop-set, take-append-drop}
-use Rattle.sum_core.specs.Nodes.{IsLawful, IsLawfulLeaf, IsLawfulInner, IsChild, IsChildList, IsRoot, Contents, leaf, inner, contents, width, contents_items, child_value, items_in, items_under}
+use Rattle.std.proofs.Common.{◌≡◌, ℕ, zero, suc, ◌+◌, ◌-◌, ◌<◌, ◌≤◌, List, [], ◌∷◌, ◌++◌, map, length, take, drop, get_or, set, ap, ◌∙◌, subst, sym, arith, append_assoc, Result, Ok, Err, IsErrAnd, MatchResult}
+use Rattle.std.proofs.lemmas.List.{length-map, map-set, take-set, drop-set, take-append-drop}
+use Rattle.sum_core.specs.Nodes.{IsLawful, IsLawfulLeaf, IsLawfulInner, IsChild, IsChildList, IsRoot, leaf, inner, contents, width, contents_items, child_value, items_in, items_under}
 use Rattle.sum_core.specs.declared.node.Child.{Child}
 use Rattle.sum_core.specs.declared.node.Entries.{Entries}
 use Rattle.sum_core.proofs.Items.{items-contents}
 use Rattle.sum_core.proofs.Levels.{lawful_above, lawful_below, items-seen, items-leaf}
-use Rattle.sum_core.proofs.Children.{children-append, children-take, children-drop, children-one, items_under-append, items-split, items-taken, taken-small, cut-middle}
+use Rattle.sum_core.proofs.Children.{children-append, children-take, children-drop, children-one, items_under-append, items-split, items-taken, cut-middle}
 use Rattle.sum_tree.specs.Parts.{IsAfter, IsSumOf, put}
 
 -- an item put within the middle part of a list

@@ -182,6 +182,31 @@ fn replace_and_push_leave_a_shared_copy(rt: HostRuntime) -> Result<(), Fail> {
     Ok(())
 }
 
+/// 9 in the place of 3, 7 before it and 1 at the end make [5, 7, 9, 4, 1] of [5, 3, 4], which a shared copy still is.
+#[test]
+fn single_items_are_put_where_they_belong(rt: HostRuntime) -> Result<(), Fail> {
+    let alloc = rt.alloc();
+    let mut steps = Steps::new();
+    let items = Vec::from_array(alloc, [Weight(5), Weight(3), Weight(4)])?;
+    let mut tree = SumTree::from_vec(alloc, items, &mut steps)?;
+    let copy = tree.share()?;
+    let nine = Vec::from_array(alloc, [Weight(9)])?;
+    tree.replace(alloc, 1, 2, nine, &mut steps)?;
+    let seven = Vec::from_array(alloc, [Weight(7)])?;
+    tree.replace(alloc, 1, 1, seven, &mut steps)?;
+    tree.push(alloc, Weight(1), &mut steps)?;
+    assert_eq!(rt;
+        weights(&tree, alloc, &mut steps)?.as_slice(),
+        [5, 7, 9, 4, 1].as_slice()
+    );
+    assert_eq!(rt; tree.sum().total, 26);
+    assert_eq!(rt;
+        weights(&copy, alloc, &mut steps)?.as_slice(),
+        [5, 3, 4].as_slice()
+    );
+    Ok(())
+}
+
 /// `million-items`: a seek among 1,000,000 items makes at most 512 steps.
 fn seek_among_a_million(tree: &SumTree<Weight>, target: u64, steps: &mut Steps)
     requires { length tree.now ≡ 1000000 }

@@ -1,11 +1,11 @@
-use Rattle.std.proofs.Common.{◌≡◌, ◌+◌, ◌-◌, ◌<◌, ◌≤◌, ◌++◌, ◌∙◌, ap, sym, refl, subst, get_or, arith, map, take, drop, length, is_ok, MatchResult}
+use Rattle.std.proofs.Common.{◌≡◌, ◌+◌, ◌-◌, ◌<◌, ◌++◌, ◌∙◌, ap, sym, refl, subst, get_or, arith, map, take, drop, length, is_ok}
 use Rattle.std.proofs.lemmas.List.{length-map}
 use Rattle.sum_core.specs.Sums.{total}
-use Rattle.sum_core.specs.Nodes.{IsLawful, IsChildList, entries_of, contents, width, leaf, inner, child_value, items_in, items_of, items_under}
+use Rattle.sum_core.specs.Nodes.{IsLawful, IsChildList, entries_of, contents, width, inner, child_value, items_in, items_under}
 use Rattle.sum_core.proofs.Levels.{contents-Inner, contents-Leaf, items-seen, lawful_below, inner-high}
-use Rattle.sum_core.proofs.Children.{children-at, fits-left, fits-right, items-taken, taken-small}
-use Rattle.sum_tree.specs.Parts.{IsAfter, IsSumOf, put}
-use Rattle.sum_tree.proofs.Melds.{tree-below, small-left, small-right}
+use Rattle.sum_core.proofs.Children.{children-at, fits-left, fits-right}
+use Rattle.sum_tree.specs.Parts.{put}
+use Rattle.sum_tree.proofs.Melds.{small-left, small-right}
 use Rattle.sum_tree.proofs.Puts.{IsPlaced, below-child, items-put, items-kept, children-set, same-root, same-items, leaf-few, after-same, put-leaf, put-inner, put-lent, err-passed}
 use Rattle.sum_tree.proofs.in_place.+put.Goals as goal
 

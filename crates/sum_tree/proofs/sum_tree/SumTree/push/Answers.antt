@@ -1,4 +1,4 @@
-use Rattle.std.proofs.Common.{◌≡◌, ◌∷◌, [], refl, sym, subst}
+use Rattle.std.proofs.Common.{◌∷◌, [], refl, sym, subst}
 use Rattle.sum_core.specs.Sums.{total}
 use Rattle.sum_core.proofs.Children.{fits-right}
 use Rattle.sum_tree.proofs.sum_tree.SumTree.push.Goals as goal

@@ -1,4 +1,4 @@
-use Rattle.std.proofs.Common.{◌≡◌, ◌∷◌, [], ◌++◌, ◌∙◌, sym, subst, take, drop, refl, arith, ap, length}
+use Rattle.std.proofs.Common.{◌∷◌, [], ◌++◌, ◌∙◌, sym, subst, take, drop, refl, arith, ap}
 use Rattle.sum_core.specs.Sums.{total}
 use Rattle.sum_core.proofs.Children.{fits-left, fits-right}
 use Rattle.sum_tree.proofs.Puts.{only-item}

@@ -1,6 +1,6 @@
-use Rattle.std.proofs.Common.{◌≡◌, ◌≤◌, ◌++◌, ◌∙◌, sym, arith, take, drop, length, ap, refl}
+use Rattle.std.proofs.Common.{◌≡◌, ◌≤◌, ◌++◌, ◌∙◌, sym, arith, take, drop, length, ap}
 use Rattle.std.proofs.lemmas.List.{length-drop}
-use Rattle.sum_core.proofs.Children.{fits-left, fits-right}
+use Rattle.sum_core.proofs.Children.{fits-left}
 use Rattle.sum_tree.proofs.sum_tree.SumTree.splice.Goals as goal
 
 pub concat-requires-clause-fits : goal.concat-requires-clause-fits
