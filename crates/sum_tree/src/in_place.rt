@@ -66,6 +66,7 @@ fn put_in_node<T: Item>(
     }
 }
 
+/// The same in entries that were lent. A node's entries are taken out of it meanwhile, and put back.
 #[cycle(put)]
 fn put_in_entries<T: Item>(
     alloc: Global,
@@ -100,7 +101,7 @@ fn put_in_entries<T: Item>(
     }
 }
 
-/// The same below children, of which the place `to` finds one.
+/// The same below children: in the one that the place `to` lies in or at the end of.
 #[cycle(put)]
 fn put_in_children<T: Item>(
     alloc: Global,
@@ -138,6 +139,7 @@ fn put_in_children<T: Item>(
     Ok(sum_children(children, height - 1))
 }
 
+/// The same below one child, whose sum and number are written too.
 #[cycle(put)]
 fn put_in_child<T: Item>(
     alloc: Global,
@@ -165,7 +167,7 @@ fn put_in_child<T: Item>(
     Ok(())
 }
 
-/// The same in a leaf.
+/// The same among the items of a leaf, with their sum and number.
 fn put_in_leaf<T: Item>(
     items: &mut Vec<T>,
     from: usize,
@@ -185,6 +187,7 @@ fn put_in_leaf<T: Item>(
     Ok((sum_items(items), items.len()))
 }
 
+/// The item alone: in the place of another, or between two where the leaf has room.
 fn put_among<T: Item>(items: &mut Vec<T>, from: usize, to: usize, item: T) -> Result<(), T>
     requires room { length items.old.items ≤ 12 }
     requires order { from ≤ to }
