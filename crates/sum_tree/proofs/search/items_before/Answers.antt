@@ -14,7 +14,7 @@ loop-index-preserved g c =
     let p = g.Q.Probe.is_passed c.args.probe.now in
     record {
       none = goes_past p c.args.items.now c.loop-index.index c.index-items-index.result c.loop-index.invariant.none c.loop-index-test.true
-      (ap p (sym c.index-items-index.is) ∙ sym c.passes.ensures ∙ c.if-passes.false);
+          (ap p (sym c.index-items-index.is) ∙ sym c.passes.ensures ∙ c.if-passes.false);
     }
 
 pub returns : goal.returns
