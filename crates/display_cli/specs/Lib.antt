@@ -8,3 +8,4 @@ pub mod Going
 pub mod Opening
 pub mod Named
 pub mod Notes
+pub mod Calls

@@ -1,9 +1,11 @@
 //! Inputs: over names in memory, and over files.
-ghost use Rattle.std.specs.Prelude.{◌≡◌, ◌≤◌, None, length, take, drop, min, IfSome};
+ghost use Rattle.std.specs.Prelude.{◌≡◌, ◌<◌, ◌≤◌, ◌⊎◌, true, false, ℕ, List, None, length, take, drop, min, IfOk, OnOk, OnErr, IfSome, IsSome};
 ghost use Rattle.std.specs.Option.{option_copied};
+ghost use Rattle.display_cli.specs.Calls.{next_call, is_one_of};
 ghost use Rattle.display_cli.specs.Named.{bytes_named, bytes_or_none, faults_in};
 ghost use Rattle.display_cli.specs.Outside.{Faults, HasRisen, faults_of, no_faults, other};
 
+use crate::calls::Calls;
 use crate::outside::{Failed, Inputs, Part};
 use cell_units::Text;
 use std::fs;
@@ -73,8 +75,7 @@ fn copy_from(bytes: &[u8], at: u64, room: &mut [u8]) -> usize
 #[derive(Debug, Drop)]
 pub struct MapInputs {
     files: Vec<NamedBytes>,
-    failing: Vec<u64>,
-    calls: u64,
+    calls: Calls,
     faults: FaultCounts,
 }
 
@@ -82,14 +83,13 @@ impl MapInputs {
     /// Inputs of these files, whose calls of the numbers in `failing` fail.
     pub fn new(files: Vec<NamedBytes>, failing: Vec<u64>) -> MapInputs
         ensures files { result.files ≡ files }
-        ensures failing { result.failing ≡ failing }
-        ensures calls { result.calls ≡ 0 }
+        ensures failing { result.calls.failing ≡ failing }
+        ensures made { result.calls.made ≡ 0 }
         ensures faults { faults_in result.faults ≡ no_faults }
     {
         MapInputs {
             files,
-            failing,
-            calls: 0,
+            calls: Calls::new(failing),
             faults: FaultCounts::none(),
         }
     }
@@ -100,9 +100,24 @@ impl Inputs for MapInputs {
 
     ghost told = { λ s name. bytes_named s.files.items name };
 
-    fn read(&mut self, part: Part, name: &str, at: u64, room: &mut [u8]) -> Result<usize, Failed> {
-        self.calls = self.calls.saturating_add(1);
-        if self.failing.contains(&self.calls) {
+    /// Fails exactly where the call's number is one of those that fail, or where the name isn't there, and else reads as many
+    /// bytes as there are and fit.
+    fn read(&mut self, part: Part, name: &str, at: u64, room: &mut [u8]) -> Result<usize, Failed>
+        ensures within { IfOk result (λ n. n ≤ length room.old) }
+        ensures bytes { IfOk result (λ n. IfSome (bytes_named self.old.files.items name.now) (λ bytes. take n room.new ≡ take n (drop at bytes))) }
+        ensures all { IfOk result (λ n. IfSome (bytes_named self.old.files.items name.now) (λ bytes. n ≤ length (drop at bytes))) }
+        ensures some { IfOk result (λ n. IfSome (bytes_named self.old.files.items name.now) (λ bytes. at < length bytes → 0 < length room.old → 1 ≤ n)) }
+        ensures tells { (any : List ℕ) → bytes_named self.new.files.items any ≡ bytes_named self.old.files.items any }
+        ensures failed { OnErr result (HasRisen (faults_of (faults_in self.old.faults) part) (faults_of (faults_in self.new.faults) part)) }
+        ensures rises { faults_of (faults_in self.old.faults) part ≤ faults_of (faults_in self.new.faults) part }
+        ensures stays { faults_of (faults_in self.new.faults) (other part) ≡ faults_of (faults_in self.old.faults) (other part) }
+        ensures most { IfOk result (λ n. IfSome (bytes_named self.old.files.items name.now) (λ bytes. n ≡ min (length room.old) (length (drop at bytes)))) }
+        ensures there { OnOk result (IsSome (bytes_named self.old.files.items name.now)) }
+        ensures passes { OnOk result (is_one_of self.old.calls.failing.items self.new.calls.made ≡ false) }
+        ensures fails { OnErr result ((is_one_of self.old.calls.failing.items self.new.calls.made ≡ true) ⊎ (bytes_named self.old.files.items name.now ≡ None)) }
+        ensures counted { self.new.calls ≡ record self.old.calls { made = next_call self.old.calls.made } }
+    {
+        if self.calls.next_fails() {
             return Err(self.faults.count(part));
         }
         match find_bytes(self.files.as_slice(), name) {

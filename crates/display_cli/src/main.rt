@@ -4,6 +4,7 @@
 //! run ended before its script did, and ends with the run's status.
 #![tactic(auto)]
 
+mod calls;
 mod ended;
 mod inputs;
 mod outside;

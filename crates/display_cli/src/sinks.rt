@@ -1,6 +1,9 @@
 //! Sinks: over a list in memory, and over a writer.
-ghost use Rattle.std.specs.Prelude.{◌≡◌, []};
+ghost use Rattle.std.specs.Prelude.{◌≡◌, ◌<◌, ◌≤◌, false, [], Some, length, take, IfOk, OnOk, OnErr};
+ghost use Rattle.display_cli.specs.Calls.{next_call, is_one_of};
+ghost use Rattle.display_cli.specs.Outside.{Appends, HasRisen};
 
+use crate::calls::Calls;
 use crate::outside::{Failed, Sink};
 use std::alloc::Global;
 use std::io::Write;
@@ -9,8 +12,7 @@ use std::io::Write;
 #[derive(Debug, Drop)]
 pub struct ListSink {
     taken: Vec<u8>,
-    failing: Vec<u64>,
-    calls: u64,
+    calls: Calls,
     faults: u64,
 }
 
@@ -18,14 +20,13 @@ impl ListSink {
     /// A sink that has taken nothing, and whose calls of the numbers in `failing` fail.
     pub fn new(alloc: Global, failing: Vec<u64>) -> ListSink
         ensures taken { result.taken.items ≡ [] }
-        ensures failing { result.failing ≡ failing }
-        ensures calls { result.calls ≡ 0 }
+        ensures failing { result.calls.failing ≡ failing }
+        ensures made { result.calls.made ≡ 0 }
         ensures faults { result.faults ≡ 0 }
     {
         ListSink {
             taken: Vec::new(alloc),
-            failing,
-            calls: 0,
+            calls: Calls::new(failing),
             faults: 0,
         }
     }
@@ -39,16 +40,24 @@ impl ListSink {
 }
 
 impl Sink for ListSink {
-    ghost use Rattle.std.specs.Prelude.{Some};
-
     ghost faults = { λ s. s.faults };
 
     ghost taken = { λ s. Some s.taken.items };
 
-    /// Want of memory is a fault too.
-    fn write(&mut self, piece: &[u8]) -> Result<usize, Failed> {
-        self.calls = self.calls.saturating_add(1);
-        let fails = self.failing.contains(&self.calls);
+    /// Takes the whole piece, or fails, as it does where the call's number is one of those that fail. Want of memory is a
+    /// fault too.
+    fn write(&mut self, piece: &[u8]) -> Result<usize, Failed>
+        ensures within { IfOk result (λ n. n ≤ length piece.now) }
+        ensures some { IfOk result (λ n. 0 < length piece.now → 1 ≤ n) }
+        ensures taken { IfOk result (λ n. Appends (Some self.old.taken.items) (Some self.new.taken.items) (take n piece.now)) }
+        ensures unchanged { OnErr result (Some self.new.taken.items ≡ Some self.old.taken.items) }
+        ensures failed { OnErr result (HasRisen self.old.faults self.new.faults) }
+        ensures rises { self.old.faults ≤ self.new.faults }
+        ensures whole { IfOk result (λ n. n ≡ length piece.now) }
+        ensures passes { OnOk result (is_one_of self.old.calls.failing.items self.new.calls.made ≡ false) }
+        ensures counted { self.new.calls ≡ record self.old.calls { made = next_call self.old.calls.made } }
+    {
+        let fails = self.calls.next_fails();
         if fails || self.taken.extend_from_slice(piece).is_err() {
             self.faults = self.faults.saturating_add(1);
             return Err(Failed);
