@@ -4,6 +4,8 @@ pub mod Finding
 pub mod MarkViews
 pub mod Moved
 pub mod Order
+pub mod RangeViewed
 pub mod Seeking
+pub mod Shrunk
 pub mod Sorting
 pub mod Splicing

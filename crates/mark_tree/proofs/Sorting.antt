@@ -231,3 +231,16 @@ module _ {X : Type 0} where
     fresh-from_count [] few = tt
     fresh-from_count (x ∷ xs) few =
         (no_more (id x) xs (omega (arith, few (id x), one (id x) (id x) refl, count-cons (λ y. id y == id x) x xs)), fresh-from_count xs (λ n. omega (arith, few n, count-cons (λ y. id y == n) x xs)))
+
+-- A map that keeps the order of those that are Q keeps what sorting makes of them.
+module _ {X Y : Type 0} (f : X → Y) (le : X → X → Bool) (le' : Y → Y → Bool) (Q : X → Type 0) (same : (x y : X) → Q x → Q y → le x y ≡ le' (f x) (f y)) where
+  pub insert-map : (x : X) (ys : List X) → Q x → Every Q ys → map f (insert_by le x ys) ≡ insert_by le' (f x) (map f ys)
+  insert-map x [] a b = refl
+  insert-map x (y ∷ ys) a b = (λ i. map f (cond (same x y a b.0 i) (x ∷ y ∷ ys) (y ∷ insert_by le x ys))) ∙ go (le' (f x) (f y)) (insert-map x ys a b.1) where
+    go : (c : Bool) → map f (insert_by le x ys) ≡ insert_by le' (f x) (map f ys) → map f (cond c (x ∷ y ∷ ys) (y ∷ insert_by le x ys)) ≡ cond c (f x ∷ f y ∷ map f ys) (f y ∷ insert_by le' (f x) (map f ys))
+    go true r = refl
+    go false r = ap (λ l. f y ∷ l) r
+
+  pub sort-map : (xs : List X) → Every Q xs → map f (sort_by le xs) ≡ sort_by le' (map f xs)
+  sort-map [] a = refl
+  sort-map (x ∷ xs) a = insert-map x (sort_by le xs) a.0 (every-sort le Q xs a.1) ∙ ap (insert_by le' (f x)) (sort-map xs a.1)

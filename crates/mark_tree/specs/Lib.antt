@@ -4,4 +4,6 @@ pub mod ExtentLaws
 pub mod Extents
 pub mod Marks
 pub mod Order
+pub mod RangeViews
+pub mod Ranges
 pub mod Views

@@ -1,10 +1,12 @@
-//! Marks that stand at offsets of a text and move with its edits.
+//! Marks and ranges that stand at offsets of a text and move with its edits.
 //!
-//! A [`MarkTree`] is seen as the list of its marks, sorted by offset, bias (Left first) and id. Ids are distinct. A replacement
-//! moves each mark by the rule of anchors, and the list is sorted again.
+//! A [`MarkTree`] is seen as the list of its marks, sorted by offset, bias (Left first) and id; a [`RangeTree`] as the list
+//! of its ranges, sorted by start, end and id, none empty. Ids are distinct. A replacement moves each mark by the rule of
+//! anchors, and the list is sorted again; the ranges that it empties are dropped.
 //!
-//! The list is kept in a sum tree, coded by the gaps between neighbouring offsets, so that a replacement changes one gap and
-//! what it meets, and none of the many marks behind it. A call that is refused leaves the tree as it was.
+//! Both keep their list in a sum tree, coded by the gaps between neighbouring offsets, so that a replacement changes one gap
+//! and the marks that it meets, and none of the many marks behind it. Of ranges, a replacement and a question which are met
+//! still read all of them. A call that is refused leaves the tree as it was.
 #![tactic(auto)]
 
 mod entry;
@@ -15,8 +17,11 @@ mod mark;
 mod mark_tree;
 mod moving;
 mod ordered;
+mod range_tree;
+mod shrinking;
 mod spaced;
 
 pub use load::Load;
-pub use mark::Mark;
+pub use mark::{Mark, RangeMark};
 pub use mark_tree::MarkTree;
+pub use range_tree::RangeTree;

@@ -16,3 +16,13 @@ impl Load for Text {
         Text::from_str(alloc, self.as_str())
     }
 }
+
+/// No load: that of a range.
+#[derive(Drop)]
+pub(crate) struct NoLoad;
+
+impl Load for NoLoad {
+    fn copy(&self, _alloc: Global) -> Result<NoLoad, NoMemory> {
+        Ok(NoLoad)
+    }
+}

@@ -1,4 +1,4 @@
-//! Marks.
+//! Marks and ranges.
 use cell_units::Bias;
 
 /// A mark at an offset of a text. At an insertion at its offset it stays (Left) or goes behind what is inserted (Right).
@@ -8,4 +8,12 @@ pub struct Mark<P> {
     pub bias: Bias,
     pub id: u32,
     pub load: P,
+}
+
+/// The bytes of a text from `start` to `end`. What is inserted at either end stays outside.
+#[derive(Clone, Copy, Debug, PartialEq, Eq)]
+pub struct RangeMark {
+    pub start: u32,
+    pub end: u32,
+    pub id: u32,
 }

@@ -1,0 +1,45 @@
+use Rattle.std.proofs.Common.{◌≡◌, ℕ, ◌+◌, ◌-◌, ◌*◌, ◌<◌, ◌≤◌, ◌^◌, ◌∙◌, not, ap, sym, subst, refl, length, map, filter, IfErr, OnOk, IfOk, arith}
+use Rattle.std.specs.List.{All, list_any, Contains}
+use Rattle.std.proofs.lemmas.List.Elements.{All-filter, All-contains}
+use Rattle.cell_units.specs.declared.fault.Refusal.TheVariants.{IdInUse, UnknownId}
+use Rattle.cell_units.specs.declared.place.Bias.TheVariants.{Right}
+use Rattle.cell_units.specs.Sorting.{insert_by}
+use Rattle.mark_tree.specs.declared.load.NoLoad.{NoLoad}
+use Rattle.mark_tree.specs.declared.entry.Placed.{Placed}
+use Rattle.mark_tree.specs.Entries.{IsCodable, end_at}
+use Rattle.mark_tree.specs.Marks.{IsRefusedFor}
+use Rattle.mark_tree.specs.Ranges.{IsRangeList, range_le, has_range_id, lacks_range_id}
+use Rattle.mark_tree.specs.Order.{placed_le, has_placed_id, lacks_placed_id, IsOrdered}
+use Rattle.mark_tree.specs.RangeViews.{range_of, IsRange, AreRanges}
+use Rattle.mark_tree.proofs.RangeViewed.{insert-range, any-range, filter-range, contains-range, lawful-range, ranges-added}
+use Rattle.mark_tree.specs.RangeViews.{all_left_over, emptied_ids}
+use Rattle.mark_tree.specs.Ranges.{move_range, moved_ranges, dropped_ids}
+use Rattle.cell_units.specs.Sorting.{sort_by}
+use Rattle.mark_tree.proofs.Shrunk.{ranges-of, gone-of, fits-range}
+use Rattle.mark_tree.proofs.Moved.{length-map}
+use Rattle.mark_tree.proofs.Splicing.{either, map-at_ok, map-at_err, ok-weaker}
+use Rattle.mark_tree.proofs.range_tree.RangeTree.apply.Goals as goal
+
+pub move_ranges-requires-clause-ranges : goal.move_ranges-requires-clause-ranges
+move_ranges-requires-clause-ranges c = c.self.invariant
+
+pub move_ranges-requires-clause-fits : goal.move_ranges-requires-clause-fits
+move_ranges-requires-clause-fits c =
+    fits-range c.args.shift c.self.inside.ranges (subst (λ l. All (λ r. (r.start < 2 ^ 32) × (r.end < 2 ^ 32)) (map (move_range c.args.shift) l)) (sym c.self.view_is) c.requires.fits)
+
+pub invariant_of-self : goal.invariant_of-self
+invariant_of-self c = c.move_ranges.ensures.ranges
+
+pub returns-clause-ok : goal.returns-clause-ok
+returns-clause-ok c =
+    let ps = c.self.inside.ranges in
+    map-at_ok (map range_of) c.move_ranges.result c.move_ranges.new.self (sort_by placed_le (all_left_over c.args.shift ps)) (moved_ranges c.args.shift c.args.self.now) c.move_ranges.ensures.ok
+    (ranges-of c.args.shift ps c.self.invariant.each ∙ ap (moved_ranges c.args.shift) c.self.view_is)
+
+pub returns-clause-dropped : goal.returns-clause-dropped
+returns-clause-dropped c =
+    let ps = c.self.inside.ranges in
+    subst (λ l. IfOk c.move_ranges.result (λ ids. ids.items ≡ l)) (gone-of c.args.shift ps ∙ ap (dropped_ids c.args.shift) c.self.view_is) c.move_ranges.ensures.dropped
+
+pub returns-clause-err : goal.returns-clause-err
+returns-clause-err c = map-at_err (map range_of) c.move_ranges.result c.move_ranges.new.self c.self.inside.ranges c.args.self.now c.move_ranges.ensures.err c.self.view_is

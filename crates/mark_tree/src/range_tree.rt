@@ -1,0 +1,181 @@
+//! The tree of ranges.
+ghost use Rattle.std.specs.Prelude.{◌≡◌, ℕ, ◌+◌, ◌*◌, ◌^◌, ◌<◌, ◌≤◌, ◌++◌, ◌∷◌, [], not, false, length, map, filter, count_by, All, Contains, IfOk, IfErr, OnOk, OnErr};
+ghost use Rattle.std.specs.List.{list_any};
+ghost use Rattle.cell_units.specs.Sorting.{insert_by};
+ghost use Rattle.mark_tree.specs.Entries.{end_at};
+ghost use Rattle.mark_tree.specs.Marks.{IsRefusedFor};
+ghost use Rattle.mark_tree.specs.RangeViews.{range_of};
+ghost use Rattle.mark_tree.specs.Ranges.{IsRangeList, dropped_ids, has_in_common, has_range_id, lacks_range_id, move_range, moved_ranges, range_le};
+
+use crate::entry::Placed;
+use crate::load::NoLoad;
+use crate::mark::RangeMark;
+use crate::spaced::Spaced;
+use cell_units::{Bias, Fault, NoMemory, Refusal, Shift, Steps};
+use std::alloc::Global;
+use std::marker::Model;
+
+/// Ranges of distinct ids, none empty, sorted by start, end and id. Contracts see it as that list. Copies share what they
+/// have in common, and no later change of the one is seen by another.
+///
+/// The bounds on the steps of a call are given for each h such that the number of ranges is less than 2 * 6^(h + 1). The
+/// least such h is the greatest height of a tree of so many.
+#[derive(Drop)]
+pub struct RangeTree {
+    ranges: Spaced<NoLoad>,
+}
+
+impl Model for RangeTree {
+    ghost use Rattle.std.specs.Prelude.{List, map};
+    ghost use Rattle.mark_tree.specs.declared.mark.RangeMark.{RangeMark};
+    ghost use Rattle.mark_tree.specs.RangeViews.{AreRanges, range_of};
+
+    ghost Value = { List RangeMark };
+
+    ghost view = { λ t. map range_of t.ranges };
+
+    ghost invariant = { λ t. AreRanges t.ranges };
+}
+
+impl RangeTree {
+    /// No ranges. It takes no memory.
+    pub fn new(alloc: Global) -> RangeTree
+        ensures { result ≡ [] }
+    {
+        RangeTree {
+            ranges: Spaced::new(alloc),
+        }
+    }
+
+    /// An equal tree.
+    pub fn share(&self) -> Result<RangeTree, NoMemory>
+        ensures { IfOk result (λ t. t ≡ self.now) }
+    {
+        Ok(RangeTree {
+            ranges: self.ranges.share()?,
+        })
+    }
+
+    /// The number of ranges.
+    pub fn len(&self) -> u32
+        ensures len { result ≡ length self.now }
+        ensures lawful { IsRangeList self.now }
+    {
+        self.ranges.len()
+    }
+
+    /// Adds a range, which must not be empty. `IdInUse` exactly where its id is there.
+    pub fn insert(
+        &mut self,
+        alloc: Global,
+        range: RangeMark,
+        steps: &mut Steps,
+    ) -> Result<(), Fault>
+        requires some { range.start < range.end }
+        requires small { length self.old + 1 < 2 ^ 32 }
+        ensures ok { OnOk result (self.new ≡ insert_by range_le range self.old) }
+        ensures fresh { OnOk result (list_any (has_range_id range.id) self.old ≡ false) }
+        ensures refused { IfErr result (IsRefusedFor Refusal.IdInUse (list_any (has_range_id range.id) self.old)) }
+        ensures err { OnErr result (self.new ≡ self.old) }
+        ensures steps { (h : ℕ) → length self.old + 1 < 2 * 6 ^ (h + 1) → steps.new ≤ steps.old + 1200 * (h + 1) * (length self.old + 1) }
+    {
+        let placed = Placed {
+            offset: range.start,
+            bias: Bias::Right,
+            length: range.end - range.start,
+            id: range.id,
+            load: NoLoad,
+        };
+        self.ranges.add(alloc, placed, steps)
+    }
+
+    /// Takes the range of this id off the tree. `UnknownId` exactly where there is none.
+    pub fn remove(&mut self, alloc: Global, id: u32, steps: &mut Steps) -> Result<RangeMark, Fault>
+        ensures ok { OnOk result (self.new ≡ filter (lacks_range_id id) self.old) }
+        ensures range { IfOk result (λ r. Contains self.old r) }
+        ensures id { IfOk result (λ r. r.id ≡ id) }
+        ensures refused { IfErr result (IsRefusedFor Refusal.UnknownId (not (list_any (has_range_id id) self.old))) }
+        ensures err { OnErr result (self.new ≡ self.old) }
+        ensures steps { (h : ℕ) → length self.old < 2 * 6 ^ (h + 1) → steps.new ≤ steps.old + 1200 * (h + 1) * (length self.old + 1) }
+    {
+        // Each end is a u32.
+        let _count = self.ranges.len();
+        match self.ranges.take_id(alloc, id, steps) {
+            Ok(placed) => Ok(RangeMark {
+                start: placed.offset,
+                end: placed.offset + placed.length,
+                id: placed.id,
+            }),
+            Err(fault) => Err(fault),
+        }
+    }
+
+    /// Moves each range as the replacement does, anchored Right at its start and Left at its end, drops those that are empty
+    /// then, and sorts the others again. It answers the ids of those that it dropped, in the order in which they stood.
+    pub fn apply(
+        &mut self,
+        alloc: Global,
+        shift: Shift,
+        steps: &mut Steps,
+    ) -> Result<Vec<u32>, NoMemory>
+        requires order { shift.start ≤ shift.end }
+        requires fits { All (λ r. (r.start < 2 ^ 32) × (r.end < 2 ^ 32)) (map (move_range shift) self.old) }
+        ensures ok { OnOk result (self.new ≡ moved_ranges shift self.old) }
+        ensures dropped { IfOk result (λ ids. ids.items ≡ dropped_ids shift self.old) }
+        ensures err { OnErr result (self.new ≡ self.old) }
+    {
+        self.ranges.move_ranges(alloc, &shift, steps)
+    }
+
+    /// The ranges that have a byte in common with those from `start` to `end`: `range.start < end` and `start < range.end`.
+    pub fn meeting(
+        &self,
+        alloc: Global,
+        start: u32,
+        end: u32,
+        steps: &mut Steps,
+    ) -> Result<Vec<RangeMark>, NoMemory>
+        ensures { IfOk result (λ v. v.items ≡ filter (has_in_common start end) self.now) }
+    {
+        let count = self.ranges.len();
+        let copies = self.ranges.copied(alloc, 0, count, steps)?;
+        common_with(alloc, copies, start, end)
+    }
+}
+
+/// Those of the ranges that have a byte in common with those from `start` to `end`.
+fn common_with(
+    alloc: Global,
+    ranges: Vec<Placed<NoLoad>>,
+    start: u32,
+    end: u32,
+) -> Result<Vec<RangeMark>, NoMemory>
+    requires { All (λ p. end_at p < 2 ^ 32) ranges.items }
+    ensures { IfOk result (λ v. v.items ≡ filter (has_in_common start end) (map range_of ranges.items)) }
+{
+    let mut met = Vec::new(alloc);
+    for placed in ranges {
+        let range = RangeMark {
+            start: placed.offset,
+            end: placed.offset + placed.length,
+            id: placed.id,
+        };
+        push_met(&mut met, range, start, end)?;
+    }
+    Ok(met)
+}
+
+/// Adds the range where it has a byte in common with those from `start` to `end`.
+fn push_met(
+    met: &mut Vec<RangeMark>,
+    range: RangeMark,
+    start: u32,
+    end: u32,
+) -> Result<(), NoMemory>
+    ensures { OnOk result (met.new.items ≡ met.old.items ++ filter (has_in_common start end) (range ∷ [])) }
+{
+    if range.start < end && start < range.end {
+        met.push(range)?;
+    }
+    Ok(())
+}
