@@ -6,4 +6,5 @@ pub mod Marks
 pub mod Order
 pub mod RangeViews
 pub mod Ranges
+pub mod Tested
 pub mod Views

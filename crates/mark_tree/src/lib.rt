@@ -20,6 +20,8 @@ mod ordered;
 mod range_tree;
 mod shrinking;
 mod spaced;
+#[cfg(test)]
+mod tests;
 
 pub use load::Load;
 pub use mark::{Mark, RangeMark};
