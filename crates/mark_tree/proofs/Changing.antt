@@ -155,8 +155,8 @@ module _ {P : Type 0} where
     distinct = λ n. omega (arith, count-filter (lacks_placed_id id) (has_placed_id n) ps, o.distinct n);
   }
 
-pub add-steps : (h n s₀ s₁ s₂ s₃ : ℕ) → s₁ ≤ s₀ + 64 * (h + 1) * n → s₂ ≤ s₁ + 64 * (h + 1) * (n + 1) → s₃ ≤ s₂ + 928 * (h + 1) + 4 * (1 + 2) → s₃ ≤ s₀ + 1200 * (h + 1) * (n + 1)
+pub add-steps : (h n s₀ s₁ s₂ s₃ : ℕ) → s₁ ≤ s₀ + n + 1 → s₂ ≤ s₁ + 2048 * (h + 1) → s₃ ≤ s₂ + 928 * (h + 1) + 4 * (1 + 2) → s₃ ≤ s₀ + n + 3000 * (h + 1)
 add-steps h n s₀ s₁ s₂ s₃ a b c = omega arith
 
-pub take-steps : (h n s₀ s₁ s₂ s₃ : ℕ) → s₁ ≤ s₀ + 64 * (h + 1) * n → s₂ ≤ s₁ + 64 * (h + 1) → s₃ ≤ s₂ + 928 * (h + 1) + 4 * (0 + 2) → s₃ ≤ s₀ + 1200 * (h + 1) * (n + 1)
+pub take-steps : (h n s₀ s₁ s₂ s₃ : ℕ) → s₁ ≤ s₀ + n + 1 → s₂ ≤ s₁ + 64 * (h + 1) → s₃ ≤ s₂ + 928 * (h + 1) + 4 * (0 + 2) → s₃ ≤ s₀ + n + 1200 * (h + 1)
 take-steps h n s₀ s₁ s₂ s₃ a b c = omega arith

@@ -1,12 +1,13 @@
 -- Lists at offsets, and the entries that code them.
-use Rattle.std.proofs.Common.{◌≡◌, ℕ, zero, suc, ◌+◌, ◌-◌, ◌<◌, ◌≤◌, ◌^◌, min, List, [], ◌∷◌, ◌++◌, length, map, take, drop, Some, None, refl, sym, ap, subst, ◌∙◌, arith}
-use Rattle.std.specs.List.{All, slice_get}
+use Rattle.std.proofs.Common.{◌≡◌, ℕ, zero, suc, ◌+◌, ◌-◌, ◌<◌, ◌≤◌, ◌==◌, ◌^◌, min, not, cond, nat_lt, position, List, [], ◌∷◌, ◌++◌, length, map, take, drop, Some, None, refl, sym, ap, subst, ◌∙◌, arith}
+use Rattle.std.specs.List.{All, slice_get, position_or_len}
 use Rattle.std.proofs.lemmas.List.Elements.{All-nil, All-cons, All-head, All-tail}
 use Rattle.cell_units.specs.declared.place.Shift.{Shift}
 use Rattle.mark_tree.specs.declared.entry.Entry.{Entry}
 use Rattle.mark_tree.specs.declared.entry.Placed.{Placed}
 use Rattle.mark_tree.specs.Extents.{end_of}
 use Rattle.mark_tree.specs.Entries.{extent_over, placed_at, placed_from, entry_of, coded, end_at, last_offset, IsSpaced, IsCodable, shifted}
+use Rattle.mark_tree.specs.Order.{has_placed_id}
 
 module _ {P : Type 0} where
   pub length-placed : (o : ℕ) (es : List (Entry P)) → length (placed_from o es) ≡ length es
@@ -136,3 +137,10 @@ module _ {P : Type 0} where
     ends = ends-placed (2 ^ 32) 0 es (omega arith);
     small = small;
   }
+
+  -- the first place of an id is the same in what stands there and in the entries
+  pub position-placed : (id o : ℕ) (es : List (Entry P)) → position (λ e. e.id == id) es ≡ position (has_placed_id id) (placed_from o es)
+  position-placed id o es = λ i. cond (nat_lt (go o es i) (sym (length-placed o es) i)) (Some (go o es i)) None where
+    go : (n : ℕ) (fs : List (Entry P)) → position_or_len (λ e. e.id == id) fs ≡ position_or_len (has_placed_id id) (placed_from n fs)
+    go n [] = refl
+    go n (f ∷ fs) = ap (λ k. cond (not (f.id == id)) (1 + k) 0) (go (n + f.gap) fs)

@@ -1,12 +1,14 @@
 -- What loops over the places of a list find.
-use Rattle.std.proofs.Common.{◌≡◌, ℕ, ◌+◌, ◌-◌, ◌*◌, ◌<◌, ◌≤◌, ◌==◌, ◌||◌, zero, suc, Bool, true, false, List, [], ◌∷◌, ◌++◌, length, take, drop, get_or, Some, None, position, refl, sym, ap, subst, ◌∙◌, arith, cond, nat_lt}
+use Rattle.std.proofs.Common.{◌≡◌, ℕ, ◌+◌, ◌-◌, ◌*◌, ◌/◌, ◌^◌, ◌<◌, ◌≤◌, ◌==◌, ◌||◌, zero, suc, Bool, true, false, not, List, [], ◌∷◌, ◌++◌, length, take, drop, get_or, Some, None, position, refl, sym, ap, subst, ◌∙◌, arith, cond, nat_lt}
 use Rattle.std.specs.List.{slice_get, position_or_len, list_any}
+use Rattle.std.specs.Option.{is_some}
 use Rattle.cell_units.specs.Sorting.{insert_by}
 use Rattle.std.proofs.Math.Nat.{mul-le-mul_left}
 use Rattle.std.proofs.lemmas.List.{take_more, get_or-drop, length-drop}
 use Rattle.std.proofs.lemmas.List.Sums.{position_or_len_is, passes_at_first}
 use Rattle.std.proofs.lemmas.Option.{get_or_from_slice_get, slice_get_within}
 use Rattle.std.proofs.lemmas.Bool.Decides.{nat_tests}
+use Rattle.mark_tree.proofs.Sorting.{Every, IsSorted}
 
 -- one more element of a part
 pub copied-more : {X : Type 0} (xs : List X) (from at : ℕ) (x : X) → from ≤ at → slice_get xs at ≡ Some x → take (at + 1 - from) (drop from xs) ≡ take (at - from) (drop from xs) ++ x ∷ []
@@ -47,32 +49,25 @@ position-none p (x ∷ xs) before =
       found true e = absurd (cc)
       found false e = refl
 
-pub same_id-test : (m n : ℕ) → m ≡ n → (m == n) ≡ true
-same_id-test m n e = grind (arith, nat_tests)
+-- a first place is there exactly where a member passes
+pub position-any : {X : Type 0} (p : X → Bool) (xs : List X) → is_some (position p xs) ≡ list_any p xs
+position-any p xs = some (nat_lt (position_or_len p xs) (length xs)) (position_or_len p xs) ∙ go p xs where
+  some : (b : Bool) (n : ℕ) → is_some (cond b (Some n) None) ≡ b
+  some true n = refl
+  some false n = refl
 
-pub other_id-test : (m n : ℕ) → (m ≡ n → ⊥) → (m == n) ≡ false
-other_id-test m n e = go (m == n) refl where
-  go : (b : Bool) → (m == n) ≡ b → b ≡ false
-  go true q = absurd (e (grind (arith, nat_tests)))
-  go false q = refl
+  one_more : (m n : ℕ) → nat_lt (1 + m) (suc n) ≡ nat_lt m n
+  one_more m n = grind (arith, nat_tests)
 
-pub any-found : {X : Type 0} (p : X → Bool) (xs : List X) (at : ℕ) → at < length xs → ((d : X) → p (get_or xs at d) ≡ true) → true ≡ list_any p xs
-any-found p [] at lt here = absurd (omega arith)
-any-found p (x ∷ xs) zero lt here = go (p x) (here x) where
-  go : (b : Bool) → b ≡ true → true ≡ (b || list_any p xs)
-  go true e = refl
-  go false e = absurd (cc)
-any-found p (x ∷ xs) (suc at) lt here = go (p x) (any-found p xs at (omega arith) here) where
-  go : (b : Bool) → true ≡ list_any p xs → true ≡ (b || list_any p xs)
-  go true e = refl
-  go false e = e
+  none_before : (n : ℕ) → nat_lt 0 (suc n) ≡ true
+  none_before n = grind (arith, nat_tests)
 
-pub any-none : {X : Type 0} (p : X → Bool) (xs : List X) → ((k : ℕ) (d : X) → k < length xs → p (get_or xs k d) ≡ false) → false ≡ list_any p xs
-any-none p [] before = refl
-any-none p (x ∷ xs) before = go (p x) (before 0 x (omega arith)) (any-none p xs (λ k d lt. before (suc k) d (omega arith))) where
-  go : (b : Bool) → b ≡ false → false ≡ list_any p xs → false ≡ (b || list_any p xs)
-  go true e r = absurd (cc)
-  go false e r = r
+  go : {X : Type 0} (q : X → Bool) (ys : List X) → nat_lt (position_or_len q ys) (length ys) ≡ list_any q ys
+  go q [] = refl
+  go q (y ∷ ys) = first (q y) (go q ys) where
+    first : (b : Bool) → nat_lt (position_or_len q ys) (length ys) ≡ list_any q ys → nat_lt (cond (not b) (1 + position_or_len q ys) 0) (length (y ∷ ys)) ≡ (b || list_any q ys)
+    first true e = none_before (length ys)
+    first false e = one_more (position_or_len q ys) (length ys) ∙ e
 
 -- where one is inserted that is above all before a place, and not above the one there
 pub place-at : {X : Type 0} (le : X → X → Bool) (x : X) (xs : List X) (at : ℕ) → at ≤ length xs → ((k : ℕ) (d : X) → k < at → le x (get_or xs k d) ≡ false) → ((d : X) → at < length xs → le x (get_or xs at d) ≡ true)
@@ -98,3 +93,31 @@ position-some {X = X} p xs at is = go (nat_lt (position_or_len p xs) (length xs)
       let lt = below (position_or_len p xs) (length xs) e in
       subst (λ m. (m < length xs) × ((d : X) → p (get_or xs m d) ≡ true)) (some-is (position_or_len p xs) at f) (lt, λ d. passes_at_first p xs d lt)
   go false e f = absurd (cc)
+
+-- in a sorted list, what is above one is above all before it
+module _ {X : Type 0} (le : X → X → Bool) (trans : (x y z : X) → le x y ≡ true → le y z ≡ true → le x z ≡ true) where
+  every-at : (P : X → Type 0) (xs : List X) (k : ℕ) (d : X) → k < length xs → Every P xs → P (get_or xs k d)
+  every-at P [] k d lt a = absurd (omega arith)
+  every-at P (x ∷ xs) zero d lt a = a.0
+  every-at P (x ∷ xs) (suc k) d lt a = every-at P xs k d (omega arith) a.1
+
+  sorted-places : (xs : List X) → IsSorted le xs → (j k : ℕ) (d : X) → j < k → k < length xs → le (get_or xs j d) (get_or xs k d) ≡ true
+  sorted-places [] s j k d lt in' = absurd (omega arith)
+  sorted-places (x ∷ xs) s j zero d lt in' = absurd (omega arith)
+  sorted-places (x ∷ xs) s zero (suc k) d lt in' = every-at (λ y. le x y ≡ true) xs k d (omega arith) s.0
+  sorted-places (x ∷ xs) s (suc j) (suc k) d lt in' = sorted-places xs s.1 j k d (omega arith) (omega arith)
+
+  pub above-before : (x : X) (xs : List X) → IsSorted le xs → (at : ℕ) (d : X) → at < length xs → le x (get_or xs at d) ≡ false → (k : ℕ) → k < at → le x (get_or xs k d) ≡ false
+  above-before x xs s at d in' not k lt = go (le x (get_or xs k d)) refl where
+    go : (b : Bool) → le x (get_or xs k d) ≡ b → b ≡ false
+    go true e = absurd (differ (sym (trans x (get_or xs k d) (get_or xs at d) e (sorted-places xs s k at d lt in')) ∙ not)) where
+      differ : true ≡ false → ⊥
+      differ f = cc
+    go false e = refl
+
+-- half of what is less than a power of 2 is less than the power before it
+pub halved : (n k : ℕ) → 0 < n → n < 2 ^ k → (1 ≤ k) × (n / 2 < 2 ^ (k - 1))
+halved n zero some few = absurd (omega arith)
+halved n (suc k) some few =
+    let before : suc k - 1 ≡ k = omega arith in
+    (omega arith, subst (λ m. n / 2 < 2 ^ m) (sym before) (omega arith))

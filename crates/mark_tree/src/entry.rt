@@ -4,6 +4,7 @@ use crate::load::Load;
 use cell_units::{Bias, NoMemory};
 use std::alloc::Global;
 use sum_core::Item;
+use sum_tree::Probe;
 
 /// An entry of a list that is coded by gaps: it stands `gap` bytes behind the entry before it, the first one behind 0.
 #[derive(Drop)]
@@ -38,6 +39,20 @@ impl<P: Load> Item for Entry<P> {
             id: self.id,
             load: self.load.copy(alloc)?,
         })
+    }
+}
+
+/// The test for an entry of this id.
+#[derive(Drop)]
+pub(crate) struct HasId(pub(crate) u32);
+
+impl<P> Probe<Entry<P>> for HasId {
+    ghost use Rattle.std.specs.Prelude.{◌==◌};
+
+    ghost is_passed = { λ probe entry. entry.id == probe.0 };
+
+    fn passes(&self, item: &Entry<P>) -> bool {
+        item.id == self.0
     }
 }
 

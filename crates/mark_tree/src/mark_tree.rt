@@ -95,7 +95,7 @@ impl<P: Load> MarkTree<P> {
         ensures fresh { OnOk result (list_any (has_id mark.id) self.old ≡ false) }
         ensures refused { IfErr result (IsRefusedFor Refusal.IdInUse (list_any (has_id mark.id) self.old)) }
         ensures err { OnErr result (self.new ≡ self.old) }
-        ensures steps { (h : ℕ) → length self.old + 1 < 2 * 6 ^ (h + 1) → steps.new ≤ steps.old + 1200 * (h + 1) * (length self.old + 1) }
+        ensures steps { (h : ℕ) → length self.old + 1 < 2 * 6 ^ (h + 1) → steps.new ≤ steps.old + length self.old + 3000 * (h + 1) }
     {
         let placed = Placed {
             offset: mark.offset,
@@ -114,7 +114,7 @@ impl<P: Load> MarkTree<P> {
         ensures id { IfOk result (λ m. m.id ≡ id) }
         ensures refused { IfErr result (IsRefusedFor Refusal.UnknownId (not (list_any (has_id id) self.old))) }
         ensures err { OnErr result (self.new ≡ self.old) }
-        ensures steps { (h : ℕ) → length self.old < 2 * 6 ^ (h + 1) → steps.new ≤ steps.old + 1200 * (h + 1) * (length self.old + 1) }
+        ensures steps { (h : ℕ) → length self.old < 2 * 6 ^ (h + 1) → steps.new ≤ steps.old + length self.old + 1200 * (h + 1) }
     {
         match self.marks.take_id(alloc, id, steps) {
             Ok(placed) => Ok(Mark {

@@ -40,19 +40,24 @@ impl<P: Load> Spaced<P> {
 
     /// The place at which a thing stands in order: before the first that isn't less.
     fn place_for(&self, fresh: &Placed<P>, steps: &mut Steps) -> u32
+        requires ordered { IsOrdered self.now }
         ensures within { result ≤ length self.now }
         ensures place { insert_by placed_le fresh.now self.now ≡ take result self.now ++ fresh.now ∷ drop result self.now }
-        ensures steps { (h : ℕ) → length self.now < 2 * 6 ^ (h + 1) → steps.new ≤ steps.old + 64 * (h + 1) * (length self.now + 1) }
+        ensures steps { (h : ℕ) → length self.now < 2 * 6 ^ (h + 1) → steps.new ≤ steps.old + 2048 * (h + 1) }
     {
         let key = fresh.key();
-        let first = self.first_at(fresh.offset as u64, steps);
-        for at in first..self.len() {
-            let is_less = self.key_at(at, steps).cmp(&key).is_lt();
-            if !is_less {
-                return at;
+        let mut low = 0;
+        let mut high = self.len();
+        while low < high {
+            let middle = low + (high - low) / 2;
+            let is_less = self.key_at(middle, steps).cmp(&key).is_lt();
+            if is_less {
+                low = middle + 1;
+            } else {
+                high = middle;
             }
         }
-        self.len()
+        low
     }
 
     /// Adds a thing in order. `IdInUse` exactly where its id is there.
@@ -70,7 +75,7 @@ impl<P: Load> Spaced<P> {
         ensures refused { IfErr result (IsRefusedFor Refusal.IdInUse (list_any (has_placed_id fresh.id) self.old)) }
         ensures err { OnErr result (self.new ≡ self.old) }
         ensures ordered { IsOrdered self.new }
-        ensures steps { (h : ℕ) → length self.old + 1 < 2 * 6 ^ (h + 1) → steps.new ≤ steps.old + 1200 * (h + 1) * (length self.old + 1) }
+        ensures steps { (h : ℕ) → length self.old + 1 < 2 * 6 ^ (h + 1) → steps.new ≤ steps.old + length self.old + 3000 * (h + 1) }
     {
         if self.find_id(fresh.id, steps).is_some() {
             return Err(Fault::Refused(Refusal::IdInUse));
@@ -97,7 +102,7 @@ impl<P: Load> Spaced<P> {
         ensures refused { IfErr result (IsRefusedFor Refusal.UnknownId (not (list_any (has_placed_id id) self.old))) }
         ensures err { OnErr result (self.new ≡ self.old) }
         ensures ordered { IsOrdered self.new }
-        ensures steps { (h : ℕ) → length self.old < 2 * 6 ^ (h + 1) → steps.new ≤ steps.old + 1200 * (h + 1) * (length self.old + 1) }
+        ensures steps { (h : ℕ) → length self.old < 2 * 6 ^ (h + 1) → steps.new ≤ steps.old + length self.old + 1200 * (h + 1) }
     {
         let Some(at) = self.find_id(id, steps) else {
             return Err(Fault::Refused(Refusal::UnknownId));

@@ -77,7 +77,7 @@ impl RangeTree {
         ensures fresh { OnOk result (list_any (has_range_id range.id) self.old ≡ false) }
         ensures refused { IfErr result (IsRefusedFor Refusal.IdInUse (list_any (has_range_id range.id) self.old)) }
         ensures err { OnErr result (self.new ≡ self.old) }
-        ensures steps { (h : ℕ) → length self.old + 1 < 2 * 6 ^ (h + 1) → steps.new ≤ steps.old + 1200 * (h + 1) * (length self.old + 1) }
+        ensures steps { (h : ℕ) → length self.old + 1 < 2 * 6 ^ (h + 1) → steps.new ≤ steps.old + length self.old + 3000 * (h + 1) }
     {
         let placed = Placed {
             offset: range.start,
@@ -96,7 +96,7 @@ impl RangeTree {
         ensures id { IfOk result (λ r. r.id ≡ id) }
         ensures refused { IfErr result (IsRefusedFor Refusal.UnknownId (not (list_any (has_range_id id) self.old))) }
         ensures err { OnErr result (self.new ≡ self.old) }
-        ensures steps { (h : ℕ) → length self.old < 2 * 6 ^ (h + 1) → steps.new ≤ steps.old + 1200 * (h + 1) * (length self.old + 1) }
+        ensures steps { (h : ℕ) → length self.old < 2 * 6 ^ (h + 1) → steps.new ≤ steps.old + length self.old + 1200 * (h + 1) }
     {
         // Each end is a u32.
         let _count = self.ranges.len();

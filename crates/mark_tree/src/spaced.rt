@@ -6,7 +6,7 @@ ghost use Rattle.mark_tree.specs.Extents.{end_of};
 ghost use Rattle.mark_tree.specs.Entries.{IsCodable, IsRefill, IsSpaced, coded, end_at, extent_over, last_offset, placed_at, placed_from, shifted, spliced};
 ghost use Rattle.mark_tree.specs.Order.{has_placed_id};
 
-use crate::entry::{Entry, Placed};
+use crate::entry::{Entry, HasId, Placed};
 use crate::extent::{ByItems, ByOffset};
 use crate::load::Load;
 use cell_units::{Bias, NoMemory, Shift, Steps};
@@ -123,25 +123,9 @@ impl<P: Load> Spaced<P> {
     pub(crate) fn find_id(&self, id: u32, steps: &mut Steps) -> Option<u32>
         ensures found { result ≡ position (has_placed_id id) self.now }
         ensures any { is_some result ≡ list_any (has_placed_id id) self.now }
-        ensures steps { (h : ℕ) → length self.now < 2 * 6 ^ (h + 1) → steps.new ≤ steps.old + 64 * (h + 1) * length self.now }
+        ensures steps { steps.new ≤ steps.old + length self.now + 1 }
     {
-        for at in 0..self.len() {
-            if self.id_at(at, steps) == id {
-                return Some(at);
-            }
-        }
-        None
-    }
-
-    fn id_at(&self, at: u32, steps: &mut Steps) -> u32
-        requires { at < length self.now }
-        ensures id { (d : Placed P) → result ≡ (slice_index_or self.now at d).id }
-        ensures steps { (h : ℕ) → length self.now < 2 * 6 ^ (h + 1) → steps.new ≤ steps.old + 64 * (h + 1) }
-    {
-        match self.get(at, steps) {
-            Some(found) => found.entry.id,
-            None => unreachable!(),
-        }
+        self.entries.position(&HasId(id), steps)
     }
 
     /// A copy of what stands at place `at`.

@@ -46,4 +46,4 @@ returns-clause-err g c = map-at_err (map mark_of) c.add.result c.add.new.self c.
 pub returns-clause-steps : goal.returns-clause-steps
 returns-clause-steps g c h few =
     let same : length c.self.inside.marks ≡ length c.args.self.now = sym (length-map mark_of c.self.inside.marks) ∙ ap length c.self.view_is in
-    subst (λ n. c.add.new.steps ≤ c.args.steps.now + 1200 * (h + 1) * (n + 1)) same (c.add.ensures.steps h (omega (arith, few, same)))
+    subst (λ n. c.add.new.steps ≤ c.args.steps.now + n + 3000 * (h + 1)) same (c.add.ensures.steps h (omega (arith, few, same)))

@@ -55,4 +55,4 @@ returns-clause-err c = map-at_err (map range_of) c.add.result c.add.new.self c.s
 pub returns-clause-steps : goal.returns-clause-steps
 returns-clause-steps c h few =
     let same : length c.self.inside.ranges ≡ length c.args.self.now = sym (length-map range_of c.self.inside.ranges) ∙ ap length c.self.view_is in
-    subst (λ n. c.add.new.steps ≤ c.args.steps.now + 1200 * (h + 1) * (n + 1)) same (c.add.ensures.steps h (omega (arith, few, same)))
+    subst (λ n. c.add.new.steps ≤ c.args.steps.now + n + 3000 * (h + 1)) same (c.add.ensures.steps h (omega (arith, few, same)))

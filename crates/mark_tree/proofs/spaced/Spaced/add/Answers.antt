@@ -36,5 +36,5 @@ returns-clause-steps g c h few =
     let added : spliced at at c.in_ok-single.single.items no_shift c.args.self.now ≡ insert_by placed_le c.args.fresh c.args.self.now =
     ap (λ l. spliced at at l no_shift c.args.self.now) c.in_ok-single.ensures ∙ spliced-added at c.args.fresh c.args.self.now c.place_for-at.ensures.place in
     let new : length (spliced at at c.in_ok-single.single.items no_shift c.args.self.now) < 2 * 6 ^ (h + 1) = omega (arith, few, ap length added, length-added c.args.fresh c.args.self.now) in
-    add-steps h (length c.args.self.now) c.args.steps.now c.find_id.new.steps c.place_for-at.new.steps c.splice.new.steps (c.find_id.ensures.steps h old) (c.place_for-at.ensures.steps h old)
+    add-steps h (length c.args.self.now) c.args.steps.now c.find_id.new.steps c.place_for-at.new.steps c.splice.new.steps c.find_id.ensures.steps (c.place_for-at.ensures.steps h old)
     (omega (arith, c.in_ok-splice.ensures.steps h old new, ap length c.in_ok-single.ensures))

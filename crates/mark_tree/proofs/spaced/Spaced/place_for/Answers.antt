@@ -1,45 +1,74 @@
-use Rattle.std.proofs.Common.{◌≡◌, ℕ, ◌+◌, ◌*◌, ◌<◌, ◌≤◌, ◌∙◌, ap, sym, subst, length, get_or, true, false, arith, below_more}
+use Rattle.std.proofs.Common.{◌≡◌, ℕ, ◌+◌, ◌-◌, ◌*◌, ◌/◌, ◌^◌, ◌<◌, ◌≤◌, ◌∙◌, ap, sym, subst, length, get_or, true, false, arith, below_more}
 use Rattle.std.specs.Ordering.{is_lt}
 use Rattle.std.proofs.Math.Nat.{mul-le-mul_left}
-use Rattle.std.proofs.lemmas.List.{get_or-take, length-take-le}
 use Rattle.mark_tree.specs.declared.entry.Placed.{Placed}
 use Rattle.mark_tree.specs.Order.{placed_le, key_of}
-use Rattle.mark_tree.proofs.Finding.{steps-more, place-at}
-use Rattle.mark_tree.proofs.Order.{below-not_le, le-from_key, not_le-from_key, key_cmp}
+use Rattle.mark_tree.proofs.Finding.{steps-more, place-at, above-before, halved}
+use Rattle.mark_tree.proofs.Order.{le-from_key, le-trans, not_le-from_key, key_cmp, sorted-placed}
 use Rattle.mark_tree.proofs.spaced.Spaced.place_for.Goals as goal
 
-one-more : (n : ℕ) → 1 ≤ n + 1
-one-more n = omega arith
-
-pub loop-at-init : goal.loop-at-init
-loop-at-init g c = record {
-  less = λ k d lt. below-not_le c.args.fresh.now (get_or c.args.self.now k d)
-      (subst (λ (p : Placed g.row.P.Denot). p.offset < c.args.fresh.now.offset) (get_or-take c.first_at-first.result c.args.self.now k d lt)
-      (c.first_at-first.ensures.before k d (omega (arith, length-take-le c.first_at-first.result c.args.self.now c.first_at-first.ensures.within))));
-  steps = λ h few. omega (arith, c.first_at-first.ensures.steps h few, mul-le-mul_left (64 * (h + 1)) (one-more c.first_at-first.result));
-  within = c.first_at-first.ensures.within;
+pub loop-low-init : goal.loop-low-init
+loop-low-init g c = record {
+  order = omega arith;
+  within = omega (arith, c.len-high.ensures.len);
+  less = λ k d lt. absurd (omega arith);
+  not_less = λ d lt. absurd (omega (arith, c.len-high.ensures.len));
+  left = 32;
+  few = omega arith;
+  narrow = omega (arith, c.len-high.type_inv);
+  steps = λ h few. omega arith;
 }
 
-pub loop-at-preserved : goal.loop-at-preserved
-loop-at-preserved g c = record {
-  less = λ k d lt. below_more (λ n. placed_le c.args.fresh.now (get_or c.args.self.now n d) ≡ false) c.loop-at.at (λ n a. c.loop-at.invariant.less n d a)
-      (not_le-from_key c.args.fresh.now (get_or c.args.self.now c.loop-at.at d)
-      (subst (λ k. is_lt (key_cmp k (key_of c.args.fresh.now)) ≡ true) (c.key_at.ensures.key d) (subst (λ k. is_lt (key_cmp c.key_at.result k) ≡ true) c.key-key.ensures (ap is_lt (sym c.cmp.ensures) ∙ sym c.is_lt-is_less.ensures ∙ c.if-not-is_less.false)))) k lt;
-  steps = λ h few. steps-more (64 * (h + 1)) (c.loop-at.at + 1) (c.loop-at.at + 1 + 1) c.args.steps.now c.loop-at.steps c.key_at.new.steps (omega arith) (c.loop-at.invariant.steps h few) (c.key_at.ensures.steps h few);
-  within = omega (arith, c.len-at-end.ensures.len);
-}
+pub loop-low-preserved : goal.loop-low-preserved
+loop-low-preserved g c =
+    let low = c.loop-low.low in
+    let high = c.loop-low.high in
+    let middle = low + (high - low) / 2 in
+    let left = c.loop-low.invariant.left in
+    let next = halved (high - low) left (omega (arith, c.loop-low-test.true)) c.loop-low.invariant.narrow in
+    record {
+      order = omega arith;
+      within = omega (arith, c.loop-low-test.true, c.loop-low.invariant.within);
+      less = c.loop-low.invariant.less;
+      not_less = λ d lt. le-from_key c.args.fresh.now (get_or c.args.self.now middle d)
+          (subst (λ k. is_lt (key_cmp k (key_of c.args.fresh.now)) ≡ false) (c.key_at.ensures.key d) (subst (λ k. is_lt (key_cmp c.key_at.result k) ≡ false) c.key-key.ensures (ap is_lt (sym c.cmp.ensures) ∙ sym c.is_lt-is_less.ensures ∙ c.if-is_less.false)));
+      left = left - 1;
+      few = omega (arith, c.loop-low.invariant.few);
+      narrow = omega (arith, next.1);
+      steps = λ h few. steps-more (64 * (h + 1)) (32 - left) (32 - (left - 1)) c.args.steps.now c.loop-low.steps c.key_at.new.steps (omega (arith, next.0, c.loop-low.invariant.few)) (c.loop-low.invariant.steps h few) (c.key_at.ensures.steps h few);
+    }
 
-pub returns-then-not-is_less-clause-place : goal.returns-then-not-is_less-clause-place
-returns-then-not-is_less-clause-place g c =
-    place-at placed_le c.args.fresh.now c.args.self.now c.loop-at.at c.loop-at.invariant.within c.loop-at.invariant.less
-    (λ d lt. le-from_key c.args.fresh.now (get_or c.args.self.now c.loop-at.at d)
-    (subst (λ k. is_lt (key_cmp k (key_of c.args.fresh.now)) ≡ false) (c.key_at.ensures.key d) (subst (λ k. is_lt (key_cmp c.key_at.result k) ≡ false) c.key-key.ensures (ap is_lt (sym c.cmp.ensures) ∙ sym c.is_lt-is_less.ensures ∙ c.if-not-is_less.true))))
-
-pub returns-then-not-is_less-clause-steps : goal.returns-then-not-is_less-clause-steps
-returns-then-not-is_less-clause-steps g c h few =
-    steps-more (64 * (h + 1)) (c.loop-at.at + 1) (length c.args.self.now + 1) c.args.steps.now c.loop-at.steps c.key_at.new.steps (omega (arith, c.len-at-end.ensures.len)) (c.loop-at.invariant.steps h few) (c.key_at.ensures.steps h few)
+pub loop-low-preserved-then-is_less : goal.loop-low-preserved-then-is_less
+loop-low-preserved-then-is_less g c =
+    let low = c.loop-low.low in
+    let high = c.loop-low.high in
+    let middle = low + (high - low) / 2 in
+    let left = c.loop-low.invariant.left in
+    let next = halved (high - low) left (omega (arith, c.loop-low-test.true)) c.loop-low.invariant.narrow in
+    let within : middle < length c.args.self.now = omega (arith, c.loop-low-test.true, c.loop-low.invariant.within) in
+    let here : (d : Placed g.row.P.Denot) → placed_le c.args.fresh.now (get_or c.args.self.now middle d) ≡ false =
+    λ d. not_le-from_key c.args.fresh.now (get_or c.args.self.now middle d)
+    (subst (λ k. is_lt (key_cmp k (key_of c.args.fresh.now)) ≡ true) (c.key_at.ensures.key d) (subst (λ k. is_lt (key_cmp c.key_at.result k) ≡ true) c.key-key.ensures (ap is_lt (sym c.cmp.ensures) ∙ sym c.is_lt-is_less.ensures ∙ c.if-is_less.true))) in
+    record {
+      order = omega (arith, c.loop-low-test.true);
+      within = c.loop-low.invariant.within;
+      less = λ k d lt. below_more (λ n. placed_le c.args.fresh.now (get_or c.args.self.now n d) ≡ false) middle
+          (above-before placed_le le-trans c.args.fresh.now c.args.self.now (sorted-placed c.args.self.now c.requires.ordered.sorted) middle d within (here d)) (here d) k lt;
+      not_less = c.loop-low.invariant.not_less;
+      left = left - 1;
+      few = omega (arith, c.loop-low.invariant.few);
+      narrow = omega (arith, next.1);
+      steps = λ h few. steps-more (64 * (h + 1)) (32 - left) (32 - (left - 1)) c.args.steps.now c.loop-low.steps c.key_at.new.steps (omega (arith, next.0, c.loop-low.invariant.few)) (c.loop-low.invariant.steps h few) (c.key_at.ensures.steps h few);
+    }
 
 pub returns-clause-place : goal.returns-clause-place
 returns-clause-place g c =
-    place-at placed_le c.args.fresh.now c.args.self.now c.len.result (omega (arith, c.len.ensures.len)) (λ k d lt. c.loop-at.invariant.less k d (omega (arith, c.loop-at-test.false, c.len-at-end.ensures.len, c.len.ensures.len)))
-    (λ d lt. absurd (omega (arith, c.len.ensures.len)))
+    let turn : c.loop-low.high ≡ c.loop-low.low = omega (arith, c.loop-low-test.false, c.loop-low.invariant.order) in
+    place-at placed_le c.args.fresh.now c.args.self.now c.loop-low.low (omega (arith, c.loop-low.invariant.order, c.loop-low.invariant.within)) c.loop-low.invariant.less
+    (λ d lt. subst (λ n. placed_le c.args.fresh.now (get_or c.args.self.now n d) ≡ true) turn (c.loop-low.invariant.not_less d (omega (arith, lt, turn))))
+
+pub returns-clause-steps : goal.returns-clause-steps
+returns-clause-steps g c h few =
+    let spent = c.loop-low.invariant.steps h few in
+    let most : 32 - c.loop-low.invariant.left ≤ 32 = omega arith in
+    omega (arith, spent, mul-le-mul_left (64 * (h + 1)) most)

@@ -1,11 +1,20 @@
-use Rattle.std.proofs.Common.{◌≡◌, ℕ, ◌+◌, ◌*◌, ◌^◌, ◌<◌, ◌≤◌, false, length, get_or}
+use Rattle.std.proofs.Common.{◌≡◌, ℕ, ◌+◌, ◌-◌, ◌*◌, ◌^◌, ◌<◌, ◌≤◌, true, false, length, get_or}
 use Rattle.mark_tree.specs.declared.entry.Placed.{Placed}
 use Rattle.mark_tree.specs.Order.{placed_le}
 use Rattle.mark_tree.proofs.spaced.Spaced.place_for.Given as goal
 
-abbrev pub invariant-loop-at : goal.invariant-loop-at
-invariant-loop-at g l = record {
-  less : (k : ℕ) (d : Placed g.row.P.Denot) → k < l.at → placed_le l.fresh (get_or l.self k d) ≡ false;
-  steps : (h : ℕ) → length l.self < 2 * 6 ^ (h + 1) → l.steps ≤ l.fn.steps + 64 * (h + 1) * (l.at + 1);
-  within : l.at ≤ length l.self;
+-- The place lies between the two, and `left` more rounds find it.
+abbrev pub invariant-loop-low : goal.invariant-loop-low
+invariant-loop-low g l = record {
+  order : l.low ≤ l.high;
+  within : l.high ≤ length l.self;
+  less : (k : ℕ) (d : Placed g.row.P.Denot) → k < l.low → placed_le l.fresh (get_or l.self k d) ≡ false;
+  not_less : (d : Placed g.row.P.Denot) → l.high < length l.self → placed_le l.fresh (get_or l.self l.high d) ≡ true;
+  left : ℕ;
+  few : left ≤ 32;
+  narrow : l.high - l.low < 2 ^ left;
+  steps : (h : ℕ) → length l.self < 2 * 6 ^ (h + 1) → l.steps ≤ l.fn.steps + 64 * (h + 1) * (32 - left);
 }
+
+abbrev pub decreases-loop-low : goal.decreases-loop-low
+decreases-loop-low g l = l.high - l.low

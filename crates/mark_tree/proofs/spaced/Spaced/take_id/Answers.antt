@@ -63,5 +63,5 @@ returns-clause-steps g c h few =
     ap (λ l. spliced c.in-Some.at (c.in-Some.at + 1) l no_shift c.args.self.now) c.new.ensures.items ∙ spliced-taken c.in-Some.at c.args.id c.args.self.now found.0 found.1 (c.requires.ordered.distinct c.args.id) in
     let new : length (spliced c.in-Some.at (c.in-Some.at + 1) c.new.result.items no_shift c.args.self.now) < 2 * 6 ^ (h + 1) =
     omega (arith, few, ap length made, length-taken c.args.id c.args.self.now) in
-    take-steps h (length c.args.self.now) c.args.steps.now c.find_id.new.steps c.copy_at.new.steps c.splice.new.steps (c.find_id.ensures.steps h few) (c.in_ok-taken.ensures.steps h few)
+    take-steps h (length c.args.self.now) c.args.steps.now c.find_id.new.steps c.copy_at.new.steps c.splice.new.steps c.find_id.ensures.steps (c.in_ok-taken.ensures.steps h few)
     (omega (arith, c.in_ok-splice.ensures.steps h few new, ap length c.new.ensures.items))
