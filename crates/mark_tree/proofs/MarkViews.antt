@@ -12,7 +12,7 @@ use Rattle.mark_tree.specs.Entries.{end_at, IsCodable}
 use Rattle.mark_tree.specs.Marks.{mark_le, has_id, lacks_id, move_mark, moved_marks, IsMarkList}
 use Rattle.mark_tree.specs.Order.{placed_le, has_placed_id, lacks_placed_id, move_placed, moved_placed, IsOrdered}
 use Rattle.mark_tree.specs.Views.{mark_of, AreMarks}
-use Rattle.mark_tree.proofs.Sorting.{Every, count-cons, every-insert, every-sort}
+use Rattle.mark_tree.proofs.Sorting.{Every, count-cons, every-insert, every-sort, insert-map, sort-map}
 use Rattle.mark_tree.proofs.Changing.{every-from_all, all-from_every}
 use Rattle.mark_tree.proofs.Finding.{position-found, position-none}
 use Rattle.mark_tree.proofs.Moved.{length-map}
@@ -36,17 +36,10 @@ module _ {P : Type 0} where
   le-of p q a b = ap (λ r. in_order p.offset q.offset (in_order (bias_rank p.bias) (bias_rank q.bias) r)) (level p.length q.length (nat_le p.id q.id) a b)
 
   pub insert-of : (p : Placed P) (ps : List (Placed P)) → IsFlat p → Every IsFlat ps → map mark_of (insert_by placed_le p ps) ≡ insert_by mark_le (mark_of p) (map mark_of ps)
-  insert-of p [] a b = refl
-  insert-of p (q ∷ qs) a b = (λ i. map mark_of (cond (le-of p q a b.0 i) (p ∷ q ∷ qs) (q ∷ insert_by placed_le p qs))) ∙ go (mark_le (mark_of p) (mark_of q)) (insert-of p qs a b.1) where
-    go : (c : Bool) → map mark_of (insert_by placed_le p qs) ≡ insert_by mark_le (mark_of p) (map mark_of qs)
-        → map mark_of (cond c (p ∷ q ∷ qs) (q ∷ insert_by placed_le p qs)) ≡ cond c (mark_of p ∷ mark_of q ∷ map mark_of qs) (mark_of q ∷ insert_by mark_le (mark_of p) (map mark_of qs))
-    go true r = refl
-    go false r = ap (λ l. mark_of q ∷ l) r
+  insert-of p ps a b = insert-map mark_of placed_le mark_le IsFlat le-of p ps a b
 
   pub sort-of : (ps : List (Placed P)) → Every IsFlat ps → map mark_of (sort_by placed_le ps) ≡ sort_by mark_le (map mark_of ps)
-  sort-of [] a = refl
-  sort-of (p ∷ ps) a =
-      insert-of p (sort_by placed_le ps) a.0 (every-sort placed_le IsFlat ps a.1) ∙ ap (insert_by mark_le (mark_of p)) (sort-of ps a.1)
+  sort-of ps a = sort-map mark_of placed_le mark_le IsFlat le-of ps a
 
   flat-moved : (s : Shift) (ps : List (Placed P)) → Every IsFlat ps → Every IsFlat (map (move_placed s) ps)
   flat-moved s [] a = tt
