@@ -1,19 +1,16 @@
 -- Lists of ranges, as views of things that are ranges.
-use Rattle.std.proofs.Common.{◌≡◌, ℕ, zero, suc, ◌+◌, ◌-◌, ◌<◌, ◌≤◌, ◌^◌, ◌==◌, ◌&&◌, ◌||◌, nat_lt, nat_le, not, Bool, true, false, cond, List, [], ◌∷◌, length, map, filter, count_by, get_or, refl, sym, ap, subst, ◌∙◌, arith}
+use Rattle.std.proofs.Common.{◌≡◌, ℕ, zero, suc, ◌+◌, ◌<◌, ◌≤◌, ◌^◌, ◌==◌, ◌&&◌, ◌||◌, nat_lt, nat_le, not, Bool, true, false, cond, List, [], ◌∷◌, length, map, filter, count_by, get_or, refl, sym, ap, subst, ◌∙◌, arith}
 use Rattle.std.specs.List.{All, Contains, list_any}
 use Rattle.std.proofs.lemmas.List.Elements.{All-nil, All-cons, All-head, All-tail}
 use Rattle.std.proofs.lemmas.Bool.Decides.{nat_tests}
-use Rattle.cell_units.specs.declared.place.Bias.{Bias}
-use Rattle.cell_units.specs.declared.place.Bias.TheVariants.{Right}
 use Rattle.cell_units.specs.Record.{in_order, bias_rank}
 use Rattle.cell_units.specs.Sorting.{insert_by, sort_by}
 use Rattle.mark_tree.specs.declared.entry.Placed.{Placed}
-use Rattle.mark_tree.specs.declared.mark.RangeMark.{RangeMark}
 use Rattle.mark_tree.specs.Entries.{end_at, IsCodable}
 use Rattle.mark_tree.specs.Ranges.{range_le, has_range_id, lacks_range_id, IsRangeList}
-use Rattle.mark_tree.specs.Order.{placed_le, has_placed_id, lacks_placed_id, IsOrdered}
+use Rattle.mark_tree.specs.Order.{placed_le, has_placed_id, lacks_placed_id}
 use Rattle.mark_tree.specs.RangeViews.{range_of, IsRange, AreRanges}
-use Rattle.mark_tree.proofs.Sorting.{Every, count-cons, every-insert, insert-map, sort-map}
+use Rattle.mark_tree.proofs.Sorting.{count-cons, every-insert, insert-map, sort-map}
 use Rattle.mark_tree.proofs.Changing.{every-from_all, all-from_every}
 use Rattle.mark_tree.proofs.Moved.{length-map}
 

@@ -1,5 +1,5 @@
 -- What a replacement leaves of ranges.
-use Rattle.std.proofs.Common.{◌≡◌, ℕ, zero, suc, ◌+◌, ◌-◌, ◌<◌, ◌≤◌, ◌^◌, nat_lt, not, Bool, true, false, cond, List, [], ◌∷◌, ◌++◌, length, take, drop, map, filter, count_by, refl, sym, ap, subst, ◌∙◌, arith}
+use Rattle.std.proofs.Common.{◌≡◌, ℕ, zero, suc, ◌+◌, ◌-◌, ◌<◌, ◌≤◌, ◌^◌, nat_lt, not, Bool, true, false, cond, List, [], ◌∷◌, ◌++◌, length, take, drop, map, filter, count_by, refl, ap, ◌∙◌, arith}
 use Rattle.std.specs.List.{All}
 use Rattle.std.proofs.lemmas.List.Elements.{All-nil, All-cons, All-head, All-tail}
 use Rattle.std.proofs.lemmas.Bool.Decides.{nat_tests}
@@ -13,7 +13,7 @@ use Rattle.mark_tree.specs.Ranges.{range_le, move_range, is_kept, moved_ranges, 
 use Rattle.mark_tree.specs.RangeViews.{range_of, IsRange, AreRanges, moved_start, moved_end, is_left_over, move_extent, left_over, emptied_id, all_left_over, emptied_ids, IsFittingMoved}
 use Rattle.mark_tree.proofs.Sorting.{Every, count-cons, count-sort, length-sort, every-sort, sorted-sort, sort-again}
 use Rattle.mark_tree.proofs.Order.{le-total, le-trans}
-use Rattle.mark_tree.proofs.Changing.{every-from_all, all-from_every, codable-sorted, no_shift}
+use Rattle.mark_tree.proofs.Changing.{all-from_every, codable-sorted, no_shift}
 use Rattle.mark_tree.proofs.RangeViewed.{sort-range}
 
 test-below : (m n : ℕ) → nat_lt m n ≡ true → m < n

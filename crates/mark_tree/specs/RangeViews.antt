@@ -1,14 +1,13 @@
 -- What things at offsets are seen as, where they are ranges.
-use Rattle.std.specs.Prelude.{◌≡◌, ℕ, ◌+◌, ◌-◌, ◌<◌, ◌≤◌, ◌^◌, List, [], ◌∷◌, map, filter, not, nat_lt, Bool, if◌then◌else◌, take, drop, length}
-use Rattle.std.specs.List.{All, slice_index_or}
+use Rattle.std.specs.Prelude.{◌≡◌, ℕ, ◌-◌, ◌<◌, ◌^◌, List, [], ◌∷◌, map, filter, not, nat_lt, Bool, if◌then◌else◌}
+use Rattle.std.specs.List.{All}
 use Rattle.cell_units.specs.declared.place.Bias.TheVariants.{Left, Right}
 use Rattle.cell_units.specs.declared.place.Shift.{Shift}
 use Rattle.cell_units.specs.Anchor.{move}
-use Rattle.cell_units.specs.Sorting.{sort_by}
 use Rattle.mark_tree.specs.declared.entry.Placed.{Placed}
 use Rattle.mark_tree.specs.declared.mark.RangeMark.{RangeMark}
 use Rattle.mark_tree.specs.Entries.{end_at}
-use Rattle.mark_tree.specs.Order.{IsOrdered, placed_le}
+use Rattle.mark_tree.specs.Order.{IsOrdered}
 
 module _ {P : Type 0} where
   abbrev pub range_of : Placed P → RangeMark

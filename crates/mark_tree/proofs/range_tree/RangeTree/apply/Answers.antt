@@ -1,23 +1,12 @@
-use Rattle.std.proofs.Common.{◌≡◌, ℕ, ◌+◌, ◌-◌, ◌*◌, ◌<◌, ◌≤◌, ◌^◌, ◌∙◌, not, ap, sym, subst, refl, length, map, filter, IfErr, OnOk, IfOk, arith}
-use Rattle.std.specs.List.{All, list_any, Contains}
-use Rattle.std.proofs.lemmas.List.Elements.{All-filter, All-contains}
-use Rattle.cell_units.specs.declared.fault.Refusal.TheVariants.{IdInUse, UnknownId}
-use Rattle.cell_units.specs.declared.place.Bias.TheVariants.{Right}
-use Rattle.cell_units.specs.Sorting.{insert_by}
-use Rattle.mark_tree.specs.declared.load.NoLoad.{NoLoad}
-use Rattle.mark_tree.specs.declared.entry.Placed.{Placed}
-use Rattle.mark_tree.specs.Entries.{IsCodable, end_at}
-use Rattle.mark_tree.specs.Marks.{IsRefusedFor}
-use Rattle.mark_tree.specs.Ranges.{IsRangeList, range_le, has_range_id, lacks_range_id}
-use Rattle.mark_tree.specs.Order.{placed_le, has_placed_id, lacks_placed_id, IsOrdered}
-use Rattle.mark_tree.specs.RangeViews.{range_of, IsRange, AreRanges}
-use Rattle.mark_tree.proofs.RangeViewed.{insert-range, any-range, filter-range, contains-range, lawful-range, ranges-added}
-use Rattle.mark_tree.specs.RangeViews.{all_left_over, emptied_ids}
+use Rattle.std.proofs.Common.{◌≡◌, ◌<◌, ◌^◌, ◌∙◌, ap, sym, subst, map, IfOk}
+use Rattle.std.specs.List.{All}
+use Rattle.mark_tree.specs.Order.{placed_le}
+use Rattle.mark_tree.specs.RangeViews.{range_of}
+use Rattle.mark_tree.specs.RangeViews.{all_left_over}
 use Rattle.mark_tree.specs.Ranges.{move_range, moved_ranges, dropped_ids}
 use Rattle.cell_units.specs.Sorting.{sort_by}
 use Rattle.mark_tree.proofs.Shrunk.{ranges-of, gone-of, fits-range}
-use Rattle.mark_tree.proofs.Moved.{length-map}
-use Rattle.mark_tree.proofs.Splicing.{either, map-at_ok, map-at_err, ok-weaker}
+use Rattle.mark_tree.proofs.Splicing.{map-at_ok, map-at_err}
 use Rattle.mark_tree.proofs.range_tree.RangeTree.apply.Goals as goal
 
 pub move_ranges-requires-clause-ranges : goal.move_ranges-requires-clause-ranges
