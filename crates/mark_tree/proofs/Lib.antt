@@ -1,6 +1,7 @@
 pub mod Changing
 pub mod Coding
 pub mod Finding
+pub mod FirstReaching
 pub mod MarkViews
 pub mod Moved
 pub mod Order

@@ -6,5 +6,6 @@ pub mod Marks
 pub mod Order
 pub mod RangeViews
 pub mod Ranges
+pub mod Reaching
 pub mod Tested
 pub mod Views

@@ -18,6 +18,7 @@ mod mark_tree;
 mod moving;
 mod ordered;
 mod range_tree;
+mod reaching;
 mod shrinking;
 mod spaced;
 #[cfg(test)]
