@@ -10,3 +10,4 @@ pub mod Seeking
 pub mod Shrunk
 pub mod Sorting
 pub mod Splicing
+pub mod Walking

@@ -3,6 +3,7 @@ pub mod Entries
 pub mod ExtentLaws
 pub mod Extents
 pub mod Marks
+pub mod Meeting
 pub mod Order
 pub mod RangeViews
 pub mod Ranges
