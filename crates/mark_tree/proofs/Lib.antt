@@ -1,6 +1,7 @@
 pub mod Changing
 pub mod Coding
 pub mod Finding
+pub mod FirstReaching
 pub mod MarkViews
 pub mod Moved
 pub mod Order
@@ -9,3 +10,4 @@ pub mod Seeking
 pub mod Shrunk
 pub mod Sorting
 pub mod Splicing
+pub mod Walking

@@ -19,10 +19,10 @@ above-from_not_lt m n e = grind (arith, nat_tests)
 below-from_lt : (m n : ℕ) → is_lt (nat_cmp m n) ≡ true → m < n
 below-from_lt m n e = grind (arith, nat_tests)
 
-above-from_not_le : (m n : ℕ) → is_le (nat_cmp m n) ≡ false → n < m
+pub above-from_not_le : (m n : ℕ) → is_le (nat_cmp m n) ≡ false → n < m
 above-from_not_le m n e = grind (arith, nat_tests)
 
-below-from_le : (m n : ℕ) → is_le (nat_cmp m n) ≡ true → m ≤ n
+pub below-from_le : (m n : ℕ) → is_le (nat_cmp m n) ≡ true → m ≤ n
 below-from_le m n e = grind (arith, nat_tests)
 
 sought-number : (at place n : ℕ) → 1 ≤ place → place ≤ n + 1 → (1 ≤ place - 1 → place - 1 < place → min (place - 1) n ≤ at) → (place ≤ n → at < min place n) → place ≡ min at n + 1

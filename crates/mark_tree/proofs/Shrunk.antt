@@ -35,12 +35,6 @@ pub append-none : {X : Type 0} (xs : List X) → xs ++ [] ≡ xs
 append-none [] = refl
 append-none (x ∷ xs) = ap (λ l. x ∷ l) (append-none xs)
 
-pub filter-first : {X : Type 0} (p : X → Bool) (x : X) (xs : List X) → filter p (x ∷ xs) ≡ filter p (x ∷ []) ++ filter p xs
-filter-first p x xs = go (p x) where
-  go : (b : Bool) → cond b (x ∷ filter p xs) (filter p xs) ≡ cond b (x ∷ []) [] ++ filter p xs
-  go true = refl
-  go false = refl
-
 module _ {P : Type 0} where
   pub left-cons : (s : Shift) (p : Placed P) (ps : List (Placed P)) → all_left_over s (p ∷ ps) ≡ left_over s p ++ all_left_over s ps
   left-cons s p ps = go (is_left_over s p) where

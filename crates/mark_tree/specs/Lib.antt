@@ -3,8 +3,10 @@ pub mod Entries
 pub mod ExtentLaws
 pub mod Extents
 pub mod Marks
+pub mod Meeting
 pub mod Order
 pub mod RangeViews
 pub mod Ranges
+pub mod Reaching
 pub mod Tested
 pub mod Views

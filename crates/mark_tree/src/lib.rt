@@ -5,8 +5,9 @@
 //! anchors, and the list is sorted again; the ranges that it empties are dropped.
 //!
 //! Both keep their list in a sum tree, coded by the gaps between neighbouring offsets, so that a replacement changes one gap
-//! and the marks that it meets, and none of the many marks behind it. Of ranges, a replacement and a question which are met
-//! still read all of them. A call that is refused leaves the tree as it was.
+//! and the marks that it meets, and none of the many marks behind it. The ranges that are met are found by the greatest ends
+//! in the sums, each on a few paths through the tree; a replacement still reads all ranges. A call that is refused leaves
+//! the tree as it was.
 #![tactic(auto)]
 
 mod entry;
@@ -15,9 +16,11 @@ mod key;
 mod load;
 mod mark;
 mod mark_tree;
+mod meeting;
 mod moving;
 mod ordered;
 mod range_tree;
+mod reaching;
 mod shrinking;
 mod spaced;
 #[cfg(test)]

@@ -1,10 +1,8 @@
 //! The tree of ranges.
-ghost use Rattle.std.specs.Prelude.{◌≡◌, ℕ, ◌+◌, ◌*◌, ◌^◌, ◌<◌, ◌≤◌, ◌++◌, ◌∷◌, [], not, false, length, map, filter, count_by, All, Contains, IfOk, IfErr, OnOk, OnErr};
+ghost use Rattle.std.specs.Prelude.{◌≡◌, ℕ, ◌+◌, ◌*◌, ◌^◌, ◌<◌, ◌≤◌, [], not, false, length, map, filter, count_by, All, Contains, IfOk, IfErr, OnOk, OnErr};
 ghost use Rattle.std.specs.List.{list_any};
 ghost use Rattle.cell_units.specs.Sorting.{insert_by};
-ghost use Rattle.mark_tree.specs.Entries.{end_at};
 ghost use Rattle.mark_tree.specs.Marks.{IsRefusedFor};
-ghost use Rattle.mark_tree.specs.RangeViews.{range_of};
 ghost use Rattle.mark_tree.specs.Ranges.{IsRangeList, dropped_ids, has_in_common, has_range_id, lacks_range_id, move_range, moved_ranges, range_le};
 
 use crate::entry::Placed;
@@ -135,47 +133,9 @@ impl RangeTree {
         end: u32,
         steps: &mut Steps,
     ) -> Result<Vec<RangeMark>, NoMemory>
-        ensures { IfOk result (λ v. v.items ≡ filter (has_in_common start end) self.now) }
+        ensures met { IfOk result (λ v. v.items ≡ filter (has_in_common start end) self.now) }
+        ensures steps { (h : ℕ) → length self.now < 2 * 6 ^ (h + 1) → steps.new ≤ steps.old + 320 * (h + 1) * (count_by (has_in_common start end) self.now + 1) }
     {
-        let count = self.ranges.len();
-        let copies = self.ranges.copied(alloc, 0, count, steps)?;
-        common_with(alloc, copies, start, end)
+        self.ranges.all_met(alloc, start, end, steps)
     }
-}
-
-/// Those of the ranges that have a byte in common with those from `start` to `end`.
-fn common_with(
-    alloc: Global,
-    ranges: Vec<Placed<NoLoad>>,
-    start: u32,
-    end: u32,
-) -> Result<Vec<RangeMark>, NoMemory>
-    requires { All (λ p. end_at p < 2 ^ 32) ranges.items }
-    ensures { IfOk result (λ v. v.items ≡ filter (has_in_common start end) (map range_of ranges.items)) }
-{
-    let mut met = Vec::new(alloc);
-    for placed in ranges {
-        let range = RangeMark {
-            start: placed.offset,
-            end: placed.offset + placed.length,
-            id: placed.id,
-        };
-        push_met(&mut met, range, start, end)?;
-    }
-    Ok(met)
-}
-
-/// Adds the range where it has a byte in common with those from `start` to `end`.
-fn push_met(
-    met: &mut Vec<RangeMark>,
-    range: RangeMark,
-    start: u32,
-    end: u32,
-) -> Result<(), NoMemory>
-    ensures { OnOk result (met.new.items ≡ met.old.items ++ filter (has_in_common start end) (range ∷ [])) }
-{
-    if range.start < end && start < range.end {
-        met.push(range)?;
-    }
-    Ok(())
 }

@@ -17,7 +17,7 @@ use sum_tree::{Cursor, SumTree};
 /// What stands at offsets that don't fall and fit u32, as do all ends. Contracts see it as the list of these things.
 #[derive(Drop)]
 pub(crate) struct Spaced<P: Load> {
-    entries: SumTree<Entry<P>>,
+    pub(crate) entries: SumTree<Entry<P>>,
 }
 
 impl<P: Load> Model for Spaced<P> {
@@ -94,7 +94,7 @@ impl<P: Load> Spaced<P> {
     }
 
     /// The offset of the last thing before place `at`, and 0 where there is none.
-    fn offset_before(&self, at: u32, steps: &mut Steps) -> u32
+    pub(crate) fn offset_before(&self, at: u32, steps: &mut Steps) -> u32
         ensures offset { result ≡ last_offset 0 (take at self.now) }
         ensures steps { (h : ℕ) → length self.now < 2 * 6 ^ (h + 1) → steps.new ≤ steps.old + 64 * (h + 1) }
     {
