@@ -1,9 +1,9 @@
 -- Chunks made anew in the place of those that a range meets.
-use Rattle.std.proofs.Common.{◌≡◌, ◌≢◌, ℕ, zero, suc, ◌+◌, ◌-◌, ◌<◌, ◌≤◌, ◌++◌, List, [], ◌∷◌, length, length-append, length-drop, take, drop, get_or, ap, sym, ◌∙◌, subst, inl, inr, arith, append_assoc}
+use Rattle.std.proofs.Common.{◌≡◌, ◌≢◌, ℕ, zero, suc, ◌+◌, ◌-◌, ◌<◌, ◌≤◌, ◌++◌, min, List, [], ◌∷◌, length, length-append, length-drop, take, drop, get_or, ap, sym, ◌∙◌, subst, inl, inr, arith, append_assoc}
 use Rattle.std.specs.List.{All, concat}
 use Rattle.std.proofs.lemmas.Bool.{cases_lt}
-use Rattle.std.proofs.lemmas.List.{length-take-le}
-use Rattle.std.proofs.lemmas.List.Elements.{All-append, All-drop, All-get_or, All-head, All-tail, All-take}
+use Rattle.std.proofs.lemmas.List.{append-nil, length-take-le}
+use Rattle.std.proofs.lemmas.List.Elements.{All-append, All-cons, All-drop, All-get_or, All-head, All-nil, All-tail, All-take}
 use Rattle.std.proofs.lemmas.List.Folds.{concat-append}
 use Rattle.cell_units.specs.Text.{carriage_return}
 use Rattle.cell_units.specs.Operation.{replaced_text}
@@ -69,6 +69,38 @@ more_is_longer (c ∷ cs) (suc m) (suc n) are lt within =
 regroup : (left front s back right : List ℕ) → (left ++ ((front ++ s) ++ back)) ++ right ≡ (left ++ front) ++ (s ++ (back ++ right))
 regroup left front s back right = simp append_assoc
 
+-- a text and what stands between two places of the chunks, up to the range and from it on
+record IsAround (chunks : List (List ℕ)) (start end from to : ℕ) (front back : List ℕ) : Type 0 where
+  order : from ≤ to
+  within : to ≤ length chunks
+  before : concat (take from chunks) ++ front ≡ take start (concat chunks)
+  behind : back ++ concat (drop to chunks) ≡ drop end (concat chunks)
+  small : length front + length back ≤ 512
+
+-- chunks of that text with s between its parts take the place of those, where they are not short beside others
+renewed_among : (chunks : List (List ℕ)) (start end : ℕ) (s : List ℕ) (from to : ℕ) (front back : List ℕ) → IsRope chunks → IsAround chunks start end from to front back →
+    (made : List (List ℕ)) (whole : List ℕ) → whole ≡ (front ++ s) ++ back → concat made ≡ whole → AreChunks made → AreFilled made (length whole) →
+    (0 < from → (1 < length chunks) × (least ≤ length whole)) → (to < length chunks → (1 < length chunks) × (least ≤ length whole)) → IsRenewed chunks start end s from to made
+renewed_among chunks start end s from to front back rope around made whole e m cut filled some_before some_behind =
+    let all : concat made ≡ (front ++ s) ++ back = m ∙ e in
+    let long : length whole ≡ length front + length s + length back = omega (arith, ap length e, length-append (front ++ s) back, length-append front s) in
+    let own = filled_full made cut (subst (λ (n : ℕ). AreFilled made n) (sym (ap length m)) filled) in
+    let left = concat (take from chunks) in
+    let right = concat (drop to chunks) in
+    record {
+      order = around.order;
+      within = around.within;
+      cut = All-append IsChunk (take from chunks ++ made) (drop to chunks) (All-append IsChunk (take from chunks) made (All-take IsChunk from chunks rope.cut) cut) (All-drop IsChunk to chunks rope.cut);
+      full = subst AreFull (sym (append_assoc (take from chunks) made (drop to chunks)))
+          (renewed_full chunks made from to (length whole) rope.full own filled around.within some_before some_behind);
+      text = concat-append (take from chunks ++ made) (drop to chunks) ∙ ap (λ (t : List ℕ). t ++ right) (concat-append (take from chunks) made)
+          ∙ ap (λ (t : List ℕ). (left ++ t) ++ right) all
+          ∙ regroup left front s back right
+          ∙ ap (λ (t : List ℕ). t ++ (s ++ (back ++ right))) around.before
+          ∙ ap (λ (t : List ℕ). take start (concat chunks) ++ (s ++ t)) around.behind;
+      few = omega (arith, full_few made own, ap length m, long, around.small);
+    }
+
 module _ (chunks : List (List ℕ)) (start end : ℕ) (s : List ℕ) (from to : ℕ) (front back : List ℕ) (rope : IsRope chunks) (range : IsRange (concat chunks) start end)
     (before : IsPartBefore chunks start from front) (behind : IsPartBehind chunks end to back) where
   in_order : from ≤ to
@@ -85,25 +117,43 @@ module _ (chunks : List (List ℕ)) (start end : ℕ) (s : List ℕ) (from to : 
   pub renewed_by : (made : List (List ℕ)) (whole : List ℕ) → whole ≡ (front ++ s) ++ back → concat made ≡ whole → AreChunks made → AreFilled made (length whole) →
       IsRenewed chunks start end s from to made
   renewed_by made whole e m cut filled =
-      let all : concat made ≡ (front ++ s) ++ back = m ∙ e in
       let long : length whole ≡ length front + length s + length back = omega (arith, ap length e, length-append (front ++ s) back, length-append front s) in
-      let own = filled_full made cut (subst (λ (n : ℕ). AreFilled made n) (sym (ap length m)) filled) in
-      let left = concat (take from chunks) in
-      let right = concat (drop to chunks) in
-      record {
+      renewed_among chunks start end s from to front back rope (record {
         order = in_order;
         within = behind.within;
-        cut = All-append IsChunk (take from chunks ++ made) (drop to chunks) (All-append IsChunk (take from chunks) made (All-take IsChunk from chunks rope.cut) cut) (All-drop IsChunk to chunks rope.cut);
-        full = subst AreFull (sym (append_assoc (take from chunks) made (drop to chunks)))
-            (renewed_full chunks made from to (length whole) rope.full own filled behind.within
-            (λ lt. let h = before.full lt in (h.0, omega (arith, long, h.1))) (λ lt. let h = behind.full lt in (h.0, omega (arith, long, h.1))));
-        text = concat-append (take from chunks ++ made) (drop to chunks) ∙ ap (λ (t : List ℕ). t ++ right) (concat-append (take from chunks) made)
-            ∙ ap (λ (t : List ℕ). (left ++ t) ++ right) all
-            ∙ regroup left front s back right
-            ∙ ap (λ (t : List ℕ). t ++ (s ++ (back ++ right))) before.whole
-            ∙ ap (λ (t : List ℕ). take start (concat chunks) ++ (s ++ t)) behind.whole;
-        few = omega (arith, full_few made own, ap length m, long, before.small, behind.small);
-      }
+        before = before.whole;
+        behind = behind.whole;
+        small = omega (arith, before.small, behind.small);
+      }) made whole e m cut filled (λ lt. let h = before.full lt in (h.0, omega (arith, long, h.1))) (λ lt. let h = behind.full lt in (h.0, omega (arith, long, h.1)))
+
+-- ---- one chunk made anew by itself
+
+-- the chunk at the end of a range is that at its start too, where it begins before it
+pub begins_there : (chunks : List (List ℕ)) (start end : ℕ) (r : TextSize) → IsBefore chunks end r → r.bytes ≤ start → start ≤ end → IsBefore chunks start r
+begins_there chunks start end r found from order = record {
+  size = found.size;
+  within = found.within;
+  start = from;
+  end = omega (arith, found.end, order);
+}
+
+pub renewed_within : (chunks : List (List ℕ)) (start end : ℕ) (s : List ℕ) (r : TextSize) (front back chunk : List ℕ) → IsRope chunks → IsRange (concat chunks) start end →
+    IsBefore chunks end r → r.bytes ≤ start → r.chunks < length chunks →
+    front ≡ take (start - r.bytes) (get_or chunks r.chunks []) → back ≡ drop (end - r.bytes) (get_or chunks r.chunks []) →
+    chunk ≡ (front ++ s) ++ back → IsChunk chunk → (1 < length chunks → least ≤ length chunk) → IsRenewed chunks start end s r.chunks (r.chunks + 1) (chunk ∷ [])
+renewed_within chunks start end s r front back chunk rope range found from within f b e cut full =
+    let here = get_or chunks r.chunks [] in
+    let fits : end - r.bytes ≤ length here = within_chunk chunks end r found in
+    let around : IsAround chunks start end r.chunks (r.chunks + 1) front back = record {
+      order = omega arith;
+      within = omega (arith, within);
+      before = ap (λ (t : List ℕ). concat (take r.chunks chunks) ++ t) f ∙ sym (take_found chunks start r (begins_there chunks start end r found from range.0));
+      behind = ap (λ (t : List ℕ). t ++ concat (drop (r.chunks + 1) chunks)) b ∙ sym (drop_found chunks end r found);
+      small = omega (arith, ap length f, ap length b, length-take-le (start - r.bytes) here (omega (arith, fits, range.0)), length-drop (end - r.bytes) here, fits, chunk_small chunks r.chunks rope.cut, range.0);
+    } in
+    let filled : AreFilled (chunk ∷ []) (length chunk) = All-cons (λ (c : List ℕ). min least (length chunk) ≤ length c) chunk [] (omega arith) (All-nil (λ (c : List ℕ). min least (length chunk) ≤ length c)) in
+    renewed_among chunks start end s r.chunks (r.chunks + 1) front back rope around (chunk ∷ []) chunk e (append-nil chunk) (All-cons IsChunk chunk [] cut (All-nil IsChunk)) filled
+    (λ lt. let more : 1 < length chunks = omega (arith, lt, within) in (more, full more)) (λ lt. let more : 1 < length chunks = omega (arith, lt) in (more, full more))
 
 -- and they make the chunks of a rope, where the new text is within the limit
 pub renewed_rope : (chunks : List (List ℕ)) (start end : ℕ) (s : List ℕ) (from to : ℕ) (made : List (List ℕ)) → IsRope chunks → IsRenewed chunks start end s from to made →

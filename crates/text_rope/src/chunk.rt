@@ -12,6 +12,9 @@ use sum_core::{Dimension, Item, Summary};
 /// The most bytes in a chunk.
 pub(crate) const CHUNK_BYTES: usize = 128;
 
+/// The fewest bytes in a chunk that isn't alone.
+pub(crate) const LEAST_BYTES: usize = 60;
+
 /// How many bytes a part of a text has, how many line feeds are among them, and of how many chunks the part is made.
 /// Of two parts that begin at one place the longer is the greater.
 #[derive(Clone, Copy, Debug, PartialEq, Eq, PartialOrd, Ord)]
@@ -98,7 +101,7 @@ impl Chunk {
     ghost use Rattle.std.specs.Prelude.{◌≡◌, ◌^◌, ◌<◌, length, count_by, IfOk};
 
     /// A chunk of this text.
-    fn new(alloc: Global, text: &str) -> Result<Chunk, NoMemory>
+    pub(crate) fn new(alloc: Global, text: &str) -> Result<Chunk, NoMemory>
         requires { length text.now < 2 ^ 32 }
         ensures { IfOk result (λ c. c ≡ text.now) }
     {

@@ -1,12 +1,15 @@
-//! How a range of a text is replaced: the chunks that it meets, with a neighbour on each side, are made anew.
-ghost use Rattle.std.specs.Prelude.{◌≡◌, ◌+◌, ◌*◌, ◌≤◌, ◌<◌, ◌++◌, ◌^◌, ◌↔◌, ℕ, length, string_bytes, IfOk, IfErr, IsTrue};
+//! How a range of a text is replaced: by making anew the one chunk in which it lies, where that chunk stays neither short
+//! nor too long, and else the chunks that it meets, with a neighbour on each side.
+ghost use Rattle.std.specs.Prelude.{◌≡◌, ◌+◌, ◌*◌, ◌≤◌, ◌<◌, ◌++◌, ◌^◌, ◌↔◌, [], ◌⊎◌, ℕ, length, slice_index_or, string_bytes, IfOk, IfErr, IfNone, IfSome, IsTrue};
 ghost use Rattle.std.specs.List.{concat};
 ghost use Rattle.cell_units.specs.Text.{IsBoundary};
 ghost use Rattle.edit_patch.specs.Fits.{replacement};
+ghost use Rattle.text_rope.specs.Chunks.{IsChunk};
 ghost use Rattle.text_rope.specs.Edits.{IsNeighbourBefore, IsNeighbourBehind, IsPartBefore, IsPartBehind, IsRange, IsRenewed};
+ghost use Rattle.text_rope.specs.Finds.{IsBefore};
 ghost use Rattle.text_rope.specs.Ropes.{HasHeight, IsRope};
 
-use crate::chunk::{Chunk, chunks_of};
+use crate::chunk::{CHUNK_BYTES, Chunk, LEAST_BYTES, TextSize, chunks_of};
 use crate::find::{before, is_boundary, text_at};
 use cell_units::{Fault, NoMemory, Steps};
 use edit_patch::{Edit, Patch};
@@ -26,6 +29,28 @@ pub(crate) struct Renewal {
     pub from: u32,
     pub to: u32,
     pub chunks: Vec<Chunk>,
+}
+
+/// The text of a chunk, with the size of what stands before it.
+#[derive(Clone, Copy)]
+struct Found<'a> {
+    before: TextSize,
+    text: &'a str,
+}
+
+/// The chunk in which an offset lies, or at the end of which.
+fn found_at<'a>(chunks: &'a SumTree<Chunk>, offset: u32, steps: &mut Steps) -> Found<'a>
+    requires rope { IsRope chunks.now }
+    requires within { offset ≤ length (concat chunks.now) }
+    ensures found { IsBefore chunks.now offset result.before }
+    ensures here { result.text.now ≡ slice_index_or chunks.now result.before.chunks [] }
+    ensures steps { (h : ℕ) → HasHeight h (concat chunks.now) → steps.new ≤ steps.old + 128 * (h + 1) }
+{
+    let before = before(chunks, offset, steps);
+    Found {
+        before,
+        text: text_at(chunks, before.chunks, steps),
+    }
 }
 
 /// The chunk before a place, and its own place; no text where there is none.
@@ -75,25 +100,86 @@ fn part_before(
     Ok(Part { at, text })
 }
 
-/// The text behind the offset, up to the end of the neighbour of its chunk.
+/// The text behind the offset, up to the end of the neighbour of its chunk, which was found.
 fn part_behind(
     alloc: Global,
     chunks: &SumTree<Chunk>,
     offset: u32,
+    found: Found,
     steps: &mut Steps,
 ) -> Result<Part, NoMemory>
     requires rope { IsRope chunks.now }
     requires boundary { IsBoundary (concat chunks.now) offset }
+    requires found { IsBefore chunks.now offset found.before }
+    requires here { found.text.now ≡ slice_index_or chunks.now found.before.chunks [] }
     ensures part { IfOk result (λ p. IsPartBehind chunks.now offset p.at (string_bytes p.text)) }
-    ensures steps { (h : ℕ) → HasHeight h (concat chunks.now) → steps.new ≤ steps.old + 192 * (h + 1) }
+    ensures steps { (h : ℕ) → HasHeight h (concat chunks.now) → steps.new ≤ steps.old + 64 * (h + 1) }
 {
-    let before = before(chunks, offset, steps);
-    let (at, neighbour) = neighbour_behind(chunks, before.chunks + 1, steps);
-    let here = text_at(chunks, before.chunks, steps);
-    let (_, back) = here.split_at((offset - before.bytes) as usize);
+    let (at, neighbour) = neighbour_behind(chunks, found.before.chunks + 1, steps);
+    let (_, back) = found.text.split_at((offset - found.before.bytes) as usize);
     let mut text = String::from_str(alloc, back)?;
     text.push_str(neighbour)?;
     Ok(Part { at, text })
+}
+
+/// One chunk of these three texts; none exactly where they are too long for one, or have fewer than `least` bytes.
+fn joined_chunk(
+    alloc: Global,
+    front: &str,
+    text: &str,
+    back: &str,
+    least: usize,
+) -> Result<Option<Chunk>, NoMemory>
+    requires kept { length front.now + length back.now ≤ CHUNK_BYTES }
+    requires some { 0 < least }
+    ensures whole { IfOk result (λ o. IfSome o (λ c. c ≡ front.now ++ text.now ++ back.now)) }
+    ensures chunk { IfOk result (λ o. IfSome o (λ c. IsChunk c)) }
+    ensures least { IfOk result (λ o. IfSome o (λ c. least ≤ length c)) }
+    ensures none { IfOk result (λ o. IfNone o ((length (front.now ++ text.now ++ back.now) < least) ⊎ (CHUNK_BYTES < length (front.now ++ text.now ++ back.now)))) }
+{
+    let kept = front.len() + back.len();
+    if text.len() > CHUNK_BYTES - kept || kept + text.len() < least {
+        return Ok(None);
+    }
+    let mut whole = String::from_str(alloc, front)?;
+    whole.push_str(text)?;
+    whole.push_str(back)?;
+    Ok(Some(Chunk::new(alloc, whole.as_str())?))
+}
+
+/// The chunk that was found at the end of the range, made anew by itself; none where the range begins before it, or where
+/// it would be too long, or short without being alone.
+fn renewal_within(
+    alloc: Global,
+    chunks: &SumTree<Chunk>,
+    start: u32,
+    end: u32,
+    text: &str,
+    found: Found,
+) -> Result<Option<Renewal>, NoMemory>
+    requires rope { IsRope chunks.now }
+    requires range { IsRange (concat chunks.now) start end }
+    requires found { IsBefore chunks.now end found.before }
+    requires here { found.text.now ≡ slice_index_or chunks.now found.before.chunks [] }
+    ensures { IfOk result (λ o. IfSome o (λ r. IsRenewed chunks.now start end text.now r.from r.to r.chunks.items)) }
+{
+    let before = found.before;
+    if start < before.bytes || before.chunks >= chunks.len() {
+        return Ok(None);
+    }
+    let (front, _) = found.text.split_at((start - before.bytes) as usize);
+    let (_, back) = found.text.split_at((end - before.bytes) as usize);
+    let least = if chunks.len() > 1 { LEAST_BYTES } else { 1 };
+    let Some(chunk) = joined_chunk(alloc, front, text, back, least)? else {
+        return Ok(None);
+    };
+    let mut made = Vec::new(alloc);
+    made.push(chunk)?;
+    Ok(Some(Renewal {
+        from: before.chunks,
+        to: before.chunks + 1,
+        chunks: made,
+    }))
 }
 
 /// The chunks that hold the text in place of the range.
@@ -110,8 +196,12 @@ pub(crate) fn renewal_of(
     ensures renewed { IfOk result (λ r. IsRenewed chunks.now start end text.now r.from r.to r.chunks.items) }
     ensures steps { (h : ℕ) → HasHeight h (concat chunks.now) → steps.new ≤ steps.old + 384 * (h + 1) }
 {
+    let found = found_at(chunks, end, steps);
+    if let Some(renewal) = renewal_within(alloc, chunks, start, end, text, found)? {
+        return Ok(renewal);
+    }
     let front = part_before(alloc, chunks, start, steps)?;
-    let back = part_behind(alloc, chunks, end, steps)?;
+    let back = part_behind(alloc, chunks, end, found, steps)?;
     let mut whole = front.text;
     whole.push_str(text)?;
     whole.push_str(back.text.as_str())?;
