@@ -1,11 +1,12 @@
-//! Makes trees and ropes of the size that it is told, reads and changes them, and prints a check of what it read. On standard error
-//! it says how many nodes it opened or made.
+//! Makes trees, ropes and trees of marks of the size that it is told, reads and changes them, and prints a check of what it
+//! read. On standard error it says how many nodes it opened or made.
 //!
-//! The words are what to do, the number of items or bytes, and how often: `seek 1000000 1000000`. `bench/trees` times it. With no
-//! words it checks on a small tree that a change of a copy leaves the tree as it was.
+//! The words are what to do, the number of items, bytes or marks, and how often: `seek 1000000 1000000`. `bench/trees` times
+//! it. With no words it checks on a small tree that a change of a copy leaves the tree as it was.
 #![tactic(auto)]
 
 mod entry;
+mod marks;
 mod numbers;
 mod ropes;
 mod work;
@@ -35,6 +36,9 @@ enum Task {
     Letters,
     Offsets,
     Points,
+    Marks,
+    Shifts,
+    Places,
 }
 
 impl Order {
@@ -69,6 +73,9 @@ impl Task {
             "letters" => Task::Letters,
             "offsets" => Task::Offsets,
             "points" => Task::Points,
+            "marks" => Task::Marks,
+            "shifts" => Task::Shifts,
+            "places" => Task::Places,
             _ => Task::Check,
         }
     }
@@ -78,6 +85,7 @@ impl Task {
 fn carry_out(alloc: Global, order: &Order, steps: &mut Steps) -> Option<u64> {
     match order.task {
         Task::Rope | Task::Letters | Task::Offsets | Task::Points => on_rope(alloc, order, steps),
+        Task::Marks | Task::Shifts | Task::Places => on_marks(alloc, order, steps),
         _ => on_tree(alloc, order, steps).ok(),
     }
 }
@@ -103,6 +111,15 @@ fn on_rope(alloc: Global, order: &Order, steps: &mut Steps) -> Option<u64> {
         Task::Offsets => Some(ropes::find_offsets(&rope, order.times, steps)),
         Task::Points => Some(ropes::find_points(&rope, order.times, steps)),
         _ => Some(rope.line_count() as u64),
+    }
+}
+
+fn on_marks(alloc: Global, order: &Order, steps: &mut Steps) -> Option<u64> {
+    let mut tree = marks::build(alloc, order.items, steps).ok()?;
+    match order.task {
+        Task::Shifts => marks::shift_each(alloc, &mut tree, order.times, steps).ok(),
+        Task::Places => Some(marks::find_each(&tree, order.times, steps)),
+        _ => Some(tree.len() as u64),
     }
 }
 
