@@ -5,8 +5,8 @@
 //! anchors, and the list is sorted again; the ranges that it empties are dropped.
 //!
 //! Both keep their list in a sum tree, coded by the gaps between neighbouring offsets, so that a replacement changes one gap
-//! and the marks that it meets, and none of the many marks behind it. Of ranges, a replacement and a question which are met
-//! still read all of them. A call that is refused leaves the tree as it was.
+//! and the marks or ranges that it meets, and none of the many behind it. A question which ranges are met still reads all of
+//! them. A call that is refused leaves the tree as it was.
 #![tactic(auto)]
 
 mod entry;

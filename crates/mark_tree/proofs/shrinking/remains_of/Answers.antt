@@ -1,7 +1,7 @@
-use Rattle.std.proofs.Common.{◌≡◌, ◌<◌, ◌^◌, ◌++◌, ◌∷◌, ◌∙◌, ap, sym, subst, append_assoc}
+use Rattle.std.proofs.Common.{◌<◌, ◌^◌, ◌++◌, ◌∙◌, ap, sym, subst, append_assoc}
 use Rattle.std.specs.List.{All}
 use Rattle.std.specs.Vec.Iter.{into_iter_items}
-use Rattle.std.proofs.lemmas.List.Elements.{All-head, All-tail}
+use Rattle.std.proofs.lemmas.List.Elements.{All-tail}
 use Rattle.mark_tree.specs.Entries.{end_at}
 use Rattle.mark_tree.specs.RangeViews.{IsFittingMoved, all_left_over, emptied_ids, left_over, emptied_id}
 use Rattle.mark_tree.proofs.Shrunk.{left-cons, gone-cons}

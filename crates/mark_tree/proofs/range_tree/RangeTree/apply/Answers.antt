@@ -1,23 +1,14 @@
-use Rattle.std.proofs.Common.{◌≡◌, ℕ, ◌+◌, ◌-◌, ◌*◌, ◌<◌, ◌≤◌, ◌^◌, ◌∙◌, not, ap, sym, subst, refl, length, map, filter, IfErr, OnOk, IfOk, arith}
-use Rattle.std.specs.List.{All, list_any, Contains}
-use Rattle.std.proofs.lemmas.List.Elements.{All-filter, All-contains}
-use Rattle.cell_units.specs.declared.fault.Refusal.TheVariants.{IdInUse, UnknownId}
-use Rattle.cell_units.specs.declared.place.Bias.TheVariants.{Right}
-use Rattle.cell_units.specs.Sorting.{insert_by}
-use Rattle.mark_tree.specs.declared.load.NoLoad.{NoLoad}
-use Rattle.mark_tree.specs.declared.entry.Placed.{Placed}
-use Rattle.mark_tree.specs.Entries.{IsCodable, end_at}
-use Rattle.mark_tree.specs.Marks.{IsRefusedFor}
-use Rattle.mark_tree.specs.Ranges.{IsRangeList, range_le, has_range_id, lacks_range_id}
-use Rattle.mark_tree.specs.Order.{placed_le, has_placed_id, lacks_placed_id, IsOrdered}
-use Rattle.mark_tree.specs.RangeViews.{range_of, IsRange, AreRanges}
-use Rattle.mark_tree.proofs.RangeViewed.{insert-range, any-range, filter-range, contains-range, lawful-range, ranges-added}
-use Rattle.mark_tree.specs.RangeViews.{all_left_over, emptied_ids}
-use Rattle.mark_tree.specs.Ranges.{move_range, moved_ranges, dropped_ids}
+use Rattle.std.proofs.Common.{◌≡◌, ◌+◌, ◌*◌, ◌<◌, ◌≤◌, ◌^◌, ◌∙◌, ap, sym, subst, length, map, count_by, IfOk, arith}
+use Rattle.std.specs.List.{All}
+use Rattle.mark_tree.specs.Order.{placed_le}
+use Rattle.mark_tree.specs.RangeViews.{range_of}
+use Rattle.mark_tree.proofs.RangeViewed.{count-met}
+use Rattle.mark_tree.specs.RangeViews.{all_left_over, meets_extent}
+use Rattle.mark_tree.specs.Ranges.{is_range_met, move_range, moved_ranges, dropped_ids}
 use Rattle.cell_units.specs.Sorting.{sort_by}
 use Rattle.mark_tree.proofs.Shrunk.{ranges-of, gone-of, fits-range}
 use Rattle.mark_tree.proofs.Moved.{length-map}
-use Rattle.mark_tree.proofs.Splicing.{either, map-at_ok, map-at_err, ok-weaker}
+use Rattle.mark_tree.proofs.Splicing.{map-at_ok, map-at_err}
 use Rattle.mark_tree.proofs.range_tree.RangeTree.apply.Goals as goal
 
 pub move_ranges-requires-clause-ranges : goal.move_ranges-requires-clause-ranges
@@ -43,3 +34,10 @@ returns-clause-dropped c =
 
 pub returns-clause-err : goal.returns-clause-err
 returns-clause-err c = map-at_err (map range_of) c.move_ranges.result c.move_ranges.new.self c.self.inside.ranges c.args.self.now c.move_ranges.ensures.err c.self.view_is
+
+pub returns-clause-steps : goal.returns-clause-steps
+returns-clause-steps c h few =
+    let ps = c.self.inside.ranges in
+    let same : length ps ≡ length c.args.self.now = sym (length-map range_of ps) ∙ ap length c.self.view_is in
+    let met : count_by (meets_extent c.args.shift) ps ≡ count_by (is_range_met c.args.shift) c.args.self.now = count-met c.args.shift ps ∙ ap (count_by (is_range_met c.args.shift)) c.self.view_is in
+    subst (λ n. c.move_ranges.new.steps ≤ c.args.steps.now + 1400 * (h + 1) * (n + 1)) met (c.move_ranges.ensures.steps h (omega (arith, few, same)))

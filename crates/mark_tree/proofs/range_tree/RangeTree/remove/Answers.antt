@@ -1,19 +1,14 @@
-use Rattle.std.proofs.Common.{◌≡◌, ℕ, ◌+◌, ◌-◌, ◌*◌, ◌<◌, ◌≤◌, ◌^◌, ◌∙◌, not, ap, sym, subst, refl, length, map, filter, IfErr, OnOk, IfOk, arith}
+use Rattle.std.proofs.Common.{◌≡◌, ◌<◌, ◌^◌, ◌∙◌, not, ap, sym, subst, map, filter, IfErr, OnOk, IfOk, arith}
 use Rattle.std.specs.List.{All, list_any, Contains}
 use Rattle.std.proofs.lemmas.List.Elements.{All-filter, All-contains}
-use Rattle.cell_units.specs.declared.fault.Refusal.TheVariants.{IdInUse, UnknownId}
-use Rattle.cell_units.specs.declared.place.Bias.TheVariants.{Right}
-use Rattle.cell_units.specs.Sorting.{insert_by}
-use Rattle.mark_tree.specs.declared.load.NoLoad.{NoLoad}
-use Rattle.mark_tree.specs.declared.entry.Placed.{Placed}
-use Rattle.mark_tree.specs.Entries.{IsCodable, end_at}
+use Rattle.cell_units.specs.declared.fault.Refusal.TheVariants.{UnknownId}
+use Rattle.mark_tree.specs.Entries.{end_at}
 use Rattle.mark_tree.specs.Marks.{IsRefusedFor}
-use Rattle.mark_tree.specs.Ranges.{IsRangeList, range_le, has_range_id, lacks_range_id}
-use Rattle.mark_tree.specs.Order.{placed_le, has_placed_id, lacks_placed_id, IsOrdered}
-use Rattle.mark_tree.specs.RangeViews.{range_of, IsRange, AreRanges}
-use Rattle.mark_tree.proofs.RangeViewed.{insert-range, any-range, filter-range, contains-range, lawful-range, ranges-added}
-use Rattle.mark_tree.proofs.Moved.{length-map}
-use Rattle.mark_tree.proofs.Splicing.{either, map-at_ok, map-at_err, ok-weaker}
+use Rattle.mark_tree.specs.Ranges.{has_range_id, lacks_range_id}
+use Rattle.mark_tree.specs.Order.{lacks_placed_id}
+use Rattle.mark_tree.specs.RangeViews.{range_of, IsRange}
+use Rattle.mark_tree.proofs.RangeViewed.{any-range, filter-range, contains-range}
+use Rattle.mark_tree.proofs.Splicing.{either}
 use Rattle.mark_tree.proofs.range_tree.RangeTree.remove.Goals as goal
 use Rattle.mark_tree.proofs.range_tree.RangeTree.remove.Goals.{in-Ok, in-Err}
 
