@@ -2,10 +2,15 @@ pub mod Changing
 pub mod Coding
 pub mod Finding
 pub mod FirstReaching
+pub mod Grouped
+pub mod LeftOver
 pub mod MarkViews
 pub mod Moved
+pub mod MovedRanges
 pub mod Order
 pub mod RangeViewed
+pub mod Rounds
+pub mod Runs
 pub mod Seeking
 pub mod Shrunk
 pub mod Sorting

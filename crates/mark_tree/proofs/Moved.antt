@@ -76,16 +76,19 @@ pub part-below : {X : Type 0} (xs : List X) (i j : ℕ) → i ≤ j → take j x
 part-below xs i j le = let k : j ≡ i + (j - i) = omega arith in ap (λ n. take n xs) k ∙ take-add i (j - i) xs
 
 module _ {P : Type 0} where
+  pub below-above : (a b : ℕ) (ps : List (Placed P)) (i j : ℕ) → a ≤ b → i ≤ length ps → All (λ p. p.offset < a) (take i ps) → All (λ p. b ≤ p.offset) (drop j ps) → i ≤ j
+  below-above a b ps zero j order in' low high = omega arith
+  below-above a b [] (suc i) j order in' low high = absurd (omega arith)
+  below-above a b (p ∷ ps) (suc i) zero order in' low high =
+      absurd (omega (arith, All-head (λ q. q.offset < a) p (take i ps) low, All-head (λ q. b ≤ q.offset) p ps high))
+  below-above a b (p ∷ ps) (suc i) (suc j) order in' low high =
+      omega (arith, below-above a b ps i j order (omega arith) (All-tail (λ q. q.offset < a) p (take i ps) low) high)
+
   pub places-in_order : (a b : ℕ) (ps : List (Placed P)) (i j : ℕ) → a ≤ b → i ≤ length ps → All (λ p. p.offset < a) (take i ps) → All (λ p. b + 1 ≤ p.offset) (drop j ps) → i ≤ j
-  places-in_order a b ps zero j order in' low high = omega arith
-  places-in_order a b [] (suc i) j order in' low high = absurd (omega arith)
-  places-in_order a b (p ∷ ps) (suc i) zero order in' low high =
-      absurd (omega (arith, All-head (λ q. q.offset < a) p (take i ps) low, All-head (λ q. b + 1 ≤ q.offset) p ps high))
-  places-in_order a b (p ∷ ps) (suc i) (suc j) order in' low high =
-      omega (arith, places-in_order a b ps i j order (omega arith) (All-tail (λ q. q.offset < a) p (take i ps) low) high)
+  places-in_order a b ps i j order in' low high = below-above a (b + 1) ps i j (omega arith) in' low high
 
   -- all of the one list stand before all of the other
-  cross : (m : ℕ) (xs ys : List (Placed P)) → Every (λ x. x.offset < m) xs → Every (λ y. m ≤ y.offset) ys → Every (λ x. Every (λ y. placed_le x y ≡ true) ys) xs
+  pub cross : (m : ℕ) (xs ys : List (Placed P)) → Every (λ x. x.offset < m) xs → Every (λ y. m ≤ y.offset) ys → Every (λ x. Every (λ y. placed_le x y ≡ true) ys) xs
   cross m [] ys a b = tt
   cross m (x ∷ xs) ys a b = (above ys b, cross m xs ys a.1 b) where
     above : (zs : List (Placed P)) → Every (λ y. m ≤ y.offset) zs → Every (λ y. placed_le x y ≡ true) zs
@@ -110,7 +113,7 @@ module _ {P : Type 0} where
       let in' = move-within p.offset p.bias s.start s.end s.count a.0 (omega (arith, b.0)) in
       ((in'.0, omega (arith, in'.1)), moved-between s ps a.1 b.1)
 
-  shifted-above : (s : Shift) (ps : List (Placed P)) → s.start ≤ s.end → Every (λ p. s.end + 1 ≤ p.offset) ps → Every (λ p. s.start + s.count + 1 ≤ p.offset) (map (shifted s) ps)
+  pub shifted-above : (s : Shift) (ps : List (Placed P)) → s.start ≤ s.end → Every (λ p. s.end + 1 ≤ p.offset) ps → Every (λ p. s.start + s.count + 1 ≤ p.offset) (map (shifted s) ps)
   shifted-above s [] order a = tt
   shifted-above s (p ∷ ps) order a = (omega (arith, a.0), shifted-above s ps order a.1)
 
@@ -120,7 +123,7 @@ module _ {P : Type 0} where
     | inr e ↦ in_order-same (shifted s p).offset (shifted s q).offset _ (omega (arith, e.0)) e.1
   ]
 
-  shifted-sorted : (s : Shift) (ps : List (Placed P)) → s.start ≤ s.end → Every (λ p. s.end + 1 ≤ p.offset) ps → IsSorted placed_le ps → IsSorted placed_le (map (shifted s) ps)
+  pub shifted-sorted : (s : Shift) (ps : List (Placed P)) → s.start ≤ s.end → Every (λ p. s.end + 1 ≤ p.offset) ps → IsSorted placed_le ps → IsSorted placed_le (map (shifted s) ps)
   shifted-sorted s [] order a b = tt
   shifted-sorted s (p ∷ ps) order a b = (above ps a.1 b.0, shifted-sorted s ps order a.1 b.1) where
     above : (qs : List (Placed P)) → Every (λ q. s.end + 1 ≤ q.offset) qs → Every (λ q. placed_le p q ≡ true) qs → Every (λ q. placed_le (shifted s p) q ≡ true) (map (shifted s) qs)

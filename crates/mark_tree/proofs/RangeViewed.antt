@@ -3,13 +3,14 @@ use Rattle.std.proofs.Common.{◌≡◌, ℕ, zero, suc, ◌+◌, ◌<◌, ◌�
 use Rattle.std.specs.List.{All, Contains, list_any}
 use Rattle.std.proofs.lemmas.List.Elements.{All-nil, All-cons, All-head, All-tail}
 use Rattle.std.proofs.lemmas.Bool.Decides.{nat_tests}
+use Rattle.cell_units.specs.declared.place.Shift.{Shift}
 use Rattle.cell_units.specs.Record.{in_order, bias_rank}
 use Rattle.cell_units.specs.Sorting.{insert_by, sort_by}
 use Rattle.mark_tree.specs.declared.entry.Placed.{Placed}
 use Rattle.mark_tree.specs.Entries.{end_at, IsCodable}
-use Rattle.mark_tree.specs.Ranges.{range_le, has_range_id, lacks_range_id, IsRangeList}
+use Rattle.mark_tree.specs.Ranges.{is_range_met, range_le, has_range_id, lacks_range_id, IsRangeList}
 use Rattle.mark_tree.specs.Order.{placed_le, has_placed_id, lacks_placed_id}
-use Rattle.mark_tree.specs.RangeViews.{range_of, IsRange, AreRanges}
+use Rattle.mark_tree.specs.RangeViews.{range_of, IsRange, AreRanges, meets_extent}
 use Rattle.mark_tree.proofs.Sorting.{count-cons, every-insert, insert-map, sort-map}
 use Rattle.mark_tree.proofs.Changing.{every-from_all, all-from_every}
 use Rattle.mark_tree.proofs.Moved.{length-map}
@@ -67,6 +68,10 @@ module _ {P : Type 0} where
   pub count-range : (id : ℕ) (ps : List (Placed P)) → count_by (has_placed_id id) ps ≡ count_by (has_range_id id) (map range_of ps)
   count-range id [] = refl
   count-range id (p ∷ ps) = omega (arith, count-cons (has_placed_id id) p ps, count-range id ps, count-cons (has_range_id id) (range_of p) (map range_of ps))
+
+  pub count-met : (s : Shift) (ps : List (Placed P)) → count_by (meets_extent s) ps ≡ count_by (is_range_met s) (map range_of ps)
+  count-met s [] = refl
+  count-met s (p ∷ ps) = omega (arith, count-cons (meets_extent s) p ps, count-met s ps, count-cons (is_range_met s) (range_of p) (map range_of ps))
 
   pub contains-range : (p : Placed P) (ps : List (Placed P)) → Contains ps p → Contains (map range_of ps) (range_of p)
   contains-range p ps c = (c.0, omega (arith, c.1, length-map range_of ps), go ps c.0 c.1 ∙ ap range_of c.2) where

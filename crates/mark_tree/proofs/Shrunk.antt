@@ -1,5 +1,5 @@
 -- What a replacement leaves of ranges.
-use Rattle.std.proofs.Common.{◌≡◌, ℕ, zero, suc, ◌+◌, ◌-◌, ◌<◌, ◌≤◌, ◌^◌, nat_lt, not, Bool, true, false, cond, List, [], ◌∷◌, ◌++◌, length, take, drop, map, filter, count_by, refl, ap, ◌∙◌, arith}
+use Rattle.std.proofs.Common.{◌≡◌, ℕ, zero, suc, ◌+◌, ◌-◌, ◌<◌, ◌≤◌, ◌^◌, nat_lt, not, Bool, true, false, cond, List, [], ◌∷◌, ◌++◌, length, take, map, filter, count_by, refl, ap, ◌∙◌, arith, ◌*◌}
 use Rattle.std.specs.List.{All}
 use Rattle.std.proofs.lemmas.List.Elements.{All-nil, All-cons, All-head, All-tail}
 use Rattle.std.proofs.lemmas.Bool.Decides.{nat_tests}
@@ -7,13 +7,13 @@ use Rattle.cell_units.specs.declared.place.Shift.{Shift}
 use Rattle.cell_units.specs.Sorting.{sort_by}
 use Rattle.mark_tree.specs.declared.entry.Placed.{Placed}
 use Rattle.mark_tree.specs.declared.mark.RangeMark.{RangeMark}
-use Rattle.mark_tree.specs.Entries.{end_at, IsCodable, shifted, spliced}
+use Rattle.mark_tree.specs.Entries.{end_at, IsCodable}
 use Rattle.mark_tree.specs.Order.{placed_le, has_placed_id, IsOrdered}
 use Rattle.mark_tree.specs.Ranges.{range_le, move_range, is_kept, moved_ranges, dropped_ids}
 use Rattle.mark_tree.specs.RangeViews.{range_of, IsRange, AreRanges, moved_start, moved_end, is_left_over, move_extent, left_over, emptied_id, all_left_over, emptied_ids, IsFittingMoved}
 use Rattle.mark_tree.proofs.Sorting.{Every, count-cons, count-sort, length-sort, every-sort, sorted-sort, sort-again}
 use Rattle.mark_tree.proofs.Order.{le-total, le-trans}
-use Rattle.mark_tree.proofs.Changing.{all-from_every, codable-sorted, no_shift}
+use Rattle.mark_tree.proofs.Changing.{all-from_every, codable-sorted}
 use Rattle.mark_tree.proofs.RangeViewed.{sort-range}
 
 test-below : (m n : ℕ) → nat_lt m n ≡ true → m < n
@@ -24,12 +24,6 @@ take-whole [] zero e = refl
 take-whole [] (suc n) e = refl
 take-whole (x ∷ xs) zero e = absurd (omega arith)
 take-whole (x ∷ xs) (suc n) e = ap (λ l. x ∷ l) (take-whole xs n (omega arith))
-
-drop-whole : {X : Type 0} (xs : List X) (n : ℕ) → n ≡ length xs → drop n xs ≡ []
-drop-whole [] zero e = refl
-drop-whole [] (suc n) e = refl
-drop-whole (x ∷ xs) zero e = absurd (omega arith)
-drop-whole (x ∷ xs) (suc n) e = drop-whole xs n (omega arith)
 
 pub append-none : {X : Type 0} (xs : List X) → xs ++ [] ≡ xs
 append-none [] = refl
@@ -49,7 +43,7 @@ module _ {P : Type 0} where
     go false = refl
 
   -- what holds of each that is left over
-  each-left : (Q : Placed P → Type 0) (s : Shift) (ps : List (Placed P)) → Every (λ p. is_left_over s p ≡ true → Q (move_extent s p)) ps → Every Q (all_left_over s ps)
+  pub each-left : (Q : Placed P → Type 0) (s : Shift) (ps : List (Placed P)) → Every (λ p. is_left_over s p ≡ true → Q (move_extent s p)) ps → Every Q (all_left_over s ps)
   each-left Q s [] a = tt
   each-left Q s (p ∷ ps) a = go (is_left_over s p) a.0 (each-left Q s ps a.1) where
     go : (b : Bool) → (b ≡ true → Q (move_extent s p)) → Every Q (all_left_over s ps) → Every Q (map (move_extent s) (cond b (p ∷ filter (is_left_over s) ps) (filter (is_left_over s) ps)))
@@ -69,7 +63,7 @@ module _ {P : Type 0} where
   ends-every s (p ∷ ps) a =
       ((λ e. let lt = test-below (moved_start s p) (moved_end s p) e in let fit = (All-head (IsFittingMoved s) p ps a).1 in omega arith), ends-every s ps (All-tail (IsFittingMoved s) p ps a))
 
-  count-left : (s : Shift) (id : ℕ) (ps : List (Placed P)) → count_by (has_placed_id id) (all_left_over s ps) ≤ count_by (has_placed_id id) ps
+  pub count-left : (s : Shift) (id : ℕ) (ps : List (Placed P)) → count_by (has_placed_id id) (all_left_over s ps) ≤ count_by (has_placed_id id) ps
   count-left s id [] = omega arith
   count-left s id (p ∷ ps) = go (is_left_over s p) (count-left s id ps) where
     go : (b : Bool) → count_by (has_placed_id id) (all_left_over s ps) ≤ count_by (has_placed_id id) ps
@@ -77,14 +71,14 @@ module _ {P : Type 0} where
     go true r = omega (arith, count-cons (has_placed_id id) (move_extent s p) (all_left_over s ps), count-cons (has_placed_id id) p ps, r)
     go false r = omega (arith, count-cons (has_placed_id id) p ps, r)
 
-  length-left : (s : Shift) (ps : List (Placed P)) → length (all_left_over s ps) ≤ length ps
+  pub length-left : (s : Shift) (ps : List (Placed P)) → length (all_left_over s ps) ≤ length ps
   length-left s [] = omega arith
   length-left s (p ∷ ps) = go (is_left_over s p) (length-left s ps) where
     go : (b : Bool) → length (all_left_over s ps) ≤ length ps → length (map (move_extent s) (cond b (p ∷ filter (is_left_over s) ps) (filter (is_left_over s) ps))) ≤ suc (length ps)
     go true r = omega (arith, r)
     go false r = omega (arith, r)
 
-  pub distinct-left : (s : Shift) (ps : List (Placed P)) → IsOrdered ps → (id : ℕ) → count_by (has_placed_id id) (all_left_over s ps) ≤ 1
+  distinct-left : (s : Shift) (ps : List (Placed P)) → IsOrdered ps → (id : ℕ) → count_by (has_placed_id id) (all_left_over s ps) ≤ 1
   distinct-left s ps o id = omega (arith, count-left s id ps, o.distinct id)
 
   pub codable-left : (s : Shift) (ps : List (Placed P)) → All (IsFittingMoved s) ps → length ps < 2 ^ 32 → IsCodable (sort_by placed_le (all_left_over s ps))
@@ -101,10 +95,6 @@ module _ {P : Type 0} where
       distinct = λ id. omega (arith, count-sort placed_le (has_placed_id id) (all_left_over s ps), distinct-left s ps a.ordered id);
     };
   }
-
-  -- all in the place of all
-  pub spliced-whole : (ps qs : List (Placed P)) (n : ℕ) → n ≡ length ps → spliced 0 n qs no_shift ps ≡ qs
-  spliced-whole ps qs n e = ap (λ l. qs ++ map (shifted no_shift) l) (drop-whole ps n e) ∙ append-none qs
 
   move-of : (s : Shift) (p : Placed P) → is_left_over s p ≡ true → range_of (move_extent s p) ≡ move_range s (range_of p)
   move-of s p e =
@@ -137,3 +127,6 @@ module _ {P : Type 0} where
   fits-range s (p ∷ ps) f =
       All-cons (IsFittingMoved s) p ps (All-head (λ r. (r.start < 2 ^ 32) × (r.end < 2 ^ 32)) (move_range s (range_of p)) (map (move_range s) (map range_of ps)) f)
       (fits-range s ps (All-tail (λ r. (r.start < 2 ^ 32) × (r.end < 2 ^ 32)) (move_range s (range_of p)) (map (move_range s) (map range_of ps)) f))
+
+pub run-steps : (h k n s₀ s₁ s₂ : ℕ) → n ≤ k → s₁ ≤ s₀ + 64 * (h + 1) * k → s₂ ≤ s₁ + 928 * (h + 1) + 4 * (n + 2) → s₂ ≤ s₀ + 936 * (h + 1) + 68 * (h + 1) * k
+run-steps h k n s₀ s₁ s₂ few a b = omega arith

@@ -8,6 +8,10 @@ use Rattle.mark_tree.specs.declared.entry.Entry.{Entry}
 use Rattle.mark_tree.specs.declared.entry.Placed.{Placed}
 use Rattle.mark_tree.specs.Extents.{extent, none, both}
 
+-- those from place `from` to place `to`
+abbrev pub run : {X : Type 0} → ℕ → ℕ → List X → List X
+run from to xs = take (to - from) (drop from xs)
+
 module _ {P : Type 0} where
   abbrev pub extent_of : Entry P → Extent
   extent_of e = extent 1 e.gap e.length

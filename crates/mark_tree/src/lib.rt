@@ -5,9 +5,8 @@
 //! anchors, and the list is sorted again; the ranges that it empties are dropped.
 //!
 //! Both keep their list in a sum tree, coded by the gaps between neighbouring offsets, so that a replacement changes one gap
-//! and the marks that it meets, and none of the many marks behind it. The ranges that are met are found by the greatest ends
-//! in the sums, each on a few paths through the tree; a replacement still reads all ranges. A call that is refused leaves
-//! the tree as it was.
+//! and the marks or ranges that it meets, and none of the many behind it. The ranges that reach a place are found by the
+//! greatest ends in the sums, each on a few paths through the tree. A call that is refused leaves the tree as it was.
 #![tactic(auto)]
 
 mod entry;

@@ -3,7 +3,7 @@ ghost use Rattle.std.specs.Prelude.{◌≡◌, ℕ, ◌+◌, ◌*◌, ◌^◌, �
 ghost use Rattle.std.specs.List.{list_any};
 ghost use Rattle.cell_units.specs.Sorting.{insert_by};
 ghost use Rattle.mark_tree.specs.Marks.{IsRefusedFor};
-ghost use Rattle.mark_tree.specs.Ranges.{IsRangeList, dropped_ids, has_in_common, has_range_id, lacks_range_id, move_range, moved_ranges, range_le};
+ghost use Rattle.mark_tree.specs.Ranges.{IsRangeList, dropped_ids, has_in_common, has_range_id, is_range_met, lacks_range_id, move_range, moved_ranges, range_le};
 
 use crate::entry::Placed;
 use crate::load::NoLoad;
@@ -121,6 +121,7 @@ impl RangeTree {
         ensures ok { OnOk result (self.new ≡ moved_ranges shift self.old) }
         ensures dropped { IfOk result (λ ids. ids.items ≡ dropped_ids shift self.old) }
         ensures err { OnErr result (self.new ≡ self.old) }
+        ensures steps { (h : ℕ) → length self.old < 2 * 6 ^ (h + 1) → steps.new ≤ steps.old + 1400 * (h + 1) * (count_by (is_range_met shift) self.old + 1) }
     {
         self.ranges.move_ranges(alloc, &shift, steps)
     }

@@ -1,9 +1,9 @@
 //! How a replacement moves ranges, and which it empties.
-ghost use Rattle.std.specs.Prelude.{◌≡◌, ℕ, ◌+◌, ◌^◌, ◌<◌, ◌≤◌, ◌++◌, All, IfOk, OnOk, OnErr};
+ghost use Rattle.std.specs.Prelude.{◌≡◌, ℕ, ◌+◌, ◌-◌, ◌*◌, ◌^◌, ◌<◌, ◌≤◌, ◌++◌, length, take, drop, count_by, All, IfOk, OnOk, OnErr};
 ghost use Rattle.cell_units.specs.Sorting.{sort_by};
-ghost use Rattle.mark_tree.specs.Entries.{end_at};
-ghost use Rattle.mark_tree.specs.Order.{IsOrdered, placed_le};
-ghost use Rattle.mark_tree.specs.RangeViews.{AreRanges, IsFittingMoved, IsRange, all_left_over, emptied_id, emptied_ids, left_over};
+ghost use Rattle.mark_tree.specs.Entries.{IsCodable, end_at, run, spliced};
+ghost use Rattle.mark_tree.specs.Order.{has_placed_id, placed_le};
+ghost use Rattle.mark_tree.specs.RangeViews.{AreRanges, AreSplit, IsFittingMoved, IsGroup, all_left_over, emptied_id, emptied_ids, left_over, meets_extent, moved_extents};
 
 use crate::entry::Placed;
 use crate::key::sort_placed;
@@ -85,15 +85,93 @@ impl<P: Load> Spaced<P> {
         ensures dropped { IfOk result (λ ids. ids.items ≡ emptied_ids shift.now self.old) }
         ensures err { OnErr result (self.new ≡ self.old) }
         ensures ranges { AreRanges self.new }
+        ensures steps { (h : ℕ) → length self.old < 2 * 6 ^ (h + 1) → steps.new ≤ steps.old + 1400 * (h + 1) * (count_by (meets_extent shift.now) self.old + 1) }
     {
-        let count = self.len();
-        let copies = self.copied(alloc, 0, count, steps)?;
+        // The number of ranges is a u32.
+        let _count = self.len();
+        let first = self.first_at(shift.start as u64, steps);
+        let last = self.first_at(shift.end as u64 + 1, steps);
+        let mut moved = self.share()?;
+        moved.move_before(alloc, first, shift, steps)?;
+        let dropped = moved.move_run(alloc, first, last, shift, shift, steps)?;
+        *self = moved;
+        Ok(dropped)
+    }
+
+    /// Moves the ranges that start before the replacement, which are those before place `first`: start by start, those that
+    /// reach it. After want of memory only some are moved.
+    fn move_before(
+        &mut self,
+        alloc: Global,
+        first: u32,
+        shift: &Shift,
+        steps: &mut Steps,
+    ) -> Result<(), NoMemory>
+        requires { AreSplit shift.now first self.old }
+        ensures ok { OnOk result (self.new ≡ moved_extents shift.now (take first self.old) ++ drop first self.old) }
+        ensures steps { (h : ℕ) → length self.old < 2 * 6 ^ (h + 1) → steps.new ≤ steps.old + 1400 * (h + 1) * count_by (meets_extent shift.now) (take first self.old) + 256 * (h + 1) }
+    {
+        let start = shift.start as u64;
+        let mut at = 0;
+        loop {
+            // Each end is a u32.
+            let _count = self.len();
+            let from = self.first_reaching(alloc, at, start, steps)?;
+            if from >= first {
+                return Ok(());
+            }
+            let to = self.group_end(from, steps);
+            self.move_run(alloc, from, to, shift, &NO_SHIFT, steps)?;
+            at = to;
+        }
+    }
+
+    /// The place behind those that start where the one at place `from` does.
+    fn group_end(&self, from: u32, steps: &mut Steps) -> u32
+        requires { from < length self.now }
+        ensures group { IsGroup from result self.now }
+        ensures steps { (h : ℕ) → length self.now < 2 * 6 ^ (h + 1) → steps.new ≤ steps.old + 128 * (h + 1) }
+    {
+        // The offsets don't fall.
+        let _count = self.len();
+        match self.get(from, steps) {
+            Some(found) => self.first_at(found.offset as u64 + 1, steps),
+            None => unreachable!(),
+        }
+    }
+
+    /// Puts what the replacement leaves of those from place `from` to place `to` in their place, sorted again, and moves all
+    /// that lies behind them as `behind` does. It answers the ids of those that the replacement empties.
+    fn move_run(
+        &mut self,
+        alloc: Global,
+        from: u32,
+        to: u32,
+        shift: &Shift,
+        behind: &Shift,
+        steps: &mut Steps,
+    ) -> Result<Vec<u32>, NoMemory>
+        requires order { from ≤ to }
+        requires within { to ≤ length self.old }
+        requires replaced { shift.now.start ≤ shift.now.end }
+        requires fits { All (IsFittingMoved shift.now) (run from to self.old) }
+        requires distinct { (id : ℕ) → count_by (has_placed_id id) (run from to self.old) ≤ 1 }
+        requires before { behind.now.start ≤ behind.now.end }
+        requires behind { All (λ p. behind.now.end ≤ p.offset) (drop to self.old) }
+        requires codable { IsCodable (spliced from to (moved_extents shift.now (run from to self.old)) behind.now self.old) }
+        ensures ok { OnOk result (self.new ≡ spliced from to (moved_extents shift.now (run from to self.old)) behind.now self.old) }
+        ensures dropped { IfOk result (λ ids. ids.items ≡ emptied_ids shift.now (run from to self.old)) }
+        ensures steps { (h : ℕ) → length self.old < 2 * 6 ^ (h + 1) → length (spliced from to (moved_extents shift.now (run from to self.old)) behind.now self.old) < 2 * 6 ^ (h + 1) → steps.new ≤ steps.old + 936 * (h + 1) + 68 * (h + 1) * (to - from) }
+    {
+        // Each end is a u32.
+        let _count = self.len();
+        let copies = self.copied(alloc, from, to, steps)?;
         let Remains {
             ranges: mut moved,
             dropped,
         } = remains_of(alloc, copies, shift)?;
         sort_placed(&mut moved)?;
-        self.splice(alloc, 0, count, moved, &NO_SHIFT, steps)?;
+        self.splice(alloc, from, to, moved, behind, steps)?;
         Ok(dropped)
     }
 }

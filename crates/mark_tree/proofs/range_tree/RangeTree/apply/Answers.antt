@@ -1,11 +1,13 @@
-use Rattle.std.proofs.Common.{◌≡◌, ◌<◌, ◌^◌, ◌∙◌, ap, sym, subst, map, IfOk}
+use Rattle.std.proofs.Common.{◌≡◌, ◌+◌, ◌*◌, ◌<◌, ◌≤◌, ◌^◌, ◌∙◌, ap, sym, subst, length, map, count_by, IfOk, arith}
 use Rattle.std.specs.List.{All}
 use Rattle.mark_tree.specs.Order.{placed_le}
 use Rattle.mark_tree.specs.RangeViews.{range_of}
-use Rattle.mark_tree.specs.RangeViews.{all_left_over}
-use Rattle.mark_tree.specs.Ranges.{move_range, moved_ranges, dropped_ids}
+use Rattle.mark_tree.proofs.RangeViewed.{count-met}
+use Rattle.mark_tree.specs.RangeViews.{all_left_over, meets_extent}
+use Rattle.mark_tree.specs.Ranges.{is_range_met, move_range, moved_ranges, dropped_ids}
 use Rattle.cell_units.specs.Sorting.{sort_by}
 use Rattle.mark_tree.proofs.Shrunk.{ranges-of, gone-of, fits-range}
+use Rattle.mark_tree.proofs.Moved.{length-map}
 use Rattle.mark_tree.proofs.Splicing.{map-at_ok, map-at_err}
 use Rattle.mark_tree.proofs.range_tree.RangeTree.apply.Goals as goal
 
@@ -32,3 +34,10 @@ returns-clause-dropped c =
 
 pub returns-clause-err : goal.returns-clause-err
 returns-clause-err c = map-at_err (map range_of) c.move_ranges.result c.move_ranges.new.self c.self.inside.ranges c.args.self.now c.move_ranges.ensures.err c.self.view_is
+
+pub returns-clause-steps : goal.returns-clause-steps
+returns-clause-steps c h few =
+    let ps = c.self.inside.ranges in
+    let same : length ps ≡ length c.args.self.now = sym (length-map range_of ps) ∙ ap length c.self.view_is in
+    let met : count_by (meets_extent c.args.shift) ps ≡ count_by (is_range_met c.args.shift) c.args.self.now = count-met c.args.shift ps ∙ ap (count_by (is_range_met c.args.shift)) c.self.view_is in
+    subst (λ n. c.move_ranges.new.steps ≤ c.args.steps.now + 1400 * (h + 1) * (n + 1)) met (c.move_ranges.ensures.steps h (omega (arith, few, same)))
