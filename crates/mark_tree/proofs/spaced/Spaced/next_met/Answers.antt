@@ -13,7 +13,7 @@ pub returns-then-found-end-clause-met : goal.returns-then-found-end-clause-met
 returns-then-found-end-clause-met g c =
     let p = placed_at c.in-Some.found.offset c.in-Some.found.entry.now in
     met-reaching c.args.start c.args.end c.args.at c.in_ok-place.place c.args.self.now c.in_ok-place.ensures.place
-    ∙ met-past c.args.start c.args.end c.in_ok-place.place c.args.self.now p c.len-count.ensures.codable.spaced c.in-Some.ensures.found c.if-found-end.true
+    ∙ met-past c.args.start c.args.end c.in_ok-place.place c.args.self.now p c.len-count.ensures.codable.spaced c.in-Some.ensures.found (omega arith)
 
 pub overflow_add-range : goal.overflow_add-range
 overflow_add-range g c =
@@ -24,7 +24,7 @@ pub returns-clause-met : goal.returns-clause-met
 returns-clause-met g c =
     let p = placed_at c.in-Some.found.offset c.in-Some.found.entry.now in
     met-reaching c.args.start c.args.end c.args.at c.in_ok-place.place c.args.self.now c.in_ok-place.ensures.place
-    ∙ met-next c.args.start c.args.end c.args.at c.in_ok-place.place c.args.self.now p c.in_ok-place.ensures.place c.in-Some.ensures.found c.if-found-end.false
+    ∙ met-next c.args.start c.args.end c.args.at c.in_ok-place.place c.args.self.now p c.in_ok-place.ensures.place c.in-Some.ensures.found (omega arith)
 
 pub returns-clause-place : goal.returns-clause-place
 returns-clause-place g c =
