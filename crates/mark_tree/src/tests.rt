@@ -120,3 +120,59 @@ fn ranges_are_met_shortened_and_dropped(rt: HostRuntime) -> Result<(), Fail> {
     );
     Ok(())
 }
+
+/// `ranges`: of ranges that start before the replaced bytes [3, 7), for which one byte comes, the ends move; of two that start
+/// at 1 the longer one has the lesser id and comes to the same end.
+#[test]
+fn ranges_that_start_before_a_replacement_are_sorted_again(rt: HostRuntime) -> Result<(), Fail> {
+    let alloc = rt.alloc();
+    let mut steps = Steps::new();
+    let mut tree = RangeTree::new(alloc);
+    let shorter = RangeMark {
+        start: 1,
+        end: 5,
+        id: 9,
+    };
+    tree.insert(alloc, shorter, &mut steps)?;
+    let longer = RangeMark {
+        start: 1,
+        end: 6,
+        id: 4,
+    };
+    tree.insert(alloc, longer, &mut steps)?;
+    let behind = RangeMark {
+        start: 8,
+        end: 10,
+        id: 8,
+    };
+    tree.insert(alloc, behind, &mut steps)?;
+    let replacement = Shift {
+        start: 3,
+        end: 7,
+        count: 1,
+    };
+    let dropped = tree.apply(alloc, replacement, &mut steps)?;
+    assert!(rt; dropped.is_empty());
+    let expected = [
+        RangeMark {
+            start: 1,
+            end: 4,
+            id: 4,
+        },
+        RangeMark {
+            start: 1,
+            end: 4,
+            id: 9,
+        },
+        RangeMark {
+            start: 5,
+            end: 7,
+            id: 8,
+        },
+    ];
+    assert_eq!(rt;
+        tree.meeting(alloc, 0, 99, &mut steps)?.as_slice(),
+        expected.as_slice()
+    );
+    Ok(())
+}
