@@ -14,7 +14,7 @@ run from to xs = take (to - from) (drop from xs)
 
 module _ {P : Type 0} where
   abbrev pub extent_of : Entry P → Extent
-  extent_of e = extent 1 e.gap e.length
+  extent_of e = extent 1 e.gap e.length (e.id + 1)
 
   abbrev pub extent_over : List (Entry P) → Extent
   extent_over es = total none both extent_of es

@@ -3,17 +3,17 @@ use Rattle.std.proofs.Common.{◌≡◌, ◌+◌, max, arith}
 use Rattle.mark_tree.specs.declared.extent.Extent.{Extent}
 use Rattle.mark_tree.specs.Extents.{none, both, end_of, IsFitting}
 
-pub same_extent : (a b : Extent) → a.items ≡ b.items → a.span ≡ b.span → a.hang ≡ b.hang → a ≡ b
-same_extent a b i s h = λ k. record { items = i k; span = s k; hang = h k }
+pub same_extent : (a b : Extent) → a.items ≡ b.items → a.span ≡ b.span → a.hang ≡ b.hang → a.ids ≡ b.ids → a ≡ b
+same_extent a b i s h n = λ k. record { items = i k; span = s k; hang = h k; ids = n k }
 
 pub both-none_left : (x : Extent) → both none x ≡ x
-both-none_left x = same_extent (both none x) x (omega arith) (omega arith) (omega arith)
+both-none_left x = same_extent (both none x) x (omega arith) (omega arith) (omega arith) (omega arith)
 
 pub both-none_right : (x : Extent) → both x none ≡ x
-both-none_right x = same_extent (both x none) x (omega arith) (omega arith) (omega arith)
+both-none_right x = same_extent (both x none) x (omega arith) (omega arith) (omega arith) (omega arith)
 
 pub both-assoc : (x y z : Extent) → both (both x y) z ≡ both x (both y z)
-both-assoc x y z = same_extent (both (both x y) z) (both x (both y z)) (omega arith) (omega arith) (omega arith)
+both-assoc x y z = same_extent (both (both x y) z) (both x (both y z)) (omega arith) (omega arith) (omega arith) (omega arith)
 
 -- the greatest end is of either run
 pub end_of-both : (x y : Extent) → end_of (both x y) ≡ x.span + max x.hang (end_of y)

@@ -5,15 +5,15 @@ use Rattle.mark_tree.specs.declared.extent.ByItems.{ByItems}
 use Rattle.mark_tree.specs.declared.extent.ByOffset.{ByOffset}
 use Rattle.mark_tree.specs.declared.extent.ByEnd.{ByEnd}
 
-abbrev pub extent : ℕ → ℕ → ℕ → Extent
-extent items span hang = record { items = items; span = span; hang = hang }
+abbrev pub extent : ℕ → ℕ → ℕ → ℕ → Extent
+extent items span hang ids = record { items = items; span = span; hang = hang; ids = ids }
 
 abbrev pub none : Extent
-none = extent 0 0 0
+none = extent 0 0 0 0
 
 -- the extent of a run and the one behind it, which begins at the first one's last offset
 abbrev pub both : Extent → Extent → Extent
-both a b = extent (a.items + b.items) (a.span + b.span) (max (a.hang - b.span) b.hang)
+both a b = extent (a.items + b.items) (a.span + b.span) (max (a.hang - b.span) b.hang) (max a.ids b.ids)
 
 -- where the greatest end lies
 abbrev pub end_of : Extent → ℕ

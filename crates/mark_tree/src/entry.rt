@@ -28,6 +28,7 @@ impl<P: Load> Item for Entry<P> {
             items: 1,
             span: self.gap,
             hang: self.length,
+            ids: self.id as u64 + 1,
         }
     }
 

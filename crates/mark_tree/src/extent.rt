@@ -10,6 +10,8 @@ pub(crate) struct Extent {
     pub(crate) span: u32,
     /// How far the greatest end lies behind the last offset.
     pub(crate) hang: u32,
+    /// One more than the greatest id, and 0 where there is none.
+    pub(crate) ids: u64,
 }
 
 impl Summary for Extent {
@@ -36,6 +38,7 @@ impl Summary for Extent {
             items: 0,
             span: 0,
             hang: 0,
+            ids: 0,
         }
     }
 
@@ -44,6 +47,7 @@ impl Summary for Extent {
             items: self.items + other.items,
             span: self.span + other.span,
             hang: self.hang.saturating_sub(other.span).max(other.hang),
+            ids: self.ids.max(other.ids),
         }
     }
 }

@@ -125,6 +125,10 @@ impl<P: Load> Spaced<P> {
         ensures any { is_some result ≡ list_any (has_placed_id id) self.now }
         ensures steps { steps.new ≤ steps.old + length self.now + 1 }
     {
+        // Ids are mostly given out in ascending order, and one that is above all needs no search.
+        if id as u64 >= self.entries.sum().ids {
+            return None;
+        }
         self.entries.position(&HasId(id), steps)
     }
 
