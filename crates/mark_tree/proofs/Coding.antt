@@ -62,10 +62,6 @@ module _ {P : Type 0} where
   length-coded o [] = refl
   length-coded o (p ∷ ps) = ap suc (length-coded p.offset ps)
 
-  pub coded-append : (o : ℕ) (ps qs : List (Placed P)) → coded o (ps ++ qs) ≡ coded o ps ++ coded (last_offset o ps) qs
-  coded-append o [] qs = refl
-  coded-append o (p ∷ ps) qs = ap (λ l. entry_of (p.offset - o) p ∷ l) (coded-append p.offset ps qs)
-
   pub last-append : (o : ℕ) (ps qs : List (Placed P)) → last_offset o (ps ++ qs) ≡ last_offset (last_offset o ps) qs
   last-append o [] qs = refl
   last-append o (p ∷ ps) qs = last-append p.offset ps qs

@@ -1,6 +1,6 @@
 -- Lists of marks, as views of things of no length.
 use Rattle.std.proofs.Common.{◌≡◌, ℕ, zero, suc, ◌+◌, ◌<◌, ◌≤◌, ◌^◌, ◌==◌, ◌&&◌, ◌||◌, nat_lt, nat_le, not, Bool, true, false, cond, List, [], ◌∷◌, length, map, filter, count_by, get_or, take, drop, Some, None, position, refl, sym, ap, subst, ◌∙◌, arith}
-use Rattle.std.specs.List.{All, Contains, list_any, slice_get}
+use Rattle.std.specs.List.{All, list_any, slice_get}
 use Rattle.std.proofs.lemmas.List.Elements.{All-nil, All-cons, All-head, All-tail}
 use Rattle.std.proofs.lemmas.Bool.Decides.{nat_tests}
 use Rattle.cell_units.specs.declared.place.Shift.{Shift}
@@ -10,7 +10,7 @@ use Rattle.mark_tree.specs.declared.entry.Placed.{Placed}
 use Rattle.mark_tree.specs.declared.mark.Mark.{Mark}
 use Rattle.mark_tree.specs.Entries.{end_at, IsCodable}
 use Rattle.mark_tree.specs.Marks.{mark_le, has_id, lacks_id, move_mark, moved_marks, IsMarkList}
-use Rattle.mark_tree.specs.Order.{placed_le, has_placed_id, lacks_placed_id, move_placed, moved_placed, IsOrdered}
+use Rattle.mark_tree.specs.Order.{placed_le, has_placed_id, lacks_placed_id, move_placed, moved_placed}
 use Rattle.mark_tree.specs.Views.{mark_of, AreMarks}
 use Rattle.mark_tree.proofs.Sorting.{Every, count-cons, every-insert, every-sort, insert-map, sort-map}
 use Rattle.mark_tree.proofs.Changing.{every-from_all, all-from_every}
@@ -68,18 +68,6 @@ module _ {P : Type 0} where
   count-of q q' same [] = refl
   count-of q q' same (p ∷ ps) = count-cons q p ps ∙ (λ i. cond (same p i) 1 0 + count-of q q' same ps i) ∙ sym (count-cons q' (mark_of p) (map mark_of ps))
 
-  pub contains-of : (p : Placed P) (ps : List (Placed P)) → Contains ps p → Contains (map mark_of ps) (mark_of p)
-  contains-of p ps c = (c.0, omega (arith, c.1, length-map mark_of ps), go ps c.0 c.1 ∙ ap mark_of c.2) where
-    go : (qs : List (Placed P)) (k : ℕ) → k < length qs → get_or (map mark_of qs) k (mark_of p) ≡ mark_of (get_or qs k p)
-    go [] k lt = refl
-    go (q ∷ qs) zero lt = refl
-    go (q ∷ qs) (suc k) lt = go qs k (omega arith)
-
-  pub get_or-of : (ps : List (Placed P)) (k : ℕ) (d : Mark P) → k < length ps → (e : Placed P) → get_or (map mark_of ps) k d ≡ mark_of (get_or ps k e)
-  get_or-of [] k d lt e = absurd (omega arith)
-  get_or-of (p ∷ ps) zero d lt e = refl
-  get_or-of (p ∷ ps) (suc k) d lt e = get_or-of ps k d (omega arith) e
-
   -- what fits as marks fits as things of no length
   pub fits-of : (s : Shift) (ps : List (Placed P)) → All IsFlat ps → All (λ m. m.offset < 2 ^ 32) (map (move_mark s) (map mark_of ps)) → All (λ p. end_at p < 2 ^ 32) (map (move_placed s) ps)
   fits-of s [] a f = All-nil (λ p. end_at p < 2 ^ 32)
@@ -102,9 +90,6 @@ module _ {P : Type 0} where
     offsets = offsets-of ps c.ends;
     small = omega (arith, length-map mark_of ps, c.small);
   }
-
-  pub marks-added : (p : Placed P) (ps : List (Placed P)) → IsFlat p → All IsFlat ps → IsOrdered (insert_by placed_le p ps) → AreMarks (insert_by placed_le p ps)
-  marks-added p ps a b o = record { flat = all-from_every IsFlat (insert_by placed_le p ps) (every-insert placed_le IsFlat p ps a (every-from_all IsFlat ps b)); ordered = o }
 
   pub flat-added : (p : Placed P) (ps : List (Placed P)) → IsFlat p → All IsFlat ps → All IsFlat (insert_by placed_le p ps)
   flat-added p ps a b = all-from_every IsFlat (insert_by placed_le p ps) (every-insert placed_le IsFlat p ps a (every-from_all IsFlat ps b))

@@ -44,13 +44,6 @@ in_order-not a b r is = go (nat_lt a b) (a == b) r refl refl is where
   go false true false p q h = inr (grind (arith, nat_tests), refl)
   go false false e p q h = inl (grind (arith, nat_tests))
 
-in_order-above : (a b : ℕ) (r : Bool) → b < a → in_order a b r ≡ false
-in_order-above a b r lt = go (nat_lt a b) (a == b) r (grind (arith, nat_tests)) (grind (arith, nat_tests)) where
-  go : (c d e : Bool) → c ≡ false → d ≡ false → (c || (d && e)) ≡ false
-  go true d e p q = absurd (cc)
-  go false true e p q = absurd (cc)
-  go false false e p q = refl
-
 in_order-total : (a b : ℕ) (r r' : Bool) → (r ≡ false → r' ≡ true) → in_order a b r ≡ false → in_order b a r' ≡ true
 in_order-total a b r r' rest not = elim (in_order-not a b r not) [
   | inl lt ↦ in_order-below b a r' lt
@@ -154,9 +147,6 @@ module _ {P : Type 0} where
 
   pub offset-le : (p q : Placed P) → p.offset < q.offset → placed_le p q ≡ true
   offset-le p q lt = in_order-below p.offset q.offset (in_order (bias_rank p.bias) (bias_rank q.bias) (in_order p.length q.length (nat_le p.id q.id))) lt
-
-  pub below-not_le : (p q : Placed P) → q.offset < p.offset → placed_le p q ≡ false
-  below-not_le p q lt = in_order-above p.offset q.offset (in_order (bias_rank p.bias) (bias_rank q.bias) (in_order p.length q.length (nat_le p.id q.id))) lt
 
   pub sorted-placed : (ps : List (Placed P)) → sort_by placed_le ps ≡ ps → IsSorted placed_le ps
   sorted-placed ps same = sorted-from_same placed_le le-total le-trans ps same

@@ -29,11 +29,6 @@ module _ {P : Type 0} where
     pub kept : drop at ps ≡ drop at old
     pub done : take at ps ++ moved_extents s (run at first old) ≡ moved_extents s (take first old)
 
-  pub none-moved : (s : Shift) (first : ℕ) (old : List (Placed P)) → IsMovedTo s first old 0 old
-  none-moved s first old =
-      let whole : first - 0 ≡ first = omega arith in
-      record { low = omega arith; same = λ i. length old; kept = λ i. old; done = ap (λ n. moved_extents s (take n old)) whole }
-
   -- where none is left that reaches the replacement
   pub all-moved : (s : Shift) (first at from : ℕ) (old ps : List (Placed P)) → AreSplit s first old → IsMovedTo s first old at ps → IsFirstReaching at s.start ps from → first ≤ from → ps ≡ moved_extents s (take first old) ++ drop first old
   all-moved s first at from old ps f m r le =

@@ -1,5 +1,5 @@
 -- What a replacement leaves of ranges.
-use Rattle.std.proofs.Common.{◌≡◌, ℕ, zero, suc, ◌+◌, ◌-◌, ◌<◌, ◌≤◌, ◌^◌, nat_lt, not, Bool, true, false, cond, List, [], ◌∷◌, ◌++◌, length, take, map, filter, count_by, refl, ap, ◌∙◌, arith, ◌*◌}
+use Rattle.std.proofs.Common.{◌≡◌, ℕ, suc, ◌+◌, ◌-◌, ◌<◌, ◌≤◌, ◌^◌, nat_lt, not, Bool, true, false, cond, List, [], ◌∷◌, ◌++◌, length, map, filter, count_by, refl, ap, ◌∙◌, arith, ◌*◌}
 use Rattle.std.specs.List.{All}
 use Rattle.std.proofs.lemmas.List.Elements.{All-nil, All-cons, All-head, All-tail}
 use Rattle.std.proofs.lemmas.Bool.Decides.{nat_tests}
@@ -18,12 +18,6 @@ use Rattle.mark_tree.proofs.RangeViewed.{sort-range}
 
 test-below : (m n : ℕ) → nat_lt m n ≡ true → m < n
 test-below m n e = grind (arith, nat_tests)
-
-pub take-whole : {X : Type 0} (xs : List X) (n : ℕ) → n ≡ length xs → take n xs ≡ xs
-take-whole [] zero e = refl
-take-whole [] (suc n) e = refl
-take-whole (x ∷ xs) zero e = absurd (omega arith)
-take-whole (x ∷ xs) (suc n) e = ap (λ l. x ∷ l) (take-whole xs n (omega arith))
 
 pub append-none : {X : Type 0} (xs : List X) → xs ++ [] ≡ xs
 append-none [] = refl

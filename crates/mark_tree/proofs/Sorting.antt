@@ -38,10 +38,6 @@ module _ {X : Type 0} where
   every-member P x [] a m = absurd m
   every-member P x (y ∷ ys) a m = elim m [ inl e ↦ subst P e a.0 | inr r ↦ every-member P x ys a.1 r ]
 
-  pub every-map : {Y : Type 0} (P : Y → Type 0) (f : X → Y) (xs : List X) → Every (λ x. P (f x)) xs → Every P (map f xs)
-  every-map P f [] a = tt
-  every-map P f (x ∷ xs) a = (a.0, every-map P f xs a.1)
-
 -- no member has this id
 abbrev pub IsFresh : {X : Type 0} → (X → ℕ) → ℕ → List X → Type 0
 IsFresh id n xs = Every (λ y. (id y ≡ n) → ⊥) xs
@@ -98,12 +94,6 @@ module _ {X : Type 0} (le : X → X → Bool) where
   pub length-sort : (xs : List X) → length (sort_by le xs) ≡ length xs
   length-sort [] = refl
   length-sort (x ∷ xs) = length-insert x (sort_by le xs) ∙ omega (arith, length-sort xs)
-
-  -- one that is above all before a place, and not above the one there, is inserted at that place
-  pub insert-at : (x : X) (ys zs : List X) → Every (λ y. le x y ≡ false) ys → ((z : X) (us : List X) → zs ≡ z ∷ us → le x z ≡ true) → insert_by le x (ys ++ zs) ≡ ys ++ x ∷ zs
-  insert-at x [] [] a b = refl
-  insert-at x [] (z ∷ zs) a b = λ i. cond (b z zs refl i) (x ∷ z ∷ zs) (z ∷ insert_by le x zs)
-  insert-at x (y ∷ ys) zs a b = (λ i. cond (a.0 i) (x ∷ y ∷ (ys ++ zs)) (y ∷ insert_by le x (ys ++ zs))) ∙ ap (λ l. y ∷ l) (insert-at x ys zs a.1 b)
 
   -- one list behind another is sorted by itself
   insert-front : (x : X) (ys zs : List X) → Every (λ z. le x z ≡ true) zs → insert_by le x (ys ++ zs) ≡ insert_by le x ys ++ zs

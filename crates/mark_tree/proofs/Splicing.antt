@@ -2,7 +2,7 @@
 use Rattle.std.proofs.Common.{◌≡◌, ℕ, zero, suc, ◌+◌, ◌-◌, ◌<◌, ◌≤◌, ◌^◌, List, [], ◌∷◌, ◌++◌, length, map, take, drop, Some, Result, Ok, Err, OnOk, OnErr, refl, sym, ap, subst, ◌∙◌, arith, add-one, append_assoc, ◌⊎◌, inl, inr}
 use Rattle.std.specs.List.{All, slice_get}
 use Rattle.std.proofs.lemmas.List.{length-drop}
-use Rattle.std.proofs.lemmas.List.Elements.{All-nil, All-cons, All-head, All-tail}
+use Rattle.std.proofs.lemmas.List.Elements.{All-head, All-tail}
 use Rattle.cell_units.specs.declared.place.Shift.{Shift}
 use Rattle.mark_tree.specs.declared.entry.Entry.{Entry}
 use Rattle.mark_tree.specs.declared.entry.Placed.{Placed}
@@ -50,10 +50,6 @@ head-drop Q xs n x e all = All-head Q x (drop (n + 1) xs) (subst (All Q) (drop-a
 pub all-right : {X : Type 0} (Q : X → Type 0) (xs ys : List X) → All Q (xs ++ ys) → All Q ys
 all-right Q [] ys all = all
 all-right Q (x ∷ xs) ys all = all-right Q xs ys (All-tail Q x (xs ++ ys) all)
-
-pub all-left : {X : Type 0} (Q : X → Type 0) (xs ys : List X) → All Q (xs ++ ys) → All Q xs
-all-left Q [] ys all = All-nil Q
-all-left Q (x ∷ xs) ys all = All-cons Q x xs (All-head Q x (xs ++ ys) all) (all-left Q xs ys (All-tail Q x (xs ++ ys) all))
 
 less-or-all : (m n : ℕ) → (m < n) ⊎ (n ≤ m)
 less-or-all m n = grind arith
@@ -144,13 +140,3 @@ module _ {P : Type 0} where
         length-push : (qs : List (Placed P)) (q : Placed P) → length (qs ++ q ∷ []) ≡ length qs + 1
         length-push [] q = omega arith
         length-push (x ∷ qs) q = omega (arith, length-push qs q)
-
-  -- nothing lies behind
-  pub refill-end : (ps : List (Placed P)) (to : ℕ) (fresh : List (Placed P)) (s : Shift) → to ≤ length ps → length ps ≤ to → IsRefill ps to fresh s fresh to
-  refill-end ps to fresh s within past = record {
-    order = omega arith;
-    within = within;
-    same = refl;
-    few = omega arith;
-    gap_kept = λ more. absurd (omega arith);
-  }

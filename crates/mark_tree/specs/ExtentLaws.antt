@@ -1,7 +1,7 @@
 -- The laws of extents as sums.
-use Rattle.std.proofs.Common.{◌≡◌, ◌+◌, max, arith}
+use Rattle.std.proofs.Common.{◌≡◌, arith}
 use Rattle.mark_tree.specs.declared.extent.Extent.{Extent}
-use Rattle.mark_tree.specs.Extents.{none, both, end_of, IsFitting}
+use Rattle.mark_tree.specs.Extents.{none, both, IsFitting}
 
 pub same_extent : (a b : Extent) → a.items ≡ b.items → a.span ≡ b.span → a.hang ≡ b.hang → a.ids ≡ b.ids → a ≡ b
 same_extent a b i s h n = λ k. record { items = i k; span = s k; hang = h k; ids = n k }
@@ -14,10 +14,6 @@ both-none_right x = same_extent (both x none) x (omega arith) (omega arith) (ome
 
 pub both-assoc : (x y z : Extent) → both (both x y) z ≡ both x (both y z)
 both-assoc x y z = same_extent (both (both x y) z) (both x (both y z)) (omega arith) (omega arith) (omega arith) (omega arith)
-
--- the greatest end is of either run
-pub end_of-both : (x y : Extent) → end_of (both x y) ≡ x.span + max x.hang (end_of y)
-end_of-both x y = omega arith
 
 pub none_fits : IsFitting none
 none_fits = (omega arith, omega arith)
