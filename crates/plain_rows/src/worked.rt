@@ -79,6 +79,8 @@ pub fn worked_spots()
         (show r 255 Left ≡ spot 0 256) }
     ensures tab_at_256_cells { let r = settled (replicate 256 97 ++ 9 ∷ 98 ∷ []) [] [] [] 0 in
         (show r 257 Left ≡ spot 0 257) }
+    ensures changed_back { let r = marked (ten_lines 5) 5 0 in
+        (show r 44 Left ≡ spot 10 4) × (show r 52 Left ≡ spot 12 0) }
 {}
 
 /// Spots of which the nearest valid one is known. It does nothing.

@@ -41,3 +41,7 @@ returns-clause-tab_before_256_cells c = refl
 pub returns-clause-tab_at_256_cells : goal.returns-clause-tab_at_256_cells
 unfolding plain_rows
 returns-clause-tab_at_256_cells c = refl
+
+pub returns-clause-changed_back : goal.returns-clause-changed_back
+unfolding plain_rows
+returns-clause-changed_back c = (refl, refl)
