@@ -9,3 +9,4 @@ pub mod Opening
 pub mod Named
 pub mod Notes
 pub mod Calls
+pub mod Telling

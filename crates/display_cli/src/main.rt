@@ -14,6 +14,7 @@ mod say;
 mod script;
 mod sinks;
 mod stop;
+mod told;
 mod top;
 mod words;
 mod write;

@@ -1,10 +1,12 @@
-//! Sinks: over a list in memory, and over a writer.
-ghost use Rattle.std.specs.Prelude.{◌≡◌, ◌<◌, ◌≤◌, false, [], Some, length, take, IfOk, OnOk, OnErr};
+//! Sinks: over a list in memory, over nothing but what contracts see, and over a writer.
+ghost use Rattle.std.specs.Prelude.{◌≡◌, ◌++◌, ◌<◌, ◌≤◌, false, [], Some, Ok, length, take, IfOk, OnOk, OnErr};
 ghost use Rattle.display_cli.specs.Calls.{next_call, is_one_of};
 ghost use Rattle.display_cli.specs.Outside.{Appends, HasRisen};
+ghost use Rattle.display_cli.specs.Telling.{bytes_told};
 
 use crate::calls::Calls;
 use crate::outside::{Failed, Sink};
+use crate::told::Told;
 use std::alloc::Global;
 use std::io::Write;
 
@@ -62,6 +64,38 @@ impl Sink for ListSink {
             self.faults = self.faults.saturating_add(1);
             return Err(Failed);
         }
+        Ok(piece.len())
+    }
+}
+
+/// A sink that tells what it took and never fails: it stores none of its bytes, so it needs no memory for them.
+#[derive(Drop)]
+pub struct SureSink {
+    told: Told,
+}
+
+impl SureSink {
+    /// A sink that has taken nothing.
+    pub fn new() -> SureSink
+        ensures { bytes_told result.told ≡ [] }
+    {
+        SureSink {
+            told: Told::Nothing,
+        }
+    }
+}
+
+impl Sink for SureSink {
+    ghost faults = { λ _. 0 };
+
+    ghost taken = { λ s. Some (bytes_told s.told) };
+
+    /// Takes the whole piece.
+    fn write(&mut self, piece: &[u8]) -> Result<usize, Failed>
+        ensures whole { result ≡ Ok (length piece.now) }
+        ensures taken { bytes_told self.new.told ≡ bytes_told self.old.told ++ piece.now }
+    {
+        self.told.append(piece);
         Ok(piece.len())
     }
 }

@@ -1,8 +1,8 @@
 //! Runs whose output is known, and the edges that no contract sees through.
 use crate::ended::{Ended, Note};
-use crate::inputs::{FileInputs, MapInputs, NamedBytes};
+use crate::inputs::{FileInputs, MapInputs, NamedBytes, SureInputs};
 use crate::outside::{Inputs, Part, Sink};
-use crate::sinks::{ListSink, StreamSink};
+use crate::sinks::{ListSink, StreamSink, SureSink};
 use crate::top::run;
 use cell_units::{NoMemory, Text};
 use std::alloc::Global;
@@ -176,6 +176,20 @@ fn a_text_of_just_the_limit_is_accepted(rt: HostRuntime) -> Result<(), Fail> {
     let written = format!(in alloc; "524287 t|{line}\n524288 t|\n")?;
     assert_eq!(rt; outcome.out.taken(), written.as_bytes());
     assert_eq!(rt; outcome.ended.status, 0);
+    Ok(())
+}
+
+#[test]
+fn nothing_fails_over_sure_inputs_and_a_sure_sink(rt: HostRuntime) -> Result<(), Fail> {
+    let alloc = rt.alloc();
+    let mut files = Vec::new(alloc);
+    files.push(file(alloc, "a", b"abc")?)?;
+    files.push(file(alloc, "b", b"{\"rows\":[0,1]}")?)?;
+    let mut inputs = SureInputs::new(files);
+    let mut out = SureSink::new();
+    let words = strings(alloc, &["a", "b"])?;
+    let ended = run(alloc, words.as_slice(), &mut inputs, &mut out);
+    assert_eq!(rt; ended.status, 0);
     Ok(())
 }
 
