@@ -6,3 +6,7 @@ pub mod Rows
 pub mod CellBounds
 pub mod LineLaws
 pub mod WorkedRows
+pub mod Quiet
+pub mod Seam
+pub mod Bare
+pub mod Marks

@@ -20,7 +20,7 @@ pub struct Element {
 const TAB_COLUMNS: u32 = 256;
 
 /// The cells of a tab that `column` cells of its line precede.
-fn tab_cells(tab: u32, column: u32) -> u32
+pub(crate) fn tab_cells(tab: u32, column: u32) -> u32
     requires { 0 < tab }
     ensures { result ≡ tab_cells_of tab column }
 {
@@ -32,7 +32,7 @@ fn tab_cells(tab: u32, column: u32) -> u32
 }
 
 /// The cells of a cluster that `column` cells of its line precede.
-fn cells(cluster: &str, tab: u32, column: u32) -> u32
+pub(crate) fn cells(cluster: &str, tab: u32, column: u32) -> u32
     requires size { 0 < tab }
     requires fits { cells_of tab column cluster.now < 2 ^ 32 }
     ensures { result ≡ cells_of tab column cluster.now }

@@ -6,15 +6,17 @@
 //! of a list of such lines.
 #![tactic(auto)]
 
+mod cutting;
 pub mod element;
 pub mod laws;
 pub mod lines;
+mod mark;
 pub mod wrapping;
 
 pub use element::{Element, elements};
 pub use laws::line_laws;
 pub use lines::{Lines, Run};
-pub use wrapping::{Cuts, cuts, indent};
+pub use wrapping::{Cuts, cuts, indent, wrap};
 
 #[cfg(test)]
 mod tests;

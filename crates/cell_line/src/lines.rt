@@ -1,9 +1,12 @@
 //! Lines of elements, and runs of them.
-ghost use Rattle.std.specs.Prelude.{◌≡◌, ◌<◌, List, length, IfOk};
+ghost use Rattle.std.specs.Prelude.{◌≡◌, ◌<◌, ◌^◌, List, length, IfOk};
 ghost use Rattle.cell_line.specs.declared.element.Element.{Element};
-ghost use Rattle.cell_line.specs.Lines.{line_at};
+ghost use Rattle.cell_line.specs.Elements.{total_cells};
+ghost use Rattle.cell_line.specs.Lines.{line_at, LineFitsU32};
+ghost use Rattle.cell_line.specs.Wrapping.{IsWidth, cuts_of};
 
 use crate::element::Element;
+use crate::wrapping::{Cuts, cuts};
 use cell_units::NoMemory;
 use std::alloc::Global;
 
@@ -27,6 +30,18 @@ pub trait Lines: Drop {
     fn elements(&self, alloc: Global, line: u32) -> Result<Vec<Element>, NoMemory>
         requires { line < length (elements_by_line self.now) }
         ensures { IfOk result (λ elements. elements.items ≡ line_at (elements_by_line self.now) line) };
+
+    /// Where the line of this number is cut at a width.
+    fn cuts(&self, alloc: Global, line: u32, width: u32) -> Result<Cuts, NoMemory>
+        requires within { line < length (elements_by_line self.now) }
+        requires fits { LineFitsU32 (line_at (elements_by_line self.now) line) }
+        requires lawful { IsWidth width }
+        ensures { IfOk result (λ cuts. cuts.items ≡ cuts_of (line_at (elements_by_line self.now) line) width) }
+    {
+        let elements = self.elements(alloc, line)?;
+        let cuts = cuts(alloc, elements.as_slice(), width)?;
+        Ok(cuts)
+    }
 
     /// An equal list of lines, which no later change of this one reaches. It takes no memory: `NoMemory` is one holder too many.
     fn share(&self) -> Result<Self, NoMemory>

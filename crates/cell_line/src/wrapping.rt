@@ -1,10 +1,12 @@
 //! Where a line is cut, so that its rows fit a width.
-ghost use Rattle.std.specs.Prelude.{◌≡◌, ℕ, ◌+◌, ◌-◌, ◌*◌, ◌/◌, ◌^◌, ◌<◌, ◌≤◌, ◌↔◌, ◌&&◌, not, length, IsTrue, IfOk, true};
-ghost use Rattle.cell_line.specs.Elements.{total_cells};
-ghost use Rattle.cell_line.specs.Wrapping.{IsWidth, is_blank, is_wide, may_part, lead_of, indent_of, is_opportunity, next_start_of, cuts_of};
+ghost use Rattle.std.specs.Prelude.{◌≡◌, ℕ, ◌+◌, ◌-◌, ◌*◌, ◌/◌, ◌^◌, ◌<◌, ◌≤◌, length, IfOk};
+ghost use Rattle.cell_line.specs.Elements.{elements_of, total_cells};
+ghost use Rattle.cell_line.specs.Wrapping.{IsWidth, is_blank, lead_of, indent_of, cuts_of};
 
+use crate::cutting::mark_cuts;
 use crate::element::Element;
-use cell_units::NoMemory;
+use crate::mark::{element_marks, line_marks};
+use cell_units::{NoMemory, Piece};
 use smallvec::SmallVec;
 use std::alloc::Global;
 
@@ -16,20 +18,6 @@ fn is_blank(element: &Element) -> bool
     ensures { result ≡ is_blank element.now }
 {
     element.tab || element.text.as_str() == " "
-}
-
-/// Whether the element is no tab and has two or more cells.
-fn is_wide(element: &Element) -> bool
-    ensures { result ≡ is_wide element.now }
-{
-    !element.tab && element.cells >= 2
-}
-
-/// Whether a row may end between the two neighbors: before what is no blank, after a blank or beside a wide element.
-fn may_part(before: &Element, after: &Element) -> bool
-    ensures { result ≡ may_part before.now after.now }
-{
-    !is_blank(after) && (is_blank(before) || is_wide(before) || is_wide(after))
 }
 
 /// How many blanks lead the line.
@@ -62,52 +50,6 @@ pub fn indent(elements: &[Element], width: u32) -> u32
     if cells <= width / 2 { cells } else { 0 }
 }
 
-/// Whether a row may end before the element of this number: at the line's end, or past the leading blanks between two
-/// that may part.
-fn is_opportunity(elements: &[Element], lead: usize, place: usize) -> bool
-    requires lead { lead ≡ lead_of elements.now }
-    requires from { 0 < place }
-    requires within { place ≤ length elements.now }
-    ensures { result ≡ is_opportunity elements.now place }
-{
-    place == elements.len() || (lead < place && may_part(&elements[place - 1], &elements[place]))
-}
-
-/// Whether the element may hang past the edge: it is a blank, and none that leads the line.
-fn may_hang(element: &Element, leads: bool) -> bool
-    ensures { result ≡ (is_blank element.now && not leads) }
-{
-    is_blank(element) && !leads
-}
-
-/// Where the row after that from `start` begins. One scan, which stops at the first element that overflows the room and
-/// may not hang: past it no row fits. Blanks that lead the line stop it too, so that a long lead isn't scanned for each
-/// of its rows.
-fn next_start(elements: &[Element], lead: usize, room: u32, start: usize) -> usize
-    requires fits { total_cells elements.now < 2 ^ 32 }
-    requires lead { lead ≡ lead_of elements.now }
-    requires not_blank { lead < length elements.now }
-    requires within { start < length elements.now }
-    ensures { result ≡ next_start_of elements.now room start }
-{
-    let mut cells = 0;
-    let mut well = None;
-    let mut whole = None;
-    for i in start..elements.len() {
-        let element = &elements[i];
-        cells += element.cells;
-        if cells <= room {
-            whole = Some(i + 1);
-        } else if !may_hang(element, i < lead) {
-            return well.unwrap_or(whole.unwrap_or(start + 1));
-        }
-        if is_opportunity(elements, lead, i + 1) {
-            well = Some(i + 1);
-        }
-    }
-    elements.len()
-}
-
 /// The places where the line is cut, so that its rows fit the width, which is 2 to 10,000 cells. At width 0 there are none.
 ///
 /// A row ends at the last place where a row may end and up to which its cells, but for the blanks at its end, are within
@@ -119,16 +61,20 @@ pub fn cuts(alloc: Global, elements: &[Element], width: u32) -> Result<Cuts, NoM
     requires lawful { IsWidth width }
     ensures { IfOk result (λ cuts. cuts.items ≡ cuts_of elements.now width) }
 {
-    let mut cuts = SmallVec::new(alloc);
-    let lead = lead(elements);
-    if width == 0 || lead == elements.len() {
-        return Ok(cuts);
-    }
-    let later = width - indent(elements, width);
-    let mut start = next_start(elements, lead, width, 0);
-    while start < elements.len() {
-        cuts.push(start as u32)?;
-        start = next_start(elements, lead, later, start);
-    }
+    let marks = element_marks(alloc, elements)?;
+    let cuts = mark_cuts(alloc, marks.as_slice(), width)?;
+    Ok(cuts)
+}
+
+/// The cuts of the line that the pieces make, at a tab size of 1 to 16 cells and a width. It keeps no texts of elements.
+pub fn wrap(alloc: Global, pieces: &[Piece], tab: u32, width: u32) -> Result<Cuts, NoMemory>
+    requires size { (1 ≤ tab) × (tab ≤ 16) }
+    requires fits { total_cells (elements_of pieces.now tab) < 2 ^ 32 }
+    requires count { length (elements_of pieces.now tab) < 2 ^ 32 }
+    requires lawful { IsWidth width }
+    ensures { IfOk result (λ cuts. cuts.items ≡ cuts_of (elements_of pieces.now tab) width) }
+{
+    let marks = line_marks(alloc, pieces, tab)?;
+    let cuts = mark_cuts(alloc, marks.as_slice(), width)?;
     Ok(cuts)
 }

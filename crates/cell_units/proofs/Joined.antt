@@ -24,16 +24,16 @@ bound (g ∷ gs) =
     (max g.end r.0, All-cons (λ f. f.end ≤ max g.end r.0) g gs (omega arith) (λ k d h. let l = r.1 k d h in omega arith))
 
 module _ (folds : List Fold) where
-  inside_by : (o : ℕ) (f : Fold) → Contains folds f → f.start < o → o < f.end → inside folds o ≡ true
+  pub inside_by : (o : ℕ) (f : Fold) → Contains folds f → f.start < o → o < f.end → inside folds o ≡ true
   inside_by o f m h l = any_from (λ f. ltb f.start o && ltb o f.end) f folds m (and_from (ltb f.start o) (ltb o f.end) (lt-ltb f.start o h) (lt-ltb o f.end l))
 
-  covered_by : (o : ℕ) (f : Fold) → Contains folds f → f.start ≤ o → o < f.end → covered folds o ≡ true
+  pub covered_by : (o : ℕ) (f : Fold) → Contains folds f → f.start ≤ o → o < f.end → covered folds o ≡ true
   covered_by o f m h l = any_from (λ f. leb f.start o && ltb o f.end) f folds m (and_from (leb f.start o) (ltb o f.end) (le-leb f.start o h) (lt-ltb o f.end l))
 
-  inside_of : (o : ℕ) → inside folds o ≡ true → (f : Fold) × (Contains folds f) × (f.start < o) × (o < f.end)
+  pub inside_of : (o : ℕ) → inside folds o ≡ true → (f : Fold) × (Contains folds f) × (f.start < o) × (o < f.end)
   inside_of o h = let r = any_to (λ f. ltb f.start o && ltb o f.end) folds h in let p = and_parts (ltb r.0.start o) (ltb o r.0.end) r.2 in (r.0, r.1, ltb-true r.0.start o p.0, ltb-true o r.0.end p.1)
 
-  covered_of : (o : ℕ) → covered folds o ≡ true → (f : Fold) × (Contains folds f) × (f.start ≤ o) × (o < f.end)
+  pub covered_of : (o : ℕ) → covered folds o ≡ true → (f : Fold) × (Contains folds f) × (f.start ≤ o) × (o < f.end)
   covered_of o h = let r = any_to (λ f. leb f.start o && ltb o f.end) folds h in let p = and_parts (leb r.0.start o) (ltb o r.0.end) r.2 in (r.0, r.1, leb-true r.0.start o p.0, ltb-true o r.0.end p.1)
 
   -- strictly inside a chain is strictly inside a fold
@@ -52,7 +52,7 @@ module _ (folds : List Fold) where
     go (inl x) r = let e : min s' f.start ≡ f.start = omega arith in subst (λ k. covered folds k ≡ true) (sym e) (covered_by f.start f m (omega arith) some)
     go (inr x) r = let e : min s' f.start ≡ s' = omega arith in subst (λ k. covered folds k ≡ true) (sym e) r.0
 
-  not_inside : (o : ℕ) → ((f : Fold) → Contains folds f → f.start < o → o < f.end → ⊥) → inside folds o ≡ false
+  pub not_inside : (o : ℕ) → ((f : Fold) → Contains folds f → f.start < o → o < f.end → ⊥) → inside folds o ≡ false
   not_inside o none = go (cases_Bool (inside folds o)) where
     go : (inside folds o ≡ true) ⊎ (inside folds o ≡ false) → inside folds o ≡ false
     go (inr h) = h
@@ -117,18 +117,18 @@ module _ (folds : List Fold) where
           at f m x y (inl l) = absurd (omega (arith, outside o f is.1 m l))
           at f m x y (inr l) = omega arith
 
-  covered_inside : (o : ℕ) → covered folds o ≡ false → inside folds o ≡ false
+  pub covered_inside : (o : ℕ) → covered folds o ≡ false → inside folds o ≡ false
   covered_inside o h = not_inside o (λ f m x y. false≢true (sym h ∙ covered_by o f m (omega (arith, x)) y))
 
   module _ (inlays : List Inlay) where
     -- bytes at offsets strictly inside show nothing
-    inside-shows_none : (o : ℕ) (bytes : List ℕ) → ((k : ℕ) → o ≤ k → k < o + length bytes → inside folds k ≡ true) → show_each (shown inlays folds) o bytes ≡ []
+    pub inside-shows_none : (o : ℕ) (bytes : List ℕ) → ((k : ℕ) → o ≤ k → k < o + length bytes → inside folds k ≡ true) → show_each (shown inlays folds) o bytes ≡ []
     inside-shows_none o [] h = refl
     inside-shows_none o (b ∷ bytes) h =
         ap (λ (t : Bool). (if t then [] else (inlays_at inlays o ++ (if covered folds o then Hidden o else Byte o b) ∷ [])) ++ show_each (shown inlays folds) (o + 1) bytes) (h o (omega arith) (omega arith))
         ∙ inside-shows_none (o + 1) bytes (λ k l u. h k (omega (arith, l)) (omega (arith, u)))
 
-    shown-start : (o b : ℕ) → ShowsPlaceholder folds o → shown inlays folds o b ≡ inlays_at inlays o ++ Hidden o ∷ []
+    pub shown-start : (o b : ℕ) → ShowsPlaceholder folds o → shown inlays folds o b ≡ inlays_at inlays o ++ Hidden o ∷ []
     shown-start o b is =
         ap (λ (t : Bool). if t then [] else (inlays_at inlays o ++ (if covered folds o then Hidden o else Byte o b) ∷ [])) is.1
         ∙ ap (λ (t : Bool). inlays_at inlays o ++ (if t then Hidden o else Byte o b) ∷ []) is.0

@@ -126,6 +126,20 @@ length-display_lines text =
       length-pieces o [] = refl
       length-pieces o (l ∷ ls) = ap suc (length-pieces (o + length l + 1) ls)
 
+-- each line is in the row of its number
+pub plain_spans : (text : List ℕ) (line : ℕ) → line < line_count text →
+    (span_start text (get_or (display_lines text [] []) line []) ≡ line) × (span_end text (get_or (display_lines text [] []) line []) ≡ line)
+plain_spans text line lt =
+    let s = span_at text 0 line (display_lines text [] []) (spans [] text) (omega (arith, length-display_lines text)) in
+    (omega (arith, s.0), omega (arith, s.1)) where
+      span_at : (text : List ℕ) (row k : ℕ) (ls : List (List Token)) → AreSpans text row ls → k < length ls →
+          (span_start text (get_or ls k []) ≡ row + k) × (span_end text (get_or ls k []) ≡ row + k)
+      span_at text row k [] h lt = absurd (omega arith)
+      span_at text row zero (l ∷ ls) h lt = (omega (arith, h.0), omega (arith, h.1))
+      span_at text row (suc k) (l ∷ ls) h lt =
+          let rest = span_at text (row + 1) k ls h.2 (omega arith) in
+          (omega (arith, rest.0), omega (arith, rest.1))
+
 -- ---- which are touched
 
 abbrev is_row : RowRange → ℕ → Bool

@@ -10,8 +10,10 @@ pub mod Inlaid
 pub mod Folded
 pub mod Pieces
 pub mod Touched
+pub mod LineCounts
 pub mod BufferLines
 pub mod Layers
 pub mod Joined
+pub mod Folding
 pub mod Laws
 pub mod Worked

@@ -1,13 +1,19 @@
 //! What the definitions mean in other words.
-ghost use Rattle.std.specs.Prelude.{◌≡◌, ℕ, false, List};
+ghost use Rattle.std.specs.Prelude.{◌≡◌, ◌≤◌, ◌<◌, ◌+◌, nat_le, nat_lt, ℕ, false, List, [], length, count_by, flat_map};
+ghost use Rattle.std.specs.List.{All};
 ghost use Rattle.std.specs.Str.{IsUtf8};
 ghost use Rattle.cell_units.specs.declared.place.Bias.{Bias};
-ghost use Rattle.cell_units.specs.Text.{IsBoundary, IsText, clean};
-ghost use Rattle.cell_units.specs.Record.{Fold, Inlay};
-ghost use Rattle.cell_units.specs.Folded.{covered};
+ghost use Rattle.cell_units.specs.declared.place.Bias.TheVariants.{Left, Right};
+ghost use Rattle.cell_units.specs.Text.{IsBoundary, IsText, clean, is_feed, row_of};
+ghost use Rattle.cell_units.specs.Record.{Fold, Inlay, Record};
+ghost use Rattle.cell_units.specs.Operation.{Operation, operated};
+ghost use Rattle.cell_units.specs.Touched.{touched};
+ghost use Rattle.cell_units.specs.LineCounts.{Fits, IsFresh, IsLawful, KeepsCount, KeepsPieces, RowsAreOneRun, TouchesOneRun, operated_piece};
+ghost use Rattle.cell_units.specs.Folded.{covered, display_lines, folded, line_of, place_in_line};
 ghost use Rattle.cell_units.specs.Joined.{IsJoined, ShowsOnePlaceholder, ShowsPlaceholder};
-ghost use Rattle.cell_units.specs.Layers.{LayoutLaws, layer_text, place_of, plain_layout};
-ghost use Rattle.cell_units.specs.Laws.{HasNoReturn, ShowPlaceholder, ShowsAsInlaid, TellsBoundaries};
+ghost use Rattle.cell_units.specs.Layers.{IsWellFormed, Source, inlay_source, place_of, plain_source, point_of, shown_lines, shown_text, span_of, unfolded};
+ghost use Rattle.cell_units.specs.Folding.{folded_token, inlaid_token};
+ghost use Rattle.cell_units.specs.Laws.{AreUncovered, HasNoFeed, HasNoReturn, HasRow, IsCopied, IsInOneRow, inlaid_bytes, ShowPlaceholder, ShowsAsInlaid, TellsBoundaries};
 
 /// Laws of every text. Call it where one of them is wanted; it does nothing.
 pub fn text_laws()
@@ -25,9 +31,54 @@ pub fn fold_laws()
     ensures rest_is_inlaid { (inlays : List Inlay) (folds : List Fold) (offset : ℕ) → covered folds offset ≡ false → ShowsAsInlaid inlays folds offset }
 {}
 
-/// A text by itself is a layer: its lines show it, and each boundary stands at its own offset. It does nothing.
+/// Laws of every layer: its text is its lines, which have no feeds inside, a piece of the buffer is the buffer's, and places
+/// don't fall. A text by itself is a layer: it shows itself, and each offset stands at its own place. It does nothing.
 pub fn layer_laws()
-    ensures lawful { (text : List ℕ) → IsText text → LayoutLaws (plain_layout text) }
-    ensures shows_itself { (text : List ℕ) → layer_text (plain_layout text) ≡ text }
-    ensures own_place { (text : List ℕ) (offset : ℕ) (bias : Bias) → IsText text → IsBoundary text offset → place_of (plain_layout text) offset bias ≡ offset }
+    ensures lines { (source : Source) → IsWellFormed source → length (shown_lines source) ≡ count_by is_feed (shown_text source) + 1 }
+    ensures no_feeds { (source : Source) → IsWellFormed source → All (λ pieces. All HasNoFeed pieces) (shown_lines source) }
+    ensures copied { (source : Source) → IsWellFormed source → All (λ pieces. All (IsCopied source.text) pieces) (shown_lines source) }
+    ensures rise { (source : Source) (o p : ℕ) (bias : Bias) → o ≤ p → p ≤ length source.text → place_of source o bias ≤ place_of source p bias }
+    ensures left_first { (source : Source) (o : ℕ) → place_of source o Left ≤ place_of source o Right }
+    ensures within { (source : Source) (o : ℕ) (bias : Bias) → o ≤ length source.text → place_of source o bias ≤ length (shown_text source) }
+    ensures line { (source : Source) (o : ℕ) (bias : Bias) → IsWellFormed source → o ≤ length source.text →
+        row_of (shown_text source) (place_of source o bias) ≡ line_of source.text source.inlays source.folds o bias }
+    ensures column { (source : Source) (o : ℕ) (bias : Bias) → IsWellFormed source → o ≤ length source.text →
+        (point_of (shown_text source) (place_of source o bias)).column ≡ place_in_line source.text source.inlays source.folds o bias }
+    ensures spanned { (source : Source) (o : ℕ) (bias : Bias) → IsWellFormed source → o ≤ length source.text →
+        HasRow (span_of source (line_of source.text source.inlays source.folds o bias)) (row_of source.text o) }
+    ensures shows_itself { (text : List ℕ) → shown_text (plain_source text) ≡ text }
+    ensures own_place { (text : List ℕ) (offset : ℕ) (bias : Bias) → offset ≤ length text → place_of (plain_source text) offset bias ≡ offset }
+{}
+
+/// Inlays in a text: each token has the inlays at its offset before it, an offset stands behind the inlays before it, and a
+/// line is in one row. It does nothing.
+pub fn inlay_laws()
+    ensures tokens { (text : List ℕ) (inlays : List Inlay) → folded text inlays [] ≡ flat_map (inlaid_token inlays) (folded text [] []) }
+    ensures left { (text : List ℕ) (inlays : List Inlay) (o : ℕ) → o ≤ length text →
+        place_of (inlay_source text inlays) o Left ≡ o + inlaid_bytes (λ i. nat_lt i.offset o) inlays }
+    ensures right { (text : List ℕ) (inlays : List Inlay) (o : ℕ) → o ≤ length text →
+        place_of (inlay_source text inlays) o Right ≡ o + inlaid_bytes (λ i. nat_le i.offset o) inlays }
+    ensures one_row { (text : List ℕ) (inlays : List Inlay) → All (IsInOneRow text) (display_lines text inlays []) }
+{}
+
+/// Folds over a layer: each token is kept, hidden or stands as a placeholder; between folds places stay as far apart, and a
+/// joined fold stands in the three bytes of its placeholder. It does nothing.
+pub fn folding_laws()
+    ensures tokens { (text : List ℕ) (inlays : List Inlay) (folds : List Fold) → folded text inlays folds ≡ flat_map (folded_token folds) (folded text inlays []) }
+    ensures apart { (source : Source) (o p : ℕ) → AreUncovered source o p →
+        place_of source p Left + place_of (unfolded source) o Left ≡ place_of source o Left + place_of (unfolded source) p Left }
+    ensures behind { (source : Source) (start end : ℕ) → IsJoined source.folds start end → start ≤ end → end ≤ length source.text →
+        place_of source end Left ≡ place_of source start Right + 3 }
+    ensures inside { (source : Source) (start end o : ℕ) → IsJoined source.folds start end → start < o → o < end → end ≤ length source.text →
+        (place_of source o Left ≡ place_of source start Right) × (place_of source o Right ≡ place_of source start Right + 3) }
+{}
+
+/// What every operation that fits a lawful record leaves of the display lines: one run of them is touched before and one
+/// after, and the others are the same, moved. It does nothing.
+pub fn operation_laws()
+    ensures lawful { (operation : Operation) (r : Record) → IsLawful r → Fits operation r → IsFresh operation r → IsLawful (operated operation r) }
+    ensures one_run { (operation : Operation) (r : Record) → IsLawful r → Fits operation r → TouchesOneRun (touched operation r) r (operated operation r) }
+    ensures as_many { (operation : Operation) (r : Record) → IsLawful r → Fits operation r → KeepsCount (touched operation r) r (operated operation r) }
+    ensures same_pieces { (operation : Operation) (r : Record) → IsLawful r → Fits operation r → KeepsPieces (touched operation r) (operated_piece operation) r (operated operation r) }
+    ensures rows { (r : Record) (a b : ℕ) → IsLawful r → a ≤ b → b ≤ length r.text → RowsAreOneRun r a b }
 {}

@@ -15,7 +15,7 @@ pub mod text;
 pub mod worked;
 
 pub use fault::{Fault, NoMemory, Refusal};
-pub use laws::{fold_laws, layer_laws, text_laws};
+pub use laws::{fold_laws, folding_laws, inlay_laws, layer_laws, operation_laws, text_laws};
 pub use layer::Layer;
 pub use piece::{Piece, PieceKind};
 pub use place::{Bias, Motion, Point, Shift, Side, Spot};

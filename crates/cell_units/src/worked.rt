@@ -2,15 +2,15 @@
 ghost use Rattle.std.specs.Prelude.{◌≡◌, ◌++◌, List, [], ◌∷◌, codes, flat_map, map, true, false};
 ghost use Rattle.std.specs.List.{range_with_len};
 ghost use Rattle.cell_units.specs.declared.place.Bias.TheVariants.{Left, Right};
-ghost use Rattle.cell_units.specs.declared.place.Side.TheVariants.{Above};
+ghost use Rattle.cell_units.specs.declared.place.Side.TheVariants.{Above, Below};
 ghost use Rattle.cell_units.specs.Text.{clean, is_boundary, row_end, row_of, row_start};
 ghost use Rattle.cell_units.specs.Anchor.{move};
 ghost use Rattle.cell_units.specs.Record.{line_count, opened, plain_marks};
-ghost use Rattle.cell_units.specs.Operation.{Replace, moved_blocks, moved_folds, moved_inlays, operated};
+ghost use Rattle.cell_units.specs.Operation.{AddBlock, AddFold, AddInlay, RemoveBlock, RemoveFold, RemoveInlay, Replace, SetTab, SetWidth, moved_blocks, moved_folds, moved_inlays, operated};
 ghost use Rattle.cell_units.specs.Inlaid.{bytes_of, inlaid, inlaid_place, placeholder};
 ghost use Rattle.cell_units.specs.Folded.{display_lines, folded_place, line_of, place_in_line, span_end, span_start};
 ghost use Rattle.cell_units.specs.Pieces.{folded_lines};
-ghost use Rattle.cell_units.specs.Touched.{touched_after, touched_before, touched_lines};
+ghost use Rattle.cell_units.specs.Touched.{EachLine, NoLine, touched, touched_after, touched_before};
 ghost use Rattle.cell_units.specs.Worked.{block, buffer_piece, fold, folded_record, inlay, inlay_piece, line_texts, mark, placeholder_piece};
 
 /// Texts whose clean form, rows, row ends and boundaries are known. It does nothing.
@@ -50,14 +50,49 @@ pub fn worked_operations()
         line_texts (operated (Replace 1 4 []) r) ≡ (codes "a" ++ placeholder ++ codes "gh") ∷ [] }
     ensures touched_rows { let r = folded_record (97 ∷ 10 ∷ 98 ∷ 10 ∷ 99 ∷ 10 ∷ 100 ∷ []) [] [] in
         let op = Replace 2 5 (120 ∷ 13 ∷ 10 ∷ 121 ∷ 13 ∷ 10 ∷ 122 ∷ []) in
-        (touched_lines (touched_before op r) r ≡ false ∷ true ∷ true ∷ false ∷ [])
-        × (touched_lines (touched_after op (operated op r)) (operated op r) ≡ false ∷ true ∷ true ∷ true ∷ false ∷ []) }
+        (touched_before (touched op r) r ≡ false ∷ true ∷ true ∷ false ∷ [])
+        × (touched_after (touched op r) (operated op r) ≡ false ∷ true ∷ true ∷ true ∷ false ∷ []) }
     ensures touched_by_inlay_break { let r = folded_record (codes "ab" ++ 10 ∷ codes "cd") (inlay 1 Right 1 (120 ∷ 10 ∷ 121 ∷ []) ∷ []) [] in
         let op = Replace 2 2 (codes "z") in
-        (touched_lines (touched_before op r) r ≡ true ∷ true ∷ false ∷ [])
-        × (touched_lines (touched_after op (operated op r)) (operated op r) ≡ true ∷ true ∷ false ∷ []) }
+        (touched_before (touched op r) r ≡ true ∷ true ∷ false ∷ [])
+        × (touched_after (touched op r) (operated op r) ≡ true ∷ true ∷ false ∷ []) }
     ensures touched_when_hidden { let r = folded_record (97 ∷ 10 ∷ 98 ∷ 10 ∷ 99 ∷ []) [] (fold 1 4 1 ∷ []) in
-        touched_lines (touched_before (Replace 2 3 (codes "x")) r) r ≡ true ∷ [] }
+        touched_before (touched (Replace 2 3 (codes "x")) r) r ≡ true ∷ [] }
+{}
+
+/// What other operations than replacements make of a record, and what they touch. It does nothing.
+pub fn worked_changes()
+    ensures inlay_breaks_line { let r = folded_record (codes "ab" ++ 10 ∷ codes "cd") [] [] in
+        let op = AddInlay (inlay 1 Right 1 (120 ∷ 10 ∷ 121 ∷ [])) in
+        (line_texts (operated op r) ≡ codes "ax" ∷ codes "yb" ∷ codes "cd" ∷ [])
+        × (touched_before (touched op r) r ≡ true ∷ false ∷ [])
+        × (touched_after (touched op r) (operated op r) ≡ true ∷ true ∷ false ∷ []) }
+    ensures inlay_removed { let r = folded_record (codes "ab" ++ 10 ∷ codes "cd") (inlay 1 Right 1 (120 ∷ 10 ∷ 121 ∷ []) ∷ inlay 4 Left 2 (codes ">") ∷ []) [] in
+        let op = RemoveInlay 1 in
+        (line_texts (operated op r) ≡ codes "ab" ∷ codes "c>d" ∷ [])
+        × (touched_before (touched op r) r ≡ true ∷ true ∷ false ∷ [])
+        × (touched_after (touched op r) (operated op r) ≡ true ∷ false ∷ []) }
+    ensures inlay_put_in_order { (operated (AddInlay (inlay 2 Left 3 (codes "y"))) (folded_record (codes "abc") (inlay 1 Right 9 (codes "x") ∷ inlay 2 Right 1 (codes "z") ∷ []) [])).inlays
+        ≡ inlay 1 Right 9 (codes "x") ∷ inlay 2 Left 3 (codes "y") ∷ inlay 2 Right 1 (codes "z") ∷ [] }
+    ensures fold_touches_its_rows { let r = folded_record (97 ∷ 10 ∷ 98 ∷ 10 ∷ 99 ∷ 10 ∷ 100 ∷ []) [] [] in
+        let op = AddFold (fold 1 4 1) in
+        (touched_before (touched op r) r ≡ true ∷ true ∷ true ∷ false ∷ [])
+        × (touched_after (touched op r) (operated op r) ≡ true ∷ false ∷ []) }
+    ensures fold_removed { let r = folded_record (97 ∷ 10 ∷ 98 ∷ 10 ∷ 99 ∷ 10 ∷ 100 ∷ []) [] (fold 1 4 1 ∷ []) in
+        let op = RemoveFold 1 in
+        (touched_before (touched op r) r ≡ true ∷ false ∷ [])
+        × (touched_after (touched op r) (operated op r) ≡ true ∷ true ∷ true ∷ false ∷ []) }
+    ensures unknown_touches_none { let r = folded_record (codes "ab") [] (fold 0 1 1 ∷ []) in
+        (touched (RemoveFold 2) r ≡ NoLine) × (touched (RemoveInlay 1) r ≡ NoLine) × ((operated (RemoveFold 2) r).folds ≡ r.folds) }
+    ensures block_at_row_start { let r = folded_record (codes "ab" ++ 10 ∷ codes "cd") [] [] in
+        let op = AddBlock 1 7 Below (codes "x" ∷ []) in
+        ((operated op r).blocks ≡ block 3 7 Below (codes "x" ∷ []) ∷ [])
+        × ((operated (RemoveBlock 7) (operated op r)).blocks ≡ [])
+        × (touched op r ≡ NoLine) × (touched (RemoveBlock 7) r ≡ NoLine) }
+    ensures tab_touches_each { let r = folded_record (codes "ab" ++ 10 ∷ codes "cd") [] [] in
+        ((operated (SetTab 8) r).tab ≡ 8) × (touched (SetTab 4) r ≡ EachLine) × (touched_before (touched (SetTab 4) r) r ≡ true ∷ true ∷ []) }
+    ensures width_touches_none { let r = folded_record (codes "ab" ++ 10 ∷ codes "cd") [] [] in
+        ((operated (SetWidth 40) r).width ≡ 40) × (touched (SetWidth 40) r ≡ NoLine) × (touched_after (touched (SetWidth 40) r) r ≡ false ∷ false ∷ []) }
 {}
 
 /// Folds, inlays and the display lines that they make. It does nothing.

@@ -49,7 +49,7 @@ shaped s text m = record s { present = record s.present { text = text; marks = m
 abbrev replace : List ℕ → Splice → List ℕ
 replace text s = replaced_text text s.start s.end (clean s.text)
 
-abbrev does : State → Splice → State
+abbrev pub does : State → Splice → State
 does s splice = happens s (Did (Replace splice))
 
 -- nothing is shown but the text, and each line has a mark
@@ -136,7 +136,7 @@ does_all : (s : State) (from : ℕ) (splices : List Splice) → IsReady s.presen
 does_all s from [] ready h = record { ready = ready; is = refl }
 does_all s from (splice ∷ splices) ready h = one_before s splice splices h.1 h.2 (does_all s splice.end splices ready h.2)
 
-replayed-batch : (s : State) (splices : List Splice) → replayed s (map (λ op. Did op) (batch splices)) ≡ backwards does s splices
+pub replayed-batch : (s : State) (splices : List Splice) → replayed s (map (λ op. Did op) (batch splices)) ≡ backwards does s splices
 unfolding replayed
 replayed-batch s splices = fold-map happens (λ (op : Op). Did op) s (batch splices) ∙ fold-batch-backwards (λ t op. happens t (Did op)) s splices
 

@@ -23,3 +23,8 @@ pub mod Runs
 pub mod Landings
 pub mod BatchPass
 pub mod EditRefusals
+pub mod StepRuns
+pub mod StepLaws
+pub mod StepSplices
+pub mod LawfulReplays
+pub mod FittingBatches

@@ -7,3 +7,4 @@ pub mod Kept
 pub mod LineEnds
 pub mod Sending
 pub mod Splicing
+pub mod LawfulStates

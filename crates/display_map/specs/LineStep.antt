@@ -1,30 +1,60 @@
 -- Which display lines keep their marks over an operation.
-use Rattle.std.specs.Prelude.{ℕ, ◌+◌, not, Bool, true, false, List, [], ◌∷◌, map, filter, zip, count_by}
-use Rattle.cell_units.specs.Record.{Mark, Record, plain_mark}
+use Rattle.std.specs.Prelude.{ℕ, ◌≡◌, ◌+◌, ◌-◌, not, Bool, true, false, List, [], ◌∷◌, ◌++◌, length, map, take, drop, count_by}
+use Rattle.cell_units.specs.Record.{Mark, Record, plain_mark, plain_marks}
 use Rattle.cell_units.specs.Operation.{Operation, operated}
-use Rattle.cell_units.specs.Touched.{touched_before, touched_after, touched_lines}
-
--- the marks of the untouched lines, in order
-abbrev pub untouched_marks : List Bool → List Mark → List Mark
-untouched_marks touched marks = map (λ p. p.1) (filter (λ p. not p.0) (zip touched marks))
+use Rattle.cell_units.specs.Folded.{display_lines}
+use Rattle.cell_units.specs.LineCounts.{line_of_row_start, line_of_row_end}
+use Rattle.cell_units.specs.Touched.{touched, touched_before, touched_after, untouched}
 
 -- each touched line gets a fresh stamp and no width; the k-th untouched line takes the k-th of the marks that are kept.
 -- They are used up exactly: there are as many untouched lines after as before
 abbrev pub handed_on : List Bool → List Mark → ℕ → List Mark
 handed_on [] kept fresh = []
-handed_on (true ∷ touched) kept fresh = plain_mark fresh ∷ handed_on touched kept (fresh + 1)
-handed_on (false ∷ touched) [] fresh = []
-handed_on (false ∷ touched) (mark ∷ kept) fresh = mark ∷ handed_on touched kept fresh
+handed_on (true ∷ lines) kept fresh = plain_mark fresh ∷ handed_on lines kept (fresh + 1)
+handed_on (false ∷ lines) [] fresh = []
+handed_on (false ∷ lines) (mark ∷ kept) fresh = mark ∷ handed_on lines kept fresh
+
+-- of each display line, whether the operation touches it: of the record before, and of the one that it leaves
+abbrev pub flags_before : Operation → Record → List Bool
+flags_before operation before = touched_before (touched operation before) before
+
+abbrev pub flags_after : Operation → Record → Record → List Bool
+flags_after operation before after = touched_after (touched operation before) after
 
 -- the marks of `after`, which the operation made of `before`
 abbrev pub stepped : Operation → Record → Record → Record
 stepped operation before after =
-    let touched = touched_lines (touched_after operation after) after in
+    let flags = flags_after operation before after in
     record after {
-      marks = handed_on touched (untouched_marks (touched_lines (touched_before operation before) before) before.marks) before.next_stamp;
-      next_stamp = before.next_stamp + count_by (λ t. t) touched;
+      marks = handed_on flags (untouched (flags_before operation before) before.marks) before.next_stamp;
+      next_stamp = before.next_stamp + count_by (λ t. t) flags;
     }
 
 -- the record after an operation, with its marks
 unfoldable pub line_step : Operation → Record → Record
 line_step operation r = stepped operation r (operated operation r)
+
+-- there is one mark for each display line
+abbrev pub IsMarked : Record → Type 0
+IsMarked r = length r.marks ≡ length (display_lines r.text r.inlays r.folds)
+
+-- the k-th untouched line after the operation has the mark of the k-th before
+abbrev pub KeepsMarks : Operation → Record → Type 0
+KeepsMarks operation r =
+    untouched (flags_after operation r (operated operation r)) (line_step operation r).marks ≡ untouched (flags_before operation r) r.marks
+
+-- the touched lines after it have fresh stamps, one after another, and no width
+abbrev pub GivesFreshMarks : Operation → Record → Type 0
+GivesFreshMarks operation r =
+    let flags = flags_after operation r (operated operation r) in
+    untouched (map not flags) (line_step operation r).marks ≡ plain_marks r.next_stamp (count_by (λ t. t) flags)
+
+-- where the rows from that of a to that of b are touched before, and those from a' to b' after: the lines from the first
+-- touched to the last make place for as many fresh marks as there are such lines after
+abbrev pub SplicesMarks : Operation → Record → ℕ → ℕ → ℕ → ℕ → Type 0
+SplicesMarks operation r a b a' b' =
+    let after = operated operation r in
+    let first = line_of_row_start r a in
+    (first ≡ line_of_row_start after a')
+    × ((line_step operation r).marks
+    ≡ take first r.marks ++ (plain_marks r.next_stamp (line_of_row_end after b' + 1 - line_of_row_start after a') ++ drop (line_of_row_end r b + 1) r.marks))

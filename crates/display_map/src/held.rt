@@ -1,10 +1,11 @@
 //! The lines that a job holds.
 ghost use Rattle.std.specs.Prelude.{◌≡◌, length, slice_index_or, [], IfOk};
-ghost use Rattle.cell_line.specs.Lines.{line_at};
+ghost use Rattle.cell_line.specs.Lines.{line_at, LineFitsU32};
+ghost use Rattle.cell_line.specs.Wrapping.{IsWidth, cuts_of};
 
 use crate::buffer::Buffer;
 use crate::paint;
-use cell_line::{Element, Lines};
+use cell_line::{Cuts, Element, Lines};
 use cell_units::NoMemory;
 use std::alloc::Global;
 use std::marker::Model;
@@ -42,6 +43,10 @@ impl Lines for Held {
 
     fn elements(&self, alloc: Global, line: u32) -> Result<Vec<Element>, NoMemory> {
         paint::text_elements(alloc, self.text.line(line as usize), self.tab)
+    }
+
+    fn cuts(&self, alloc: Global, line: u32, width: u32) -> Result<Cuts, NoMemory> {
+        paint::text_cuts(alloc, self.text.line(line as usize), self.tab, width)
     }
 
     fn share(&self) -> Result<Held, NoMemory> {

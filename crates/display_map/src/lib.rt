@@ -26,7 +26,7 @@ pub use event::Event;
 pub use fault::TextFault;
 pub use held::Held;
 pub use journal::Journal;
-pub use laws::job_laws;
+pub use laws::{job_laws, replay_laws, step_laws};
 pub use shown::{Kind, Shown};
 pub use version::Version;
 pub use view::View;

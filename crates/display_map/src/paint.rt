@@ -8,7 +8,7 @@ ghost use Rattle.display_map.specs.Kept.{text_elements};
 ghost use Rattle.display_map.specs.Shown.{shown_row};
 
 use crate::shown::{Kind, Shown};
-use cell_line::{Element, cuts, elements, indent};
+use cell_line::{Cuts, Element, cuts, elements, indent, wrap};
 use cell_units::{NoMemory, Piece, PieceKind, Text};
 use std::alloc::Global;
 
@@ -25,6 +25,23 @@ pub(crate) fn text_elements(alloc: Global, line: &str, tab: u32) -> Result<Vec<E
         end: line.len() as u32,
     };
     Ok(elements(alloc, &[piece], tab)?)
+}
+
+/// Where a line of text is cut at a width.
+pub(crate) fn text_cuts(alloc: Global, line: &str, tab: u32, width: u32) -> Result<Cuts, NoMemory>
+    requires tab { (1 ≤ tab) × (tab ≤ 16) }
+    requires size { length line.now ≤ text_limit }
+    requires lawful { IsWidth width }
+    ensures { IfOk result (λ cuts. cuts.items ≡ cuts_of (text_elements tab line.now) width) }
+{
+    let piece = Piece {
+        kind: PieceKind::Buffer,
+        text: Text::from_str(alloc, line)?,
+        start: 0,
+        end: line.len() as u32,
+    };
+    let cuts = wrap(alloc, &[piece], tab, width)?;
+    Ok(cuts)
 }
 
 /// Appends spaces.

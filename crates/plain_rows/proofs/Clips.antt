@@ -23,7 +23,7 @@ spot_le-total s t h = grind (arith, nat_tests, h)
 pub spot_le-trans : (s t u : Spot) → spot_le s t ≡ true → spot_le t u ≡ true → spot_le s u ≡ true
 spot_le-trans s t u h k = grind (arith, nat_tests, h, k)
 
-spot_le-antisym : (s t : Spot) → spot_le s t ≡ true → spot_le t s ≡ true → s ≡ t
+pub spot_le-antisym : (s t : Spot) → spot_le s t ≡ true → spot_le t s ≡ true → s ≡ t
 spot_le-antisym s t h k =
     let rows : s.row ≡ t.row = grind (arith, nat_tests, h, k) in
     let cols : s.col ≡ t.col = grind (arith, nat_tests, h, k, rows) in

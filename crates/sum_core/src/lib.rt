@@ -7,11 +7,13 @@
 #![tactic(auto)]
 
 mod laws;
+mod measure;
 mod node;
 mod summary;
 #[cfg(test)]
 mod tests;
 
 pub use laws::root_holds_many;
+pub use measure::{By, Count, Measure};
 pub use node::{Child, Entries, Node, copy_children, copy_items};
 pub use summary::{Dimension, Item, Summary};

@@ -1,4 +1,5 @@
 pub mod Descents
+pub mod Firsts
 pub mod Melds
 pub mod Pieces
 pub mod PlaceLists

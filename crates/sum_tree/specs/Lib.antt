@@ -1,4 +1,5 @@
 pub mod Cursors
+pub mod Firsts
 pub mod Parts
 pub mod Paths
 pub mod Trees

@@ -122,6 +122,13 @@ impl<'a, T: Item, D: Dimension<T::Sum>> Cursor<'a, T, D> {
         }
     }
 
+    /// Where the cursor stands: 0 before the first item, i + 1 on item i, and one more than the number of items past the last.
+    pub fn place(&self) -> usize
+        ensures { result ≡ self.now.place }
+    {
+        self.place
+    }
+
     /// The item that the cursor is on, and `None` exactly before the first and past the last.
     pub fn item(&self) -> Option<&'a T>
         ensures { option_copied result ≡ last_of self.now.items self.now.place }

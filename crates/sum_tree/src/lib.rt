@@ -11,6 +11,7 @@ mod cursor;
 mod find;
 mod in_place;
 mod joins;
+mod measured;
 mod open;
 mod pack;
 mod path;
@@ -22,5 +23,6 @@ mod tests;
 mod trees;
 
 pub use cursor::Cursor;
+pub use measured::Found;
 pub use search::Probe;
 pub use sum_tree::SumTree;

@@ -4,11 +4,13 @@ ghost use Rattle.std.specs.List.{position};
 ghost use Rattle.std.specs.Option.{option_copied};
 ghost use Rattle.sum_core.specs.Sums.{total};
 ghost use Rattle.sum_tree.specs.Parts.{put};
+ghost use Rattle.sum_tree.specs.Paths.{IsPath, items_seen};
 
 use crate::cursor::Cursor;
 use crate::find::item_at;
 use crate::in_place::put_in_tree;
 use crate::pack::make_leaf;
+use crate::path::Path;
 use crate::search::{Probe, before_below};
 use crate::splits::split_at;
 use crate::trees::{Tree, build_last, join};
@@ -331,6 +333,18 @@ impl<T: Item> SumTree<T> {
         front.concat(alloc, back, steps)?;
         *self = front;
         Ok(())
+    }
+
+    /// A path with no node on it.
+    pub(crate) fn path(&self) -> Path<'_, T>
+        ensures path { IsPath T.Sum.empty T.Sum.joined T.summary T.Sum.fits result }
+        ensures items { items_seen result.root ≡ self.now }
+    {
+        let root = match &self.tree {
+            None => None,
+            Some(tree) => Some(tree),
+        };
+        Path::new(self.alloc, root)
     }
 
     /// A cursor that stands before the first item, with places and sums in the dimension `D`.

@@ -8,7 +8,7 @@ use Rattle.cell_units.specs.Record.{line_count}
 use Rattle.cell_units.specs.BufferLines.{line_end, line_start}
 use Rattle.cell_units.specs.declared.piece.Piece.{Piece}
 use Rattle.cell_units.specs.declared.piece.PieceKind.TheVariants.{Buffer}
-use Rattle.cell_units.specs.Layers.{plain_layout}
+use Rattle.cell_units.specs.Layers.{plain_source, shown_lines}
 use Rattle.cell_units.proofs.BufferLines.{feed_at_end, line_bounds, row_of_end}
 use Rattle.cell_units.proofs.PlainLayers.{line_of_offset, plain_line_is}
 use Rattle.cell_units.proofs.ReplacedRows.{row_of-lt}
@@ -61,7 +61,7 @@ length-row text line lt =
     )
 
 -- an empty row has none
-pub no_piece : (text : List ℕ) (line : ℕ) → line < line_count text → line_start text line ≡ line_end text line → slice_get (plain_layout text).lines line ≡ Some []
+pub no_piece : (text : List ℕ) (line : ℕ) → line < line_count text → line_start text line ≡ line_end text line → slice_get (shown_lines (plain_source text)) line ≡ Some []
 no_piece text line lt e =
     let none : line_end text line - line_start text line ≡ 0 = omega (arith, e) in
     plain_line_is text line lt
@@ -69,7 +69,7 @@ no_piece text line lt e =
 
 -- any other has one, with all its bytes
 pub whole_row : (text : List ℕ) (line : ℕ) → line < line_count text → line_start text line < line_end text line →
-    slice_get (plain_layout text).lines line
+    slice_get (shown_lines (plain_source text)) line
     ≡ Some (record { kind = Buffer; text = slice_range text (line_start text line) (line_end text line); start = line_start text line; end = line_end text line } ∷ [])
 whole_row text line lt some =
     let long = length-row text line lt in

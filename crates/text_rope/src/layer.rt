@@ -1,20 +1,16 @@
-//! The rope as a layer: its lines are those of the text, and each boundary stands at its own offset.
+//! The rope as a layer: a text without inlays and folds, whose lines are its own and whose boundaries stand at their offsets.
 
 use crate::rope::Rope;
 use cell_units::{Bias, Layer, NoMemory, Piece, PieceKind, Point, Steps};
 use std::alloc::Global;
 
 impl Layer for Rope {
-    ghost use Rattle.cell_units.specs.Layers.{plain_layout};
+    ghost use Rattle.cell_units.specs.Layers.{plain_source};
 
-    ghost layout = { plain_layout };
+    ghost source = { plain_source };
 
     fn share(&self) -> Result<Rope, NoMemory> {
         Rope::share(self)
-    }
-
-    fn laws(&self) {
-        let _length = self.len();
     }
 
     fn buffer_len(&self) -> u32 {
@@ -34,7 +30,6 @@ impl Layer for Rope {
     }
 
     fn place(&self, offset: u32, _bias: Bias) -> u32 {
-        self.laws();
         offset
     }
 
@@ -43,12 +38,15 @@ impl Layer for Rope {
     }
 
     fn back(&self, place: u32, _bias: Bias) -> Option<u32> {
-        self.laws();
         if self.on_boundary(place) {
             Some(place)
         } else {
             None
         }
+    }
+
+    fn line_start(&self, line: u32) -> u32 {
+        self.row_range(line, &mut Steps::new()).0
     }
 
     fn pieces(&self, alloc: Global, line: u32) -> Result<Vec<Piece>, NoMemory> {
@@ -68,8 +66,11 @@ impl Layer for Rope {
     }
 
     fn span(&self, line: u32) -> (u32, u32) {
-        self.laws();
         (line, line)
+    }
+
+    fn row_range(&self, row: u32) -> (u32, u32) {
+        self.row_range(row, &mut Steps::new())
     }
 
     fn row_ends(&self, offset: u32) -> (u32, u32) {

@@ -185,7 +185,11 @@ fn shows_line<L: Layer>(
     end: u32,
     text: &str,
 ) -> Result<bool, NoMemory> {
-    if line >= layer.lines() || layer.span(line) != (line, line) {
+    if line >= layer.lines()
+        || layer.span(line) != (line, line)
+        || layer.line_start(line) != start
+        || layer.row_range(line) != (start, end)
+    {
         return Ok(false);
     }
     let pieces = layer.pieces(alloc, line)?;

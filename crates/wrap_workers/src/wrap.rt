@@ -4,19 +4,19 @@ ghost use Rattle.wrap_workers.specs.Jobs.{places_of, wraps_of};
 ghost use Rattle.wrap_workers.specs.Finishes.{job_of};
 
 use crate::job::{Done, Finished, Job};
-use cell_line::{Cuts, Lines, cuts};
+use cell_line::{Cuts, Lines};
 use cell_units::NoMemory;
 use std::alloc::Global;
 
-/// The cuts of each line of the job's run. It asks once for the elements of each.
+/// The cuts of each line of the job's run.
 fn wraps<N: Lines>(alloc: Global, job: &Job<N>) -> Result<Vec<Cuts>, NoMemory>
     ensures { IfOk result (λ wraps. places_of wraps.items ≡ wraps_of (N.elements_by_line job.now.lines) job.now.run job.now.width) }
 {
     let run = job.run();
     let mut wraps = Vec::new(alloc);
     for line in run.first..run.first + run.count {
-        let elements = job.lines().elements(alloc, line)?;
-        wraps.push(cuts(alloc, elements.as_slice(), job.width())?)?;
+        let cuts = job.lines().cuts(alloc, line, job.width())?;
+        wraps.push(cuts)?;
     }
     Ok(wraps)
 }

@@ -1,13 +1,14 @@
 //! Lines whose elements and cuts are known.
-ghost use Rattle.std.specs.Prelude.{◌≡◌, ◌<◌, length};
+ghost use Rattle.std.specs.Prelude.{◌≡◌, ◌<◌, length, IfOk};
+ghost use Rattle.cell_line.specs.Elements.{bytes_in};
 ghost use Rattle.cell_line.specs.Wrapping.{IsWidth};
 
 use crate::element::Element;
-use crate::laws::worked_rows;
+use crate::laws::{line_laws, worked_rows};
 use crate::lines::Lines;
-use crate::wrapping::{Cuts, cuts, indent};
+use crate::wrapping::{Cuts, cuts, indent, wrap};
 use alike::{Alike, short_line};
-use cell_units::NoMemory;
+use cell_units::{NoMemory, Piece, PieceKind, Text};
 use std::alloc::Global;
 
 mod alike;
@@ -20,6 +21,32 @@ fn cut(alloc: Global, text: &str, width: u32) -> Result<(Cuts, u32), NoMemory>
     let line = short_line(alloc, text)?;
     let depth = indent(line.as_slice(), width);
     Ok((cuts(alloc, line.as_slice(), width)?, depth))
+}
+
+/// The piece of a short text.
+fn short_piece(alloc: Global, text: &str) -> Result<Vec<Piece>, NoMemory>
+    requires { length text.now < 1000 }
+    ensures { IfOk result (λ pieces. bytes_in pieces.items < 1000) }
+{
+    let mut pieces = Vec::new(alloc);
+    pieces.push(Piece {
+        kind: PieceKind::Buffer,
+        text: Text::from_str(alloc, text)?,
+        start: 0,
+        end: 0,
+    })?;
+    Ok(pieces)
+}
+
+/// The cuts of a short text at tab size 4, without its elements.
+fn wrapped(alloc: Global, text: &str, width: u32) -> Result<Cuts, NoMemory>
+    requires short { length text.now < 1000 }
+    requires lawful { IsWidth width }
+{
+    line_laws();
+    let pieces = short_piece(alloc, text)?;
+    let cuts = wrap(alloc, pieces.as_slice(), 4, width)?;
+    Ok(cuts)
 }
 
 #[test]
@@ -46,6 +73,10 @@ fn known_cuts(rt: HostRuntime) {
                 assert_eq!(rt; cuts.as_slice(), want, "{text:?} at {width}");
                 assert_eq!(rt; got, depth, "{text:?} at {width}");
             }
+            Err(NoMemory) => panic!(rt; "out of memory"),
+        }
+        match wrapped(rt.alloc(), text, width) {
+            Ok(cuts) => assert_eq!(rt; cuts.as_slice(), want, "{text:?} wrapped at {width}"),
             Err(NoMemory) => panic!(rt; "out of memory"),
         }
     }

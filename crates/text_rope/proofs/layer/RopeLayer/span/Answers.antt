@@ -1,6 +1,6 @@
-use Rattle.std.proofs.Common.{arith}
+use Rattle.std.proofs.Common.{sym, arith}
 use Rattle.cell_units.proofs.PlainLayers.{plain_line_count, plain_span}
 use Rattle.text_rope.proofs.layer.RopeLayer.span.Goals as goal
 
 pub returns : goal.returns
-returns c = plain_span c.args.self.now c.args.line c.laws.ensures.text.0 (omega (arith, c.requires, plain_line_count c.args.self.now))
+returns c = sym (plain_span c.args.self.now c.args.line (omega (arith, c.requires, plain_line_count c.args.self.now)))

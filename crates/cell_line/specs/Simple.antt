@@ -1,0 +1,13 @@
+-- Bytes that are clusters by themselves beside their like.
+use Rattle.std.specs.Prelude.{◌≡◌, ◌⊎◌, ℕ, ◌-◌, ◌<◌, ◌≤◌, Bool, true, ◌||◌, ◌==◌, List, length, slice_index}
+use Rattle.std.specs.Int.{is_in_range}
+
+-- printable ASCII, or a tab
+abbrev pub is_simple : ℕ → Bool
+is_simple byte = (byte == 9) || is_in_range 32 126 byte
+
+-- the place is the text's end or stands between two simple bytes
+pub record IsSeam (text : List ℕ) (from at : ℕ) : Type 0 where
+  pub past : from < at
+  pub within : at ≤ length text
+  pub apart : (at ≡ length text) ⊎ ((at < length text) × (is_simple (slice_index text (at - 1)) ≡ true) × (is_simple (slice_index text at) ≡ true))

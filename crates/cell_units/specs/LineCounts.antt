@@ -1,0 +1,82 @@
+-- How the display lines before and after an operation go together.
+use Rattle.std.specs.Prelude.{ℕ, ◌≡◌, ◌+◌, ◌-◌, ◌≤◌, ◌<◌, ◌==◌, List, length, map, count_by}
+use Rattle.std.specs.List.{All}
+use Rattle.cell_units.specs.declared.place.Bias.TheVariants.{Left, Right}
+use Rattle.cell_units.specs.declared.piece.Piece.{Piece}
+use Rattle.cell_units.specs.Text.{clean, row_start, row_end}
+use Rattle.cell_units.specs.Anchor.{move}
+use Rattle.cell_units.specs.Sorting.{sort_by}
+use Rattle.cell_units.specs.Record.{Record, inlay_le}
+use Rattle.cell_units.specs.Operation.{Operation, Replace, AddInlay, AddFold}
+use Rattle.cell_units.specs.Folded.{line_of}
+use Rattle.cell_units.specs.Pieces.{folded_lines}
+use Rattle.cell_units.specs.Touched.{Touched, row_range, touched_lines, touched_before, touched_after, untouched, one_run}
+
+-- a record whose inlays stand in order, no id twice, and whose inlays and folds lie within the text
+pub record IsLawful (r : Record) : Type 0 where
+  pub inlays_sorted : sort_by inlay_le r.inlays ≡ r.inlays
+  pub inlays_distinct : (id : ℕ) → count_by (λ i. i.id == id) r.inlays ≤ 1
+  pub inlays_within : All (λ i. i.offset ≤ length r.text) r.inlays
+  pub folds_distinct : (id : ℕ) → count_by (λ f. f.id == id) r.folds ≤ 1
+  pub folds_within : All (λ f. (f.start < f.end) × (f.end ≤ length r.text)) r.folds
+
+-- the operation lies within the record's text
+abbrev pub Fits : Operation → Record → Type 0
+Fits (Replace a b s) r = (a ≤ b) × (b ≤ length r.text)
+Fits (AddInlay i) r = i.offset ≤ length r.text
+Fits (AddFold f) r = (f.start < f.end) × (f.end ≤ length r.text)
+Fits _ r = Unit {0}
+
+-- the id of what the operation adds is not in use
+abbrev pub IsFresh : Operation → Record → Type 0
+IsFresh (AddInlay i) r = count_by (λ j. j.id == i.id) r.inlays ≡ 0
+IsFresh (AddFold f) r = count_by (λ g. g.id == f.id) r.folds ≡ 0
+IsFresh _ r = Unit {0}
+
+abbrev pub move_piece : ℕ → ℕ → ℕ → Piece → Piece
+move_piece a b n p = record { kind = p.kind; text = p.text; start = move p.start Right a b n; end = move p.end Right a b n }
+
+-- a piece of an untouched line after the operation
+abbrev pub operated_piece : Operation → Piece → Piece
+operated_piece (Replace a b s) p = move_piece a b (length (clean s)) p
+operated_piece _ p = p
+
+-- the pieces of each display line
+abbrev pub lines_of : Record → List (List Piece)
+lines_of r = folded_lines r.text r.inlays r.folds
+
+-- the display line that holds the start of an offset's row (Left), and the one that holds its end (Right)
+abbrev pub line_of_row_start : Record → ℕ → ℕ
+line_of_row_start r o = line_of r.text r.inlays r.folds (row_start r.text o) Left
+
+abbrev pub line_of_row_end : Record → ℕ → ℕ
+line_of_row_end r o = line_of r.text r.inlays r.folds (row_end r.text o) Right
+
+-- the lines that touch the rows from that of an offset to that of another are those from the line of the first row's start
+-- to the line of the last row's end
+abbrev pub RowsAreOneRun : Record → ℕ → ℕ → Type 0
+RowsAreOneRun r a b =
+    let first = line_of_row_start r a in
+    let last = line_of_row_end r b in
+    (first ≤ last)
+    × (last < length (lines_of r))
+    × (touched_lines (row_range r.text a b) r ≡ one_run first (last + 1 - first) (length (lines_of r) - (last + 1)))
+
+-- one run of lines is touched before and one after, with as many lines in front of it and behind it
+pub record TouchesOneRun (touched : Touched) (r r' : Record) : Type 0 where
+  pub front : ℕ
+  pub before : ℕ
+  pub after : ℕ
+  pub back : ℕ
+  pub before_are : touched_before touched r ≡ one_run front before back
+  pub after_are : touched_after touched r' ≡ one_run front after back
+
+-- the k-th untouched line after has the pieces of the k-th before, moved
+abbrev pub KeepsPieces : Touched → (Piece → Piece) → Record → Record → Type 0
+KeepsPieces touched moved r r' =
+    untouched (touched_after touched r') (lines_of r') ≡ map (map moved) (untouched (touched_before touched r) (lines_of r))
+
+-- there are as many untouched lines after as before
+abbrev pub KeepsCount : Touched → Record → Record → Type 0
+KeepsCount touched r r' =
+    length (untouched (touched_after touched r') (lines_of r')) ≡ length (untouched (touched_before touched r) (lines_of r))

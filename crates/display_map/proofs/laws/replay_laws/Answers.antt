@@ -1,0 +1,9 @@
+use Rattle.display_map.proofs.FittingBatches.{fitting_change}
+use Rattle.display_map.proofs.LawfulReplays.{IsLawfulState-replayed}
+use Rattle.display_map.proofs.laws.replay_laws.Goals as goal
+
+pub returns-clause-lawful : goal.returns-clause-lawful
+returns-clause-lawful c = IsLawfulState-replayed
+
+pub returns-clause-accepted : goal.returns-clause-accepted
+returns-clause-accepted c = fitting_change

@@ -1,0 +1,108 @@
+-- The bytes of a character: the first begins it, and the others go on.
+use Rattle.std.proofs.Common.{◌≡◌, ◌≢◌, ℕ, ◌+◌, ◌/◌, ◌%◌, ◌<◌, ◌≤◌, ◌==◌, ◌&&◌, Bool, true, false, cond, if◌then◌else◌, List, [], ◌∷◌, ◌++◌, map, encode_utf8_all, append-nil, refl, sym, ap, ◌∙◌, subst, inl, inr, ◌⊎◌, arith}
+use lib.Utf8.{encode, scalar}
+use Rattle.std.specs.Str.{IsUtf8, all_scalars}
+use Rattle.std.proofs.lemmas.Bool.{and_from, and_parts, cases_eq, cases_lt, lt-ltb, le-ltb, le-leb}
+use Rattle.std.proofs.lemmas.Bool.Decides.{nat_tests}
+use Rattle.std.proofs.lemmas.List.{map-append}
+use Rattle.std.proofs.lemmas.Str.{IsUtf8-append, IsUtf8-nil, encode_ascii}
+use Rattle.cell_units.specs.Text.{begins_with_feed, carriage_return, clean, goes_on, line_feed, without_returns_before_feeds}
+
+-- each of the bytes goes on
+abbrev pub GoOn : List ℕ → Type 0
+GoOn [] = Unit {0}
+GoOn (b ∷ bs) = (goes_on b ≡ true) × GoOn bs
+
+pub record Spelled (c : ℕ) : Type 0 where
+  pub first : ℕ
+  pub rest : List ℕ
+  pub is : encode c ≡ first ∷ rest
+  pub on : GoOn rest
+  pub small : ((first ≡ c) × (first < 128) × (rest ≡ [])) ⊎ (128 ≤ first)
+
+next-goes_on : (n : ℕ) → goes_on (128 + n % 64) ≡ true
+next-goes_on n = and_from _ _ (le-leb 128 (128 + n % 64) (omega arith)) (lt-ltb (128 + n % 64) 192 (omega arith))
+
+pub spelled : (c : ℕ) → Spelled c
+unfolding encode
+spelled c = go (cases_lt c 128) (cases_lt c 2048) (cases_lt c 65536) where
+  go : (c < 128) ⊎ (128 ≤ c) → (c < 2048) ⊎ (2048 ≤ c) → (c < 65536) ⊎ (65536 ≤ c) → Spelled c
+  go (inl a) y z = record { first = c; rest = []; is = rw (lt-ltb c 128 a) refl; on = tt; small = inl (refl, a, refl) }
+  go (inr a) (inl b) z = record { first = 192 + c / 64; rest = (128 + c % 64) ∷ []; is = rw (le-ltb c 128 a, lt-ltb c 2048 b) refl; on = (next-goes_on c, tt); small = inr (omega arith) }
+  go (inr a) (inr b) (inl d) = record { first = 224 + c / 4096; rest = (128 + c / 64 % 64) ∷ (128 + c % 64) ∷ []; is = rw (le-ltb c 128 a, le-ltb c 2048 b, lt-ltb c 65536 d) refl; on = (next-goes_on (c / 64), (next-goes_on c, tt)); small = inr (omega arith) }
+  go (inr a) (inr b) (inr d) = record { first = 240 + c / 262144; rest = (128 + c / 4096 % 64) ∷ (128 + c / 64 % 64) ∷ (128 + c % 64) ∷ []; is = rw (le-ltb c 128 a, le-ltb c 2048 b, le-ltb c 65536 d) refl; on = (next-goes_on (c / 4096), (next-goes_on (c / 64), (next-goes_on c, tt))); small = inr (omega arith) }
+
+pub goes_on-high : (b : ℕ) → goes_on b ≡ true → 128 ≤ b
+goes_on-high b h = grind (arith, nat_tests, h)
+
+-- ---- a cleaned text is a text
+
+abbrev HasNoReturn : List ℕ → Type 0
+HasNoReturn [] = Unit {0}
+HasNoReturn (b ∷ bs) = (b ≢ carriage_return) × HasNoReturn bs
+
+on-no_return : (bs : List ℕ) → GoOn bs → HasNoReturn bs
+on-no_return [] h = tt
+on-no_return (b ∷ bs) h = ((λ e. let high = goes_on-high b h.0 in omega (arith, e, high)), on-no_return bs h.1)
+
+encode-no_return : (c : ℕ) → c ≢ carriage_return → HasNoReturn (encode c)
+encode-no_return c other = let s = spelled c in subst HasNoReturn (sym s.is) (first s.first s.small, on-no_return s.rest s.on) where
+  first : (b : ℕ) → ((b ≡ c) × (b < 128) × ((spelled c).rest ≡ [])) ⊎ (128 ≤ b) → b ≢ carriage_return
+  first b (inl x) = λ e. other (sym x.0 ∙ e)
+  first b (inr x) = λ e. omega (arith, x, e)
+
+abbrev fed : ℕ → ℕ
+fed b = if b == carriage_return then line_feed else b
+
+fed-same : (bs : List ℕ) → HasNoReturn bs → map fed bs ≡ bs
+fed-same [] h = refl
+fed-same (b ∷ bs) h = λ i. (cond (off i) line_feed b) ∷ fed-same bs h.1 i where
+  off : (b == carriage_return) ≡ false
+  off = grind (arith, nat_tests, h.0)
+
+without-front : (bs rest : List ℕ) → HasNoReturn bs → without_returns_before_feeds (bs ++ rest) ≡ bs ++ without_returns_before_feeds rest
+without-front [] rest h = refl
+without-front (b ∷ bs) rest h =
+    let off : (b == carriage_return) ≡ false = grind (arith, nat_tests, h.0) in
+    ap (λ (t : Bool). if t && begins_with_feed (bs ++ rest) then without_returns_before_feeds (bs ++ rest) else b ∷ without_returns_before_feeds (bs ++ rest)) off
+    ∙ ap (λ (l : List ℕ). b ∷ l) (without-front bs rest h.1)
+
+pub one_utf8 : (c : ℕ) → scalar c ≡ true → IsUtf8 (encode c)
+one_utf8 c h = (c ∷ [], (and_from (scalar c) true h refl, append-nil (encode c)))
+
+return_utf8 : IsUtf8 (carriage_return ∷ [])
+unfolding encode
+return_utf8 = (carriage_return ∷ [], (refl, refl))
+
+pub feed_utf8 : IsUtf8 (line_feed ∷ [])
+unfolding encode
+feed_utf8 = (line_feed ∷ [], (refl, refl))
+
+without-utf8 : (cs : List ℕ) → all_scalars cs ≡ true → IsUtf8 (without_returns_before_feeds (encode_utf8_all cs))
+without-utf8 [] h = IsUtf8-nil
+without-utf8 (c ∷ cs) h = go (cases_eq c carriage_return) (without-utf8 cs (and_parts (scalar c) (all_scalars cs) h).1) where
+  rest : List ℕ
+  rest = encode_utf8_all cs
+
+  go : (c ≡ carriage_return) ⊎ (c ≡ carriage_return → ⊥) → IsUtf8 (without_returns_before_feeds rest) → IsUtf8 (without_returns_before_feeds (encode c ++ rest))
+  go (inr other) ih =
+      subst IsUtf8 (sym (without-front (encode c) rest (encode-no_return c other)))
+      (IsUtf8-append (encode c) (without_returns_before_feeds rest) (one_utf8 c (and_parts (scalar c) (all_scalars cs) h).0) ih)
+  go (inl e) ih = subst (λ (l : List ℕ). IsUtf8 (without_returns_before_feeds (l ++ rest))) (sym (ap encode e ∙ encode_ascii carriage_return (omega arith))) (either (begins_with_feed rest)) where
+    either : (b : Bool) → IsUtf8 (cond b (without_returns_before_feeds rest) (carriage_return ∷ without_returns_before_feeds rest))
+    either true = ih
+    either false = IsUtf8-append (carriage_return ∷ []) (without_returns_before_feeds rest) return_utf8 ih
+
+fed-utf8 : (cs : List ℕ) → all_scalars cs ≡ true → IsUtf8 (map fed (encode_utf8_all cs))
+fed-utf8 [] h = IsUtf8-nil
+fed-utf8 (c ∷ cs) h =
+    subst IsUtf8 (sym (map-append fed (encode c) (encode_utf8_all cs)))
+    (IsUtf8-append (map fed (encode c)) (map fed (encode_utf8_all cs)) (go (cases_eq c carriage_return)) (fed-utf8 cs (and_parts (scalar c) (all_scalars cs) h).1)) where
+      go : (c ≡ carriage_return) ⊎ (c ≡ carriage_return → ⊥) → IsUtf8 (map fed (encode c))
+      go (inr other) = subst IsUtf8 (sym (fed-same (encode c) (encode-no_return c other))) (one_utf8 c (and_parts (scalar c) (all_scalars cs) h).0)
+      go (inl e) = subst (λ (l : List ℕ). IsUtf8 (map fed l)) (sym (ap encode e ∙ encode_ascii carriage_return (omega arith))) feed_utf8
+
+pub clean-utf8 : (bytes : List ℕ) → IsUtf8 bytes → IsUtf8 (clean bytes)
+clean-utf8 bytes u =
+    let w : IsUtf8 (without_returns_before_feeds bytes) = subst (λ (l : List ℕ). IsUtf8 (without_returns_before_feeds l)) u.1.1 (without-utf8 u.0 u.1.0) in
+    subst (λ (l : List ℕ). IsUtf8 (map fed l)) w.1.1 (fed-utf8 w.0 w.1.0)

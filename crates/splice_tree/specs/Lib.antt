@@ -1,0 +1,4 @@
+pub mod Inlays
+pub mod Laws
+pub mod Sides
+pub mod Splices

@@ -1,0 +1,19 @@
+//! A list of splices over a lower sequence: what is kept, and what stands in the place of what is taken out.
+//!
+//! A splice is a gap of the lower sequence that is kept as it is, and then a stretch of it, which may be empty, in whose
+//! place another stands. What lies behind the last splice is kept. A [`SpliceTree`] is seen as the list of its splices; it
+//! carries places between the lower sequence and the upper one, by any measure of which a whole has as much as its parts.
+#![tactic(auto)]
+
+mod carry;
+mod inlays;
+mod laws;
+mod sides;
+mod splice;
+mod splice_tree;
+
+pub use inlays::{ByBytes, Bytes, Inlays};
+pub use laws::splice_laws;
+pub use sides::{Lower, Sides, Upper};
+pub use splice::{Load, NoLoad, Splice};
+pub use splice_tree::{Place, SpliceTree};

@@ -1,0 +1,216 @@
+//! The list of splices.
+ghost use Rattle.std.specs.Prelude.{ℕ, ◌≡◌, ◌+◌, ◌*◌, ◌^◌, ◌<◌, ◌≤◌, ◌++◌, [], length, take, drop, map, slice_get, IfOk, OnOk, OnErr};
+ghost use Rattle.std.specs.Option.{option_copied};
+ghost use Rattle.sum_core.specs.Sums.{total};
+ghost use Rattle.sum_tree.specs.Firsts.{IsFirst};
+ghost use Rattle.splice_tree.specs.Sides.{none, both, BothFit};
+ghost use Rattle.splice_tree.specs.Splices.{Piece, IsRefill, piece_sum, measured, replaced, to_upper, to_lower};
+
+use crate::carry::{carry_down, carry_up};
+use crate::sides::{Lower, Sides, Upper};
+use crate::splice::{Load, Splice};
+use cell_units::{Bias, NoMemory, Steps};
+use std::alloc::Global;
+use std::marker::Model;
+use sum_core::{Count, Summary};
+use sum_tree::SumTree;
+
+/// A list of splices.
+#[derive(Drop)]
+pub struct SpliceTree<S: Summary, P: Load> {
+    splices: SumTree<Splice<S, P>>,
+}
+
+impl<S: Summary, P: Load> Model for SpliceTree<S, P> {
+    ghost use Rattle.std.specs.Prelude.{List};
+    ghost use Rattle.splice_tree.specs.Splices.{Piece};
+
+    ghost Value = { List (Piece S P) };
+
+    ghost view = { λ t. t.splices };
+}
+
+/// Where a place lies among the splices: how many stand before it, what they cover, and the one in which it lies.
+#[derive(Drop)]
+pub struct Place<'a, S: Summary, P: Load> {
+    pub index: u32,
+    pub before: Sides<S>,
+    pub splice: Option<&'a Splice<S, P>>,
+}
+
+impl<S: Summary, P: Load> SpliceTree<S, P> {
+    /// No splice.
+    pub fn new(alloc: Global) -> SpliceTree<S, P>
+        ensures { result ≡ [] }
+    {
+        SpliceTree {
+            splices: SumTree::new(alloc),
+        }
+    }
+
+    /// An equal list.
+    pub fn share(&self) -> Result<SpliceTree<S, P>, NoMemory>
+        ensures { IfOk result (λ t. t ≡ self.now) }
+    {
+        Ok(SpliceTree {
+            splices: self.splices.share()?,
+        })
+    }
+
+    /// These splices.
+    pub fn from_vec(
+        alloc: Global,
+        splices: Vec<Splice<S, P>>,
+        steps: &mut Steps,
+    ) -> Result<SpliceTree<S, P>, NoMemory>
+        requires fits { BothFit S.fits (total (none S.empty) (both S.joined) (piece_sum S.joined) splices.items) }
+        requires small { length splices.items < 2 ^ 32 }
+        ensures ok { IfOk result (λ t. t ≡ splices.items) }
+        ensures steps { steps.new ≤ steps.old + 4 * (length splices.items + 1) }
+    {
+        Ok(SpliceTree {
+            splices: SumTree::from_vec(alloc, splices, steps)?,
+        })
+    }
+
+    /// The number of splices.
+    pub fn len(&self) -> u32
+        ensures { result ≡ length self.now }
+    {
+        self.splices.len()
+    }
+
+    /// What all splices cover, with the gaps before them.
+    pub fn sum(&self) -> Sides<S>
+        ensures { result ≡ total (none S.empty) (both S.joined) (piece_sum S.joined) self.now }
+    {
+        self.splices.sum()
+    }
+
+    /// The first splice whose end on the lower side is at least the target (Left) or greater (Right), or the end.
+    pub fn find_lower<M: Count<S>>(
+        &self,
+        target: u64,
+        bias: Bias,
+        steps: &mut Steps,
+    ) -> Place<'_, S, P>
+        ensures first { IsFirst (none S.empty) (both S.joined) (piece_sum S.joined) (λ s. M.number s.lower) self.now target bias result.index }
+        ensures before { result.before ≡ total (none S.empty) (both S.joined) (piece_sum S.joined) (take result.index self.now) }
+        ensures splice { option_copied result.splice ≡ slice_get self.now result.index }
+        ensures steps { (h : ℕ) → length self.now < 2 * 6 ^ (h + 1) → steps.new ≤ steps.old + 64 * (h + 1) }
+    {
+        let found = self.splices.find::<Lower<M>>(target, bias, steps);
+        Place {
+            index: found.index,
+            before: found.before,
+            splice: found.item,
+        }
+    }
+
+    /// The first splice whose end on the upper side is at least the target (Left) or greater (Right), or the end.
+    pub fn find_upper<M: Count<S>>(
+        &self,
+        target: u64,
+        bias: Bias,
+        steps: &mut Steps,
+    ) -> Place<'_, S, P>
+        ensures first { IsFirst (none S.empty) (both S.joined) (piece_sum S.joined) (λ s. M.number s.upper) self.now target bias result.index }
+        ensures before { result.before ≡ total (none S.empty) (both S.joined) (piece_sum S.joined) (take result.index self.now) }
+        ensures splice { option_copied result.splice ≡ slice_get self.now result.index }
+        ensures steps { (h : ℕ) → length self.now < 2 * 6 ^ (h + 1) → steps.new ≤ steps.old + 64 * (h + 1) }
+    {
+        let found = self.splices.find::<Upper<M>>(target, bias, steps);
+        Place {
+            index: found.index,
+            before: found.before,
+            splice: found.item,
+        }
+    }
+
+    /// Where a place of the lower sequence stands in the upper one.
+    pub fn to_upper<M: Count<S>>(&self, place: u32, bias: Bias, steps: &mut Steps) -> u32
+        requires { to_upper bias (map (measured M.number) self.now) place < 2 ^ 32 }
+        ensures place { result ≡ to_upper bias (map (measured M.number) self.now) place }
+        ensures steps { (h : ℕ) → length self.now < 2 * 6 ^ (h + 1) → steps.new ≤ steps.old + 64 * (h + 1) }
+    {
+        let found = self.find_lower::<M>(place as u64, bias, steps);
+        let rest = place as u64 - M::of(found.before.lower) as u64;
+        let start = M::of(found.before.upper) as u64;
+        let within = carry_up::<S, P, M>(found.splice, rest, bias);
+        (start + within) as u32
+    }
+
+    /// Where a place of the upper sequence stands in the lower one.
+    pub fn to_lower<M: Count<S>>(&self, place: u32, bias: Bias, steps: &mut Steps) -> u32
+        requires { to_lower bias (map (measured M.number) self.now) place < 2 ^ 32 }
+        ensures place { result ≡ to_lower bias (map (measured M.number) self.now) place }
+        ensures steps { (h : ℕ) → length self.now < 2 * 6 ^ (h + 1) → steps.new ≤ steps.old + 64 * (h + 1) }
+    {
+        let found = self.find_upper::<M>(place as u64, bias, steps);
+        let rest = place as u64 - M::of(found.before.upper) as u64;
+        let start = M::of(found.before.lower) as u64;
+        let within = carry_down::<S, P, M>(found.splice, rest, bias);
+        (start + within) as u32
+    }
+
+    /// Puts `fresh` in the place of the splices from place `from` to place `to`, and makes `gap` the gap of the one behind
+    /// them, where there is one.
+    pub fn replace(
+        &mut self,
+        alloc: Global,
+        from: u32,
+        to: u32,
+        fresh: Vec<Splice<S, P>>,
+        gap: S,
+        steps: &mut Steps,
+    ) -> Result<(), NoMemory>
+        requires order { from ≤ to }
+        requires within { to ≤ length self.old }
+        requires gap_fits { (p : Piece S P) → slice_get self.old to ≡ Some p → S.fits (S.joined gap p.old) × S.fits (S.joined gap p.new) }
+        requires fits { BothFit S.fits (total (none S.empty) (both S.joined) (piece_sum S.joined) (replaced from to fresh.items gap self.old)) }
+        requires small { length (replaced from to fresh.items gap self.old) < 2 ^ 32 }
+        ensures ok { OnOk result (self.new ≡ replaced from to fresh.items gap self.old) }
+        ensures err { OnErr result (self.new ≡ self.old) }
+        ensures steps { (h : ℕ) → length self.old < 2 * 6 ^ (h + 1) → length (replaced from to fresh.items gap self.old) < 2 * 6 ^ (h + 1) → steps.new ≤ steps.old + 864 * (h + 1) + 4 * (length fresh.items + 2) }
+    {
+        let refill = self.refill(alloc, to, fresh, gap, steps)?;
+        self.splices
+            .replace(alloc, from, refill.end, refill.splices, steps)
+    }
+
+    /// What takes the place of all up to place `to`, with the splice behind it, of which the gap changes.
+    fn refill(
+        &self,
+        alloc: Global,
+        to: u32,
+        fresh: Vec<Splice<S, P>>,
+        gap: S,
+        steps: &mut Steps,
+    ) -> Result<Refill<S, P>, NoMemory>
+        requires within { to ≤ length self.now }
+        requires gap_fits { (p : Piece S P) → slice_get self.now to ≡ Some p → S.fits (S.joined gap p.old) × S.fits (S.joined gap p.new) }
+        ensures refill { IfOk result (λ r. IsRefill self.now to fresh.items gap r.splices.items r.end) }
+        ensures steps { (h : ℕ) → length self.now < 2 * 6 ^ (h + 1) → steps.new ≤ steps.old + 64 * (h + 1) }
+    {
+        // The number of splices is a u32, and so is each place.
+        let _count = self.len();
+        let mut splices = fresh;
+        match self.splices.get(to, steps) {
+            None => Ok(Refill { splices, end: to }),
+            Some(behind) => {
+                splices.push(behind.with_gap(alloc, gap)?)?;
+                Ok(Refill {
+                    splices,
+                    end: to + 1,
+                })
+            }
+        }
+    }
+}
+
+/// What takes the place of splices up to place `end`.
+#[derive(Drop)]
+struct Refill<S: Summary, P: Load> {
+    splices: Vec<Splice<S, P>>,
+    end: u32,
+}
