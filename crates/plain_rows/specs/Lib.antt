@@ -2,3 +2,5 @@ pub mod Rows
 pub mod Spots
 pub mod Worked
 pub mod Laws
+pub mod Lawful
+pub mod Plain

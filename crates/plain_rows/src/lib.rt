@@ -1,8 +1,16 @@
 //! The plain functions: what the rows of a record are, from scratch, and where its offsets are shown.
 //!
-//! `specs/` has the definitions. The crate promises worked rows of them, as theorems: records of which the rows, the
-//! spots, the nearest valid spots and the offsets are known.
+//! `specs/` has the definitions. `build`, `show`, `clip` and `back` are exactly these, for every lawful record: they are
+//! what all else is compared with. `worked` has records of which rows, spots, nearest valid spots and offsets are known,
+//! as theorems.
 #![tactic(auto)]
 
 pub mod laws;
+pub mod plain;
+pub mod rows;
+pub mod spots;
 pub mod worked;
+
+pub use plain::{Plain, PlainBlock, PlainFold, PlainInlay};
+pub use rows::build;
+pub use spots::{back, clip, show};

@@ -1,0 +1,42 @@
+//! A record as plain lists: what a sequence of commands has made of a text.
+use cell_units::{Bias, Side, Text};
+
+/// A text in the text, shown at its offset.
+#[derive(Debug, Drop)]
+pub struct PlainInlay {
+    pub id: u32,
+    /// The byte of the buffer that it stands before.
+    pub offset: u32,
+    pub bias: Bias,
+    pub text: Text,
+}
+
+/// A range of bytes of the buffer that a placeholder stands for.
+#[derive(Clone, Copy, Debug, PartialEq, Eq)]
+pub struct PlainFold {
+    pub id: u32,
+    pub start: u32,
+    pub end: u32,
+}
+
+/// Lines of their own above or below the row of the buffer that holds an offset.
+#[derive(Debug, Drop)]
+pub struct PlainBlock {
+    pub id: u32,
+    pub side: Side,
+    pub offset: u32,
+    pub lines: Vec<Text>,
+}
+
+/// A text with inlays, folds and blocks, a tab size and a width in cells, and of each display line the width at which
+/// it stands wrapped, or 0. It is seen as a record without its stamps.
+#[derive(Debug, Drop)]
+pub struct Plain {
+    pub text: Text,
+    pub inlays: Vec<PlainInlay>,
+    pub folds: Vec<PlainFold>,
+    pub blocks: Vec<PlainBlock>,
+    pub tab: u32,
+    pub width: u32,
+    pub marks: Vec<u32>,
+}
