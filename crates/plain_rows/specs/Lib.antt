@@ -4,3 +4,4 @@ pub mod Worked
 pub mod Laws
 pub mod Lawful
 pub mod Plain
+pub mod FoldedLines

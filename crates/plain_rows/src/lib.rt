@@ -5,12 +5,14 @@
 //! as theorems.
 #![tactic(auto)]
 
+pub mod folded_lines;
 pub mod laws;
 pub mod plain;
 pub mod rows;
 pub mod spots;
 pub mod worked;
 
+pub use folded_lines::{FoldedLines, PlainSource};
 pub use plain::{Plain, PlainBlock, PlainFold, PlainInlay};
 pub use rows::build;
 pub use spots::{back, clip, show};

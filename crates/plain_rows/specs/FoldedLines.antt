@@ -1,0 +1,139 @@
+-- Display lines laid out as parts of a text and of its inlays.
+use Rattle.std.specs.Prelude.{ℕ, ◌≡◌, ◌≢◌, ◌+◌, ◌<◌, ◌≤◌, Bool, true, false, IsTrue, List, [], ◌∷◌, All, length, map, flat_map, slice_range, slice_index_or}
+use Rattle.std.specs.List.{AllPairs}
+use Rattle.std.specs.Str.{IsUtf8}
+use Rattle.cell_units.specs.declared.place.Bias.TheVariants.{Left}
+use Rattle.cell_units.specs.Text.{IsBoundary, IsText, carriage_return, is_feed, line_feed}
+use Rattle.cell_units.specs.Record as records
+use Rattle.cell_units.specs.Inlaid.{Token, Byte, InlayByte, Hidden}
+use Rattle.cell_units.specs.Folded.{covered, folded, inside}
+use Rattle.cell_units.specs.Layers.{Source}
+use Rattle.plain_rows.specs.declared.folded_lines.Joined.{Joined}
+use Rattle.plain_rows.specs.declared.folded_lines.Part.{Part}
+use Rattle.plain_rows.specs.declared.folded_lines.Part.TheVariants.{Buffer, Inlay, Placeholder, Feed, InlayFeed}
+use Rattle.plain_rows.specs.declared.folded_lines.PlainSource.{PlainSource}
+use Rattle.plain_rows.specs.Plain.{source_of}
+
+-- ---- what is laid out
+
+abbrev pub seen : PlainSource → Source
+seen source = source_of source.text.now source.inlays.now source.folds.now
+
+-- by a number that doesn't fall
+abbrev pub AreInOrder : {X : Type 0} → (X → ℕ) → List X → Type 0
+AreInOrder key xs = AllPairs (λ x y. key x ≤ key y) xs
+
+-- A text of which inlays and folds are in order, stand between characters and are within the limits. No inlay is empty, no
+-- two have one id, and no fold is empty.
+pub record IsLawfulSource (source : Source) : Type 0 where
+  pub text : IsText source.text
+  pub text_size : length source.text ≤ 33554432
+  pub inlays_in_order : AreInOrder (λ (i : records.Inlay). i.offset) source.inlays
+  pub inlays_distinct : AllPairs (λ (i j : records.Inlay). i.id ≢ j.id) source.inlays
+  pub inlays_stand : All (λ i. IsBoundary source.text i.offset × IsUtf8 i.text) source.inlays
+  pub inlays_size : All (λ i. (0 < length i.text) × (length i.text ≤ 1024)) source.inlays
+  pub inlays_count : length source.inlays ≤ 65536
+  pub folds_in_order : AreInOrder (λ (f : records.Fold). f.start) source.folds
+  pub folds_stand : All (λ f. IsBoundary source.text f.start × IsBoundary source.text f.end × (f.start < f.end)) source.folds
+
+-- ---- parts
+
+abbrev pub no_inlay : records.Inlay
+no_inlay = record { offset = 0; bias = Left; id = 0; text = [] }
+
+abbrev pub inlay_at : Source → ℕ → records.Inlay
+inlay_at source number = slice_index_or source.inlays number no_inlay
+
+-- bytes of the buffer of which the first stands at the offset
+abbrev pub bytes_from : ℕ → List ℕ → List Token
+bytes_from o [] = []
+bytes_from o (b ∷ bs) = Byte o b ∷ bytes_from (o + 1) bs
+
+-- what a part shows
+abbrev pub part_tokens : Source → Part → List Token
+part_tokens source (Buffer start end) = bytes_from start (slice_range source.text start end)
+part_tokens source (Inlay number offset start end) =
+    map (InlayByte offset (inlay_at source number).id) (slice_range (inlay_at source number).text start end)
+part_tokens source (Placeholder start end) = Hidden start ∷ []
+part_tokens source (Feed offset) = Byte offset line_feed ∷ []
+part_tokens source (InlayFeed number offset) = InlayByte offset (inlay_at source number).id line_feed ∷ []
+
+-- the offset at which a part begins, and the one behind it
+abbrev pub part_start : Part → ℕ
+part_start (Buffer start end) = start
+part_start (Inlay number offset start end) = offset
+part_start (Placeholder start end) = start
+part_start (Feed offset) = offset
+part_start (InlayFeed number offset) = offset
+
+abbrev pub part_end : Part → ℕ
+part_end (Buffer start end) = end
+part_end (Inlay number offset start end) = offset
+part_end (Placeholder start end) = end
+part_end (Feed offset) = offset + 1
+part_end (InlayFeed number offset) = offset
+
+abbrev pub is_end : Part → Bool
+is_end (Feed offset) = true
+is_end (InlayFeed number offset) = true
+is_end _ = false
+
+-- the second goes on where the first ends, and is not of one piece with it
+abbrev pub AreApart : Part → Part → Type 0
+AreApart (Buffer _ _) (Buffer _ _) = ⊥
+AreApart (Inlay number _ _ _) (Inlay other _ _ _) = number < other
+AreApart _ _ = Unit {0}
+
+abbrev pub Follows : Part → Part → Type 0
+Follows p q = (part_end p ≡ part_start q) × AreApart p q
+
+-- each part follows the one before it
+abbrev pub IsChain : Part → List Part → Type 0
+IsChain p [] = Unit {0}
+IsChain p (q ∷ qs) = Follows p q × IsChain q qs
+
+-- what stands before the first part
+abbrev pub before_all : Part
+before_all = InlayFeed 0 0
+
+-- neither a line feed nor a carriage return
+abbrev pub HasNoBreak : List ℕ → Type 0
+HasNoBreak bytes = All (λ b. (is_feed b ≡ false) × (b ≢ carriage_return)) bytes
+
+-- the part is some characters of its text, without a break
+abbrev pub Lies : Source → Part → Type 0
+Lies source (Buffer start end) =
+    (start < end) × IsBoundary source.text start × IsBoundary source.text end
+    × HasNoBreak (slice_range source.text start end)
+Lies source (Inlay number offset start end) =
+    let text = (inlay_at source number).text in
+    (number < length source.inlays) × (start < end) × IsBoundary text start × IsBoundary text end
+    × HasNoBreak (slice_range text start end)
+Lies source (Placeholder start end) = start < end
+Lies source (Feed offset) = Unit {0}
+Lies source (InlayFeed number offset) = number < length source.inlays
+
+-- ---- lines
+
+-- parts in order, and the ranges that the placeholders stand for
+pub record LaidOut : Type 0 where
+  pub parts : List Part
+  pub joined : List Joined
+
+abbrev pub joined_folds : List Joined → List records.Fold
+joined_folds joined = map (λ j. record { start = j.start; end = j.end; id = 0 }) joined
+
+-- disjoint ranges in order, none empty, which hide what the folds hide
+pub record Joins (folds : List records.Fold) (joined : List Joined) : Type 0 where
+  pub some : All (λ (j : Joined). j.start < j.end) joined
+  pub apart : AllPairs (λ (i j : Joined). i.end ≤ j.start) joined
+  pub inside_same : (o : ℕ) → inside (joined_folds joined) o ≡ inside folds o
+  pub covered_same : (o : ℕ) → covered (joined_folds joined) o ≡ covered folds o
+
+-- the parts show what the text shows with its inlays and folds
+pub record AreLinesOf (source : Source) (laid : LaidOut) : Type 0 where
+  pub lawful : IsLawfulSource source
+  pub shows : flat_map (part_tokens source) laid.parts ≡ folded source.text source.inlays source.folds
+  pub lie : All (Lies source) laid.parts
+  pub chain : IsChain before_all laid.parts
+  pub joins : Joins source.folds laid.joined
