@@ -1,5 +1,6 @@
 pub mod Joined
 pub mod TextLaws
+pub mod Returns
 pub mod BufferLines
 pub mod Unfolded
 pub mod ReplacedRows

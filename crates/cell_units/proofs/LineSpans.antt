@@ -12,7 +12,8 @@ use Rattle.cell_units.specs.Cutting.{onto_line, cut_lines}
 use Rattle.cell_units.specs.Record.{Inlay, Fold}
 use Rattle.cell_units.specs.Inlaid.{Token, Byte, InlayByte, Hidden, offset_of, bytes_of, is_break, inlays_at, inlay_bytes, show_each}
 use Rattle.cell_units.specs.Folded.{inside, covered, shown, folded, folded_before, folded_to, line_of, span_start, span_end}
-use Rattle.cell_units.specs.Layers.{Source, IsWellFormed, place_of, shown_text, line_tokens, span_of}
+use Rattle.cell_units.specs.Lawful.{IsWellFormed}
+use Rattle.cell_units.specs.Layers.{Source, place_of, shown_text, line_tokens, span_of}
 use Rattle.cell_units.proofs.BufferLines.{feeds-append, feeds-cons}
 use Rattle.cell_units.proofs.Joined.{covered_by, inside_of}
 use Rattle.cell_units.proofs.ReplacedRows.{row_of-le}

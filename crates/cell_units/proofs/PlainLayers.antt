@@ -4,7 +4,6 @@ use Rattle.std.specs.Prelude.{slice_get}
 use Rattle.std.specs.List.{sum_by}
 use Rattle.std.proofs.lemmas.Bool.{cases_lt}
 use Rattle.std.proofs.lemmas.List.{length-take-le, take_all}
-use Rattle.std.specs.Str.{IsUtf8}
 use Rattle.std.proofs.lemmas.List.Elements.{All-nil}
 use Rattle.std.proofs.lemmas.List.Sums.{sum_by-cons}
 use Rattle.cell_units.specs.declared.place.Bias.{Bias}
@@ -12,11 +11,12 @@ use Rattle.cell_units.specs.declared.place.Bias.TheVariants.{Left, Right}
 use Rattle.cell_units.specs.declared.piece.Piece.{Piece}
 use Rattle.cell_units.specs.Text.{is_feed, row_of, IsBoundary, IsText}
 use Rattle.cell_units.specs.Cutting.{onto_line}
-use Rattle.cell_units.specs.Record.{Fold, Inlay, line_count}
+use Rattle.cell_units.specs.Record.{Fold, Inlay, fold_le, inlay_le, line_count}
 use Rattle.cell_units.specs.Inlaid.{Token, bytes_of, show_each}
 use Rattle.cell_units.specs.Folded.{shown}
 use Rattle.cell_units.specs.BufferLines.{buffer_lines, behind_feeds, line_start, line_end}
-use Rattle.cell_units.specs.Layers.{plain_source, shown_lines, shown_text, span_of, place_of, IsBack, IsWellFormed, HasPlace}
+use Rattle.cell_units.specs.Lawful.{AreEntries, IsFoldOf, IsInlayOf, IsWellFormed}
+use Rattle.cell_units.specs.Layers.{plain_source, shown_lines, shown_text, span_of, place_of, IsBack, HasPlace}
 use Rattle.cell_units.proofs.BufferLines.{length-buffer_lines, get_or-buffer_lines, line_end_last, line_end_next, row_of_start, row_of_end}
 use Rattle.cell_units.proofs.ReplacedRows.{row_of-lt, row_of-le}
 use Rattle.cell_units.proofs.Unfolded.{line_pieces, pieces_from, plain_spans, unfolded_lines}
@@ -138,11 +138,12 @@ line_of_offset text o le = (from (row_of text o) refl, to) where
 
 -- ---- it is well formed
 
+no_entries : {X : Type 0} (le : X → X → Bool) (id_of : X → ℕ) (Fits : X → Type 0) → AreEntries le id_of Fits []
+no_entries le id_of Fits = record { in_order = refl; distinct = λ id. omega arith; few = omega arith; each = All-nil Fits }
+
 pub plain_well_formed : (text : List ℕ) → IsText text → IsWellFormed (plain_source text)
 plain_well_formed text is = record {
   text = is;
-  inlays_in_order = refl;
-  folds_in_order = refl;
-  inlays_stand = All-nil (λ (i : Inlay). IsBoundary text i.offset × IsUtf8 i.text);
-  folds_stand = All-nil (λ (f : Fold). IsBoundary text f.start × IsBoundary text f.end × (f.start < f.end));
+  inlays = no_entries inlay_le (λ (i : Inlay). i.id) (IsInlayOf text);
+  folds = no_entries fold_le (λ (f : Fold). f.id) (IsFoldOf text);
 }

@@ -12,7 +12,8 @@ use Rattle.cell_units.specs.Inlaid.{Token, Byte, InlayByte, Hidden, bytes_of, is
 use Rattle.cell_units.specs.Folded.{inside, covered, shown, folded, folded_before, folded_to, display_lines}
 use Rattle.cell_units.specs.Pieces.{pieces_of, piece_before, is_one_piece}
 use Rattle.cell_units.specs.BufferLines.{buffer_lines}
-use Rattle.cell_units.specs.Layers.{Source, IsWellFormed, shown_lines, shown_text}
+use Rattle.cell_units.specs.Lawful.{IsWellFormed}
+use Rattle.cell_units.specs.Layers.{Source, shown_lines, shown_text}
 use Rattle.cell_units.proofs.BufferLines.{length-buffer_lines}
 
 -- ---- the bytes of a line

@@ -9,7 +9,8 @@ use Rattle.cell_units.specs.Text.{is_feed, row_of}
 use Rattle.cell_units.specs.Record.{line_count}
 use Rattle.cell_units.specs.Folded.{covered}
 use Rattle.cell_units.specs.BufferLines.{buffer_lines, line_start, line_end}
-use Rattle.cell_units.specs.Layers.{Source, IsWellFormed, shown_lines, shown_text}
+use Rattle.cell_units.specs.Lawful.{IsWellFormed}
+use Rattle.cell_units.specs.Layers.{Source, shown_lines, shown_text}
 use Rattle.cell_units.specs.Laws.{HasNoFeed, IsCopied}
 use Rattle.cell_units.proofs.BufferLines.{LineAt, buffer_line, feeds-append, feeds-cons, get_or-buffer_lines, line_count-is}
 use Rattle.cell_units.proofs.BufferPieces.{shown-copied}
@@ -30,7 +31,7 @@ ends_open s w = (covered_inside s.folds n none, none) where
     go (inl h) =
         let r = covered_of s.folds n h in
         let m = r.1 in
-        let within : r.0.end ≤ n = subst (λ f. f.end ≤ n) m.2 (w.folds_stand m.0 r.0 m.1).1.0 in
+        let within : r.0.end ≤ n = subst (λ f. f.end ≤ n) m.2 (w.folds.each m.0 r.0 m.1).end.0 in
         absurd (omega (arith, within, r.3))
 
 -- ---- lines

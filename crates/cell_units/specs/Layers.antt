@@ -1,15 +1,12 @@
 -- What a layer shows. A layer is seen as its source: a text, the inlays in it and the folds over it, as a record has them.
 -- All else follows from these: its lines, its text and the places of offsets are those of the folded text.
-use Rattle.std.specs.Prelude.{ℕ, ◌≡◌, ◌-◌, ◌<◌, ◌≤◌, false, List, [], length, flat_map, slice_index_or, Option, Some, None}
-use Rattle.std.specs.List.{All}
-use Rattle.std.specs.Str.{IsUtf8}
+use Rattle.std.specs.Prelude.{ℕ, ◌≡◌, ◌-◌, ◌≤◌, false, List, [], length, flat_map, slice_index_or, Option, Some, None}
 use Rattle.cell_units.specs.declared.place.Bias.{Bias}
 use Rattle.cell_units.specs.declared.place.Bias.TheVariants.{Left, Right}
 use Rattle.cell_units.specs.declared.place.Point.{Point}
 use Rattle.cell_units.specs.declared.piece.Piece.{Piece}
-use Rattle.cell_units.specs.Text.{IsText, IsBoundary, row_of, row_start}
-use Rattle.cell_units.specs.Sorting.{sort_by}
-use Rattle.cell_units.specs.Record.{Inlay, Fold, inlay_le, fold_le}
+use Rattle.cell_units.specs.Text.{IsBoundary, row_of, row_start}
+use Rattle.cell_units.specs.Record.{Inlay, Fold}
 use Rattle.cell_units.specs.Inlaid.{Token, bytes_of}
 use Rattle.cell_units.specs.Folded.{inside, display_lines, folded_to, folded_place, span_start, span_end}
 use Rattle.cell_units.specs.Pieces.{folded_lines}
@@ -30,14 +27,6 @@ inlay_source text inlays = record { text = text; inlays = inlays; folds = [] }
 -- the same without its folds: the layer that the folds are over
 abbrev pub unfolded : Source → Source
 unfolded source = inlay_source source.text source.inlays
-
--- The text is one. Inlays and folds are sorted as those of a record, and stand at its boundaries; no fold is empty.
-pub record IsWellFormed (source : Source) : Type 0 where
-  pub text : IsText source.text
-  pub inlays_in_order : sort_by inlay_le source.inlays ≡ source.inlays
-  pub folds_in_order : sort_by fold_le source.folds ≡ source.folds
-  pub inlays_stand : All (λ i. IsBoundary source.text i.offset × IsUtf8 i.text) source.inlays
-  pub folds_stand : All (λ f. IsBoundary source.text f.start × IsBoundary source.text f.end × (f.start < f.end)) source.folds
 
 -- ---- lines and the text
 

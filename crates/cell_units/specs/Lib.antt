@@ -12,7 +12,10 @@ pub mod Pieces
 pub mod Touched
 pub mod LineCounts
 pub mod BufferLines
+pub mod Points
 pub mod Layers
+pub mod Lawful
+pub mod Rows
 pub mod Joined
 pub mod Folding
 pub mod Laws

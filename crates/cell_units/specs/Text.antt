@@ -55,3 +55,10 @@ row_start text o = o - suffix_len (λ b. not (is_feed b)) (take o text)
 -- the end of the row that holds the offset: before its LF, or the text's end
 abbrev pub row_end : List ℕ → ℕ → ℕ
 row_end text o = o + prefix_len (λ b. not (is_feed b)) (drop o text)
+
+-- where the character starts that the offset is inside of, and where it ends. A boundary is inside of none: it stays
+abbrev pub character_start : List ℕ → ℕ → ℕ
+character_start text o = if is_boundary text o then o else o - suffix_len goes_on (take o text) - 1
+
+abbrev pub character_end : List ℕ → ℕ → ℕ
+character_end text o = o + prefix_len goes_on (drop o text)

@@ -76,3 +76,24 @@ impl From<NoMemory> for Fault {
         Fault::NoMemory
     }
 }
+
+/// Why bytes are no text.
+#[derive(Clone, Copy, Debug, PartialEq, Eq)]
+pub enum TextFault {
+    /// The bytes aren't UTF-8. `at` is the length in bytes of their longest prefix that is.
+    NotUtf8 { at: u64 },
+    /// There are more bytes than `TEXT_LIMIT`.
+    TooLong,
+    NoMemory,
+}
+
+impl From<NoMemory> for TextFault {
+    ghost use Rattle.std.specs.Prelude.{◌≡◌};
+    ghost use Rattle.cell_units.specs.declared.fault.TextFault.TheVariants as faults;
+
+    ghost from_gives = { λ _ e. e ≡ faults.NoMemory };
+
+    fn from(_error: NoMemory) -> TextFault {
+        TextFault::NoMemory
+    }
+}

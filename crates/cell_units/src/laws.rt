@@ -11,7 +11,8 @@ ghost use Rattle.cell_units.specs.Touched.{touched};
 ghost use Rattle.cell_units.specs.LineCounts.{Fits, IsFresh, IsLawful, KeepsCount, KeepsPieces, RowsAreOneRun, TouchesOneRun, operated_piece};
 ghost use Rattle.cell_units.specs.Folded.{covered, display_lines, folded, line_of, place_in_line};
 ghost use Rattle.cell_units.specs.Joined.{IsJoined, ShowsOnePlaceholder, ShowsPlaceholder};
-ghost use Rattle.cell_units.specs.Layers.{IsWellFormed, Source, inlay_source, place_of, plain_source, point_of, shown_lines, shown_text, span_of, unfolded};
+ghost use Rattle.cell_units.specs.Lawful.{IsWellFormed};
+ghost use Rattle.cell_units.specs.Layers.{Source, inlay_source, place_of, plain_source, point_of, shown_lines, shown_text, span_of, unfolded};
 ghost use Rattle.cell_units.specs.Folding.{folded_token, inlaid_token};
 ghost use Rattle.cell_units.specs.Laws.{AreUncovered, HasNoFeed, HasNoReturn, HasRow, IsCopied, IsInOneRow, inlaid_bytes, ShowPlaceholder, ShowsAsInlaid, TellsBoundaries};
 

@@ -3,7 +3,8 @@ ghost use Rattle.std.specs.Prelude.{◌≡◌, ◌<◌, ◌≤◌, ◌↔◌, Is
 ghost use Rattle.cell_units.specs.BufferLines.{line_end, line_start};
 ghost use Rattle.cell_units.specs.Record.{line_count};
 ghost use Rattle.cell_units.specs.Text.{IsBoundary, row_end, row_start};
-ghost use Rattle.cell_units.specs.Layers.{IsBack, IsWellFormed, Source, place_of, point_of, shown_lines, shown_text, span_of};
+ghost use Rattle.cell_units.specs.Lawful.{IsWellFormed};
+ghost use Rattle.cell_units.specs.Layers.{IsBack, Source, place_of, point_of, shown_lines, shown_text, span_of};
 
 use crate::fault::NoMemory;
 use crate::piece::Piece;

@@ -5,19 +5,24 @@
 //! `fold_laws` and `layer_laws` have what they mean in other words, and `worked` has texts of which the outcome is known.
 #![tactic(auto)]
 
+pub mod cleaning;
 pub mod fault;
 pub mod laws;
 pub mod layer;
+pub mod limits;
 pub mod piece;
 pub mod place;
+pub mod rows;
 pub mod steps;
 pub mod text;
 pub mod worked;
 
-pub use fault::{Fault, NoMemory, Refusal};
+pub use cleaning::{cleaned, push_clean};
+pub use fault::{Fault, NoMemory, Refusal, TextFault};
 pub use laws::{fold_laws, folding_laws, inlay_laws, layer_laws, operation_laws, text_laws};
 pub use layer::Layer;
 pub use piece::{Piece, PieceKind};
 pub use place::{Bias, Motion, Point, Shift, Side, Spot};
+pub use rows::Rows;
 pub use steps::Steps;
-pub use text::Text;
+pub use text::{Text, read_text};

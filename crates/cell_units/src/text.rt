@@ -1,7 +1,10 @@
 //! A text that contracts see as its bytes.
 ghost use Rattle.std.specs.Prelude.{◌≡◌, IfOk};
+ghost use Rattle.std.specs.Result.{MatchResult};
+ghost use Rattle.cell_units.specs.Refusal.{IsAccepted, IsTextRefused};
 
-use crate::fault::NoMemory;
+use crate::fault::{NoMemory, TextFault};
+use crate::limits::TEXT_LIMIT;
 use std::alloc::Global;
 use std::marker::Model;
 
@@ -33,5 +36,20 @@ impl Text {
         ensures { result.now ≡ self.now }
     {
         self.string.as_str()
+    }
+}
+
+/// The bytes as text. `TooLong` where there are more than `TEXT_LIMIT`, and else `NotUtf8` where they aren't UTF-8.
+pub fn read_text(bytes: &[u8]) -> Result<&str, TextFault>
+    ensures { MatchResult result (λ text. (text.now ≡ bytes.now) × IsAccepted bytes.now) (IsTextRefused bytes.now) }
+{
+    if bytes.len() > TEXT_LIMIT {
+        return Err(TextFault::TooLong);
+    }
+    match str::from_utf8(bytes) {
+        Ok(text) => Ok(text),
+        Err(error) => Err(TextFault::NotUtf8 {
+            at: error.valid_up_to() as u64,
+        }),
     }
 }
