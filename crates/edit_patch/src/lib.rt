@@ -17,5 +17,3 @@ pub mod patch;
 pub use edit::Edit;
 pub use patch::Patch;
 
-#[cfg(test)]
-mod tests;

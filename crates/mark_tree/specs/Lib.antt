@@ -8,5 +8,4 @@ pub mod Order
 pub mod RangeViews
 pub mod Ranges
 pub mod Reaching
-pub mod Tested
 pub mod Views

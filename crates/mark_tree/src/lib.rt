@@ -22,8 +22,6 @@ mod range_tree;
 mod reaching;
 mod shrinking;
 mod spaced;
-#[cfg(test)]
-mod tests;
 
 pub use load::Load;
 pub use mark::{Mark, RangeMark};

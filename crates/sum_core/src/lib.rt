@@ -10,8 +10,6 @@ mod laws;
 mod measure;
 mod node;
 mod summary;
-#[cfg(test)]
-mod tests;
 
 pub use laws::root_holds_many;
 pub use measure::{By, Count, Measure};

@@ -18,8 +18,6 @@ mod path;
 mod search;
 mod splits;
 mod sum_tree;
-#[cfg(test)]
-mod tests;
 mod trees;
 
 pub use cursor::Cursor;

@@ -21,5 +21,3 @@ pub use laws::point_laws;
 pub use rope::{LIMIT, Rope};
 pub use rows::RowSize;
 
-#[cfg(test)]
-mod tests;

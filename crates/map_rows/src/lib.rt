@@ -1,0 +1,15 @@
+//! Worked rows of the crates below the maps: what each call answers on values that are known. There is nothing here but tests.
+#![tactic(auto)]
+
+#[cfg(test)]
+mod marks;
+#[cfg(test)]
+mod nodes;
+#[cfg(test)]
+mod patches;
+#[cfg(test)]
+mod ropes;
+#[cfg(test)]
+mod trees;
+#[cfg(test)]
+mod weights;

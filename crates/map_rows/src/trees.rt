@@ -1,0 +1,170 @@
+//! Trees of weights.
+ghost use Rattle.std.specs.Prelude.{◌≡◌, ◌+◌, ◌≤◌, ◌++◌, length, take, drop};
+ghost use Rattle.sum_core.specs.Sums.{total};
+
+use crate::weights::{AtLeast, Tally, Weight};
+use cell_units::{Bias, NoMemory, Steps};
+use std::alloc::Global;
+use std::test::Fail;
+use sum_core::{Item, Summary};
+use sum_tree::SumTree;
+
+fn weights(tree: &SumTree<Weight>, alloc: Global, steps: &mut Steps) -> Result<Vec<u32>, Fail> {
+    let mut weights = Vec::new(alloc);
+    for at in 0..tree.len() {
+        if let Some(item) = tree.get(at, steps) {
+            weights.push(item.0)?;
+        }
+    }
+    Ok(weights)
+}
+
+/// In [5, 3, 4] the first item's end is at least 5, and the second's is greater.
+#[test]
+fn cursor_seek_stands_left_or_right_of_a_boundary(rt: HostRuntime) -> Result<(), Fail> {
+    let alloc = rt.alloc();
+    let mut steps = Steps::new();
+    let items = Vec::from_array(alloc, [Weight(5), Weight(3), Weight(4)])?;
+    let tree = SumTree::from_vec(alloc, items, &mut steps)?;
+    let mut cursor = tree.cursor::<u64>();
+    assert!(rt; cursor.item().is_none());
+    cursor.seek(5, Bias::Left, &mut steps);
+    assert_eq!(rt; cursor.item().map(|w| w.0), Some(5));
+    assert_eq!(rt; cursor.start(), 0);
+    cursor.seek(5, Bias::Right, &mut steps);
+    assert_eq!(rt; cursor.item().map(|w| w.0), Some(3));
+    assert_eq!(rt; cursor.start(), 5);
+    assert_eq!(rt; cursor.end(), 8);
+    cursor.next(&mut steps);
+    assert_eq!(rt; cursor.item().map(|w| w.0), Some(4));
+    cursor.next(&mut steps);
+    assert!(rt; cursor.item().is_none());
+    cursor.prev(&mut steps);
+    assert_eq!(rt; cursor.item().map(|w| w.0), Some(4));
+    cursor.seek(12, Bias::Right, &mut steps);
+    assert!(rt; cursor.item().is_none());
+    assert_eq!(rt; cursor.start(), 12);
+    Ok(())
+}
+
+/// [5, 3, 4] is cut into [5] and [3, 4], and joined again.
+#[test]
+fn split_and_concat_give_the_list_again(rt: HostRuntime) -> Result<(), Fail> {
+    let alloc = rt.alloc();
+    let mut steps = Steps::new();
+    let items = Vec::from_array(alloc, [Weight(5), Weight(3), Weight(4)])?;
+    let mut tree = SumTree::from_vec(alloc, items, &mut steps)?;
+    let back = tree.split_off(alloc, 1, &mut steps)?;
+    assert_eq!(rt;
+        weights(&tree, alloc, &mut steps)?.as_slice(),
+        [5].as_slice()
+    );
+    assert_eq!(rt;
+        weights(&back, alloc, &mut steps)?.as_slice(),
+        [3, 4].as_slice()
+    );
+    tree.concat(alloc, back, &mut steps)?;
+    assert_eq!(rt;
+        weights(&tree, alloc, &mut steps)?.as_slice(),
+        [5, 3, 4].as_slice()
+    );
+    assert_eq!(rt; tree.sum().total, 12);
+    Ok(())
+}
+
+/// [5, 9, 9, 4] and then [5, 9, 9, 4, 1], while a copy that was shared before is still [5, 3, 4].
+#[test]
+fn replace_and_push_leave_a_shared_copy(rt: HostRuntime) -> Result<(), Fail> {
+    let alloc = rt.alloc();
+    let mut steps = Steps::new();
+    let items = Vec::from_array(alloc, [Weight(5), Weight(3), Weight(4)])?;
+    let mut tree = SumTree::from_vec(alloc, items, &mut steps)?;
+    let copy = tree.share()?;
+    let nines = Vec::from_array(alloc, [Weight(9), Weight(9)])?;
+    tree.replace(alloc, 1, 2, nines, &mut steps)?;
+    assert_eq!(rt;
+        weights(&tree, alloc, &mut steps)?.as_slice(),
+        [5, 9, 9, 4].as_slice()
+    );
+    tree.push(alloc, Weight(1), &mut steps)?;
+    assert_eq!(rt;
+        weights(&tree, alloc, &mut steps)?.as_slice(),
+        [5, 9, 9, 4, 1].as_slice()
+    );
+    assert_eq!(rt;
+        weights(&copy, alloc, &mut steps)?.as_slice(),
+        [5, 3, 4].as_slice()
+    );
+    Ok(())
+}
+
+/// 9 in the place of 3, 7 before it and 1 at the end make [5, 7, 9, 4, 1] of [5, 3, 4], which a shared copy still is.
+#[test]
+fn single_items_are_put_where_they_belong(rt: HostRuntime) -> Result<(), Fail> {
+    let alloc = rt.alloc();
+    let mut steps = Steps::new();
+    let items = Vec::from_array(alloc, [Weight(5), Weight(3), Weight(4)])?;
+    let mut tree = SumTree::from_vec(alloc, items, &mut steps)?;
+    let copy = tree.share()?;
+    let nine = Vec::from_array(alloc, [Weight(9)])?;
+    tree.replace(alloc, 1, 2, nine, &mut steps)?;
+    let seven = Vec::from_array(alloc, [Weight(7)])?;
+    tree.replace(alloc, 1, 1, seven, &mut steps)?;
+    tree.push(alloc, Weight(1), &mut steps)?;
+    assert_eq!(rt;
+        weights(&tree, alloc, &mut steps)?.as_slice(),
+        [5, 7, 9, 4, 1].as_slice()
+    );
+    assert_eq!(rt; tree.sum().total, 26);
+    assert_eq!(rt;
+        weights(&copy, alloc, &mut steps)?.as_slice(),
+        [5, 3, 4].as_slice()
+    );
+    Ok(())
+}
+
+/// A seek among 1,000,000 items makes at most 512 steps.
+fn seek_among_a_million(tree: &SumTree<Weight>, target: u64, steps: &mut Steps)
+    requires { length tree.now ≡ 1000000 }
+    ensures { steps.new ≤ steps.old + 512 }
+{
+    let mut cursor = tree.cursor::<u64>();
+    cursor.seek(target, Bias::Left, steps);
+}
+
+/// The height of a tree of 1,000,000 items is at most 7.
+fn height_of_a_million(tree: &SumTree<Weight>) -> u32
+    requires { length tree.now ≡ 1000000 }
+    ensures { result ≤ 7 }
+{
+    tree.height()
+}
+
+/// One item of a million is replaced by one in at most 6,408 steps.
+fn replace_one_of_a_million(
+    alloc: Global,
+    tree: &mut SumTree<Weight>,
+    at: u32,
+    items: Vec<Weight>,
+    steps: &mut Steps,
+) -> Result<(), NoMemory>
+    requires million { length tree.old ≡ 1000000 }
+    requires at { at + 1 ≤ 1000000 }
+    requires one { length items.items ≡ 1 }
+    requires fits { ⟦<Tally as Summary>⟧.fits (total ⟦<Tally as Summary>⟧.empty ⟦<Tally as Summary>⟧.joined ⟦<Weight as Item>⟧.summary (take at tree.old ++ items.items ++ drop (at + 1) tree.old)) }
+    ensures { steps.new ≤ steps.old + 6408 }
+{
+    tree.replace(alloc, at, at + 1, items, steps)
+}
+
+/// In [5, 3, 9, 9] the first item of at least 6 is the third, and none is of at least 10.
+#[test]
+fn position_is_of_the_first_item_that_passes(rt: HostRuntime) -> Result<(), Fail> {
+    let alloc = rt.alloc();
+    let mut steps = Steps::new();
+    let items = Vec::from_array(alloc, [Weight(5), Weight(3), Weight(9), Weight(9)])?;
+    let tree = SumTree::from_vec(alloc, items, &mut steps)?;
+    assert_eq!(rt; tree.position(&AtLeast(6), &mut steps), Some(2));
+    assert_eq!(rt; tree.position(&AtLeast(10), &mut steps), None);
+    Ok(())
+}
