@@ -16,7 +16,7 @@ use Rattle.edit_script.specs.declared.asked.Query.{Query}
 use Rattle.edit_script.specs.declared.asked.Query.TheVariants as queries
 use Rattle.display_cli.specs.Outside.{HasRisen, Appends}
 use Rattle.display_cli.specs.Output.{printed}
-use Rattle.display_map.specs.declared.event.Event.{Event}
+use Rattle.display_map.specs.Events.{Event}
 use Rattle.display_cli.specs.declared.stop.Stop.{Stop}
 use Rattle.display_cli.specs.declared.stop.Stop.TheVariants as stops
 use Rattle.display_cli.specs.declared.read.Unread.{Unread}

@@ -8,8 +8,7 @@ use Rattle.cell_line.specs.declared.element.Element.{Element}
 use Rattle.cell_line.specs.declared.lines.Run.{Run}
 use Rattle.wrap_workers.specs.Jobs.{JobParts}
 use Rattle.display_map.specs.Sending.{IsSent, IsRunTaken}
-use Rattle.display_map.specs.declared.event.Event.{Event}
-use Rattle.display_map.specs.declared.event.Event.TheVariants.{Sent, Landed, Published}
+use Rattle.display_map.specs.Events.{Event, Sent, Landed, Published}
 use Rattle.display_map.specs.Replay.{History, State, state_of, appended, next_run, job_numbered}
 use Rattle.display_cli.specs.declared.stop.Stop.{Stop}
 use Rattle.display_cli.specs.declared.stop.Stop.TheVariants as stops

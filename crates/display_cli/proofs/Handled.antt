@@ -5,10 +5,8 @@ use Rattle.std.specs.Result.{IsErrAnd}
 use Rattle.cell_units.specs.declared.fault.Refusal.{Refusal}
 use Rattle.cell_units.specs.Record.{Record}
 use Rattle.display_map.specs.declared.change.Change.{Change}
-use Rattle.display_map.specs.declared.change.Splice.{Splice}
-use Rattle.display_map.specs.declared.event.Event.{Event}
-use Rattle.display_map.specs.declared.event.Event.TheVariants.{Line}
-use Rattle.display_map.specs.Changes.{ops_of, splices_of, change_refusal}
+use Rattle.display_map.specs.Events.{Event, Line}
+use Rattle.display_map.specs.Changes.{ChangeParts, ops_of, parts_of, change_refusal}
 use Rattle.display_map.specs.Faults.{event_limit}
 use Rattle.display_map.specs.Replay.{History, replayed, state_of, present_of, appended}
 use Rattle.edit_script.specs.declared.asked.Query.{Query}
@@ -17,7 +15,7 @@ use Rattle.cell_units.specs.declared.fault.Fault.{Fault}
 use Rattle.cell_units.specs.declared.fault.Fault.TheVariants as faults
 use Rattle.edit_script.specs.declared.asked.Asked.{Asked}
 use Rattle.edit_script.specs.declared.asked.Asked.TheVariants as asks
-use Rattle.edit_script.specs.Commands.{Command, Edit, Rows, command_of, meaning, query_meaning}
+use Rattle.edit_script.specs.Commands.{Command, Apply, Rows, command_of, meaning, query_meaning}
 use Rattle.edit_script.proofs.Verdicts.{verdict-read, verdict-unread}
 use Rattle.edit_script.specs.Printed.{query_lines, refusal_text}
 use Rattle.edit_script.specs.Verdict.{Refused, Accepted, verdict, refused_or, command_verdict, line_limit, IsLineRefused}
@@ -62,7 +60,7 @@ over-refused old mid new number change refusal e has over =
     let P : History → Type 0 = λ h. AreOver (state_of h).jobs in subst P (sym has.1) (over-line old mid number e over)
 
 is-edit : Command → Bool
-is-edit (Edit splices) = true
+is-edit (Apply parts) = true
 is-edit (Rows first count) = false
 
 module _ (course : Course) (number : ℕ) (line : List ℕ) (left : List (ℕ × List ℕ)) (refused : Bool) (taken : Option (List ℕ)) (old : History)
@@ -111,7 +109,7 @@ module _ (course : Course) (number : ℕ) (line : List ℕ) (left : List (ℕ ×
       let Q : Bool → Type 0 = λ b. IsGoing course left (refused || b) then (appended old (Line number ∷ [])) in
       subst P (sym same) (subst Q (ap (λ v. is_refused (Some v)) e)
       (going-line course number line left refused taken old going calm (refusal_text refusal ∷ []) then (refusal-answered refusal e) written
-      (λ splices other. absurd (cannot refusal (Edit splices) (sym e ∙ other)))))
+      (λ parts other. absurd (cannot refusal (Apply parts) (sym e ∙ other)))))
     where
       cannot : (refusal : Refusal) (command : Command) → Refused refusal ≡ Accepted command → ⊥
       cannot refusal command e = cc
@@ -128,31 +126,31 @@ module _ (course : Course) (number : ℕ) (line : List ℕ) (left : List (ℕ ×
       let Q : Bool → Type 0 = λ b. IsGoing course left (refused || b) then (appended old (Line number ∷ [])) in
       subst P (sym same) (subst Q (ap (λ v. is_refused (Some v)) e)
       (going-line course number line left refused taken old going calm (query_lines (present_of old) (query_meaning query)) then (query-answered query e) written
-      (λ splices other. absurd (cannot query splices (sym e ∙ other)))))
+      (λ parts other. absurd (cannot query parts (sym e ∙ other)))))
     where
-      cannot : (query : Query) (splices : List Splice) → Accepted (query_meaning query) ≡ Accepted (Edit splices) → ⊥
-      cannot (queries.Rows first count) splices e = cc
+      cannot : (query : Query) (parts : ChangeParts) → Accepted (query_meaning query) ≡ Accepted (Apply parts) → ⊥
+      cannot (queries.Rows first count) parts e = cc
 
   -- the line of a change
   module _ (calm : IsCalm old) (mid : History) (noted : mid ≡ appended old (Line number ∷ [])) (change : Change)
-      (asked : verdict (present_of old) line ≡ refused_or (Edit (splices_of change)) (change_refusal (present_of old) change)) where
+      (asked : verdict (present_of old) line ≡ refused_or (Apply (parts_of change)) (change_refusal (present_of old) change)) where
     same-present : present_of mid ≡ present_of old
     same-present = ap present_of noted ∙ ap (λ s. s.present) (line-state old number)
 
     pub is-changed : (new : History) → HasChanged mid change new None → IsGoing course left (refused || false) taken new
     is-changed new has =
         let none : change_refusal (present_of old) change ≡ None = ap (λ r. change_refusal r change) (sym same-present) ∙ has.0 in
-        let accepted = asked ∙ ap (refused_or (Edit (splices_of change))) none in
+        let accepted = asked ∙ ap (refused_or (Apply (parts_of change))) none in
         let P : History → Type 0 = λ h. IsGoing course left (refused || false) taken h in
         let Q : History → Type 0 = λ h. IsGoing course left (refused || false) taken (appended h (changed (ops_of change))) in
         subst P (sym has.1) (subst Q (sym noted)
-        (going-changed course number line left refused taken old going calm (splices_of change) accepted))
+        (going-changed course number line left refused taken old going calm (parts_of change) accepted))
 
     pub is-refused-change : (refusal : Refusal) (new : History) → HasChanged mid change new (Some refusal)
         → (new ≡ appended old (Line number ∷ [])) × (verdict (present_of old) line ≡ Refused refusal)
     is-refused-change refusal new has = (
       has.1 ∙ noted,
-      asked ∙ ap (refused_or (Edit (splices_of change))) (ap (λ r. change_refusal r change) (sym same-present) ∙ has.0),
+      asked ∙ ap (refused_or (Apply (parts_of change))) (ap (λ r. change_refusal r change) (sym same-present) ∙ has.0),
     )
 
     pub not-changed : (new : History) → IsWithinChange mid change new → IsCut course taken new
@@ -166,8 +164,8 @@ module _ (course : Course) (number : ℕ) (line : List ℕ) (left : List (ℕ ×
               ([], printed (answer old.opening course.script old.events (Some (verdict (present_of old) line))), refl, appends-none taken))
           | inr e ↦
               (let none : change_refusal (present_of old) change ≡ None = ap (λ r. change_refusal r change) (sym same-present) ∙ e.0 in
-              let accepted = asked ∙ ap (refused_or (Edit (splices_of change))) none in
-              subst P (sym e.1) (subst Q (sym noted) (cut-dids course number line left refused taken old going calm (splices_of change) accepted)))
+              let accepted = asked ∙ ap (refused_or (Apply (parts_of change))) none in
+              subst P (sym e.1) (subst Q (sym noted) (cut-dids course number line left refused taken old going calm (parts_of change) accepted)))
         ]
 
 -- a query that was read is accepted
@@ -181,12 +179,12 @@ verdict-query r line asked query within read e =
 
 -- and a change that was read is judged on the record
 pub verdict-change : (r : Record) (line : List ℕ) (asked : Asked) (change : Change) → length line ≤ line_limit → command_of line ≡ Some (meaning asked)
-    → asked ≡ asks.Change change → verdict r line ≡ refused_or (Edit (splices_of change)) (change_refusal r change)
+    → asked ≡ asks.Change change → verdict r line ≡ refused_or (Apply (parts_of change)) (change_refusal r change)
 verdict-change r line asked change within read e =
     verdict-read r line (meaning asked) within read ∙ ap (λ a. command_verdict r (meaning a)) e
 
 pub command-change : (line : List ℕ) (asked : Asked) (change : Change) → command_of line ≡ Some (meaning asked)
-    → asked ≡ asks.Change change → command_of line ≡ Some (Edit (splices_of change))
+    → asked ≡ asks.Change change → command_of line ≡ Some (Apply (parts_of change))
 command-change line asked change read e = read ∙ ap (λ a. Some (meaning a)) e
 
 pub verdict-refused : (r : Record) (line : List ℕ) (fault : Fault) (refusal : Refusal) → IsLineRefused line fault → fault ≡ faults.Refused refusal

@@ -1,11 +1,10 @@
 -- Histories that end with a line and with operations.
 use Rattle.std.proofs.Common.{◌≡◌, ℕ, Bool, true, false, List, [], ◌∷◌, ◌++◌, map, refl, sym, ap, ◌∙◌, append_assoc}
 use Rattle.std.proofs.lemmas.List.{map-append}
-use Rattle.display_map.specs.declared.change.Op.{Op}
-use Rattle.display_map.specs.declared.event.Event.{Event}
-use Rattle.display_map.specs.declared.event.Event.TheVariants.{Line, Did}
+use Rattle.cell_units.specs.Operation.{Operation}
+use Rattle.display_map.specs.Events.{Event, Line, Did}
 
-abbrev pub dids : List Op → List Event
+abbrev pub dids : List Operation → List Event
 dids ops = map (λ op. Did op) ops
 
 -- a line, or an operation
@@ -14,7 +13,7 @@ is_change (Line number) = true
 is_change (Did op) = true
 is_change _ = false
 
-dids-same : (a b : List Op) → dids a ≡ dids b → a ≡ b
+dids-same : (a b : List Operation) → dids a ≡ dids b → a ≡ b
 dids-same [] [] e = refl
 dids-same [] (y ∷ ys) e = cc
 dids-same (x ∷ xs) [] e = cc
@@ -23,21 +22,21 @@ dids-same (x ∷ xs) (y ∷ ys) e =
     let rest : dids xs ≡ dids ys = cc in
     let tail : xs ≡ ys = dids-same xs ys rest in cc
 
-dids-no-line : (d : List Op) (p : List Event) (n : ℕ) (r : List Event) → dids d ≡ p ++ (Line n ∷ r) → ⊥
+dids-no-line : (d : List Operation) (p : List Event) (n : ℕ) (r : List Event) → dids d ≡ p ++ (Line n ∷ r) → ⊥
 dids-no-line [] [] n r e = cc
 dids-no-line [] (y ∷ p) n r e = cc
 dids-no-line (x ∷ d) [] n r e = cc
 dids-no-line (x ∷ d) (y ∷ p) n r e =
     let tail : dids d ≡ p ++ (Line n ∷ r) = cc in dids-no-line d p n r tail
 
-pub record SameEnd (p q : List Event) (n m : ℕ) (d e : List Op) : Type 0 where
+pub record SameEnd (p q : List Event) (n m : ℕ) (d e : List Operation) : Type 0 where
   pub past : p ≡ q
   pub number : n ≡ m
   pub done : d ≡ e
 
 -- a history ends in one way with a line and operations
 pub same-end :
-    (p q : List Event) (n m : ℕ) (d e : List Op)
+    (p q : List Event) (n m : ℕ) (d e : List Operation)
     → p ++ (Line n ∷ dids d) ≡ q ++ (Line m ∷ dids e) → SameEnd p q n m d e
 same-end [] [] n m d e same =
     let rest : dids d ≡ dids e = cc in
@@ -53,7 +52,7 @@ same-end (x ∷ p) (y ∷ q) n m d e same =
     let tail_past : p ≡ q = tail.past in
     record { past = cc; number = tail.number; done = tail.done }
 
-dids-last : (h : List Event) (e : Event) (d : List Op) → h ++ e ∷ [] ≡ dids d → is_change e ≡ true
+dids-last : (h : List Event) (e : Event) (d : List Operation) → h ++ e ∷ [] ≡ dids d → is_change e ≡ true
 dids-last [] e [] same = cc
 dids-last [] e (x ∷ d) same = let it : e ≡ Did x = cc in ap is_change it
 dids-last (y ∷ h) e [] same = cc
@@ -61,7 +60,7 @@ dids-last (y ∷ h) e (x ∷ d) same = let rest : h ++ e ∷ [] ≡ dids d = cc 
 
 -- its last event is the line or an operation
 pub end-changes :
-    (h : List Event) (e : Event) (p : List Event) (n : ℕ) (d : List Op)
+    (h : List Event) (e : Event) (p : List Event) (n : ℕ) (d : List Operation)
     → h ++ e ∷ [] ≡ p ++ (Line n ∷ dids d) → is_change e ≡ true
 end-changes [] e [] n d same = let it : e ≡ Line n = cc in ap is_change it
 end-changes [] e (y ∷ []) n d same = cc
@@ -85,7 +84,7 @@ append-same (x ∷ d) xs ys same = let rest : d ++ xs ≡ d ++ ys = cc in append
 
 -- one more operation
 pub dids-more :
-    (p : List Event) (n : ℕ) (d : List Op) (op : Op)
+    (p : List Event) (n : ℕ) (d : List Operation) (op : Operation)
     → (p ++ (Line n ∷ dids d)) ++ Did op ∷ [] ≡ p ++ (Line n ∷ dids (d ++ op ∷ []))
 dids-more p n d op =
     append_assoc p (Line n ∷ dids d) (Did op ∷ [])

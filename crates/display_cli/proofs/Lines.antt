@@ -6,14 +6,12 @@ use Rattle.std.specs.List.{list_any, list_all, filter, fold}
 use Rattle.std.proofs.lemmas.List.{append-nil, length-map, length-reverse}
 use Rattle.std.proofs.lemmas.List.Folds.{list_any-append}
 use Rattle.std.proofs.lemmas.List.Sums.{length-filter, count_by-le-length}
-use Rattle.display_map.specs.declared.change.Op.{Op}
-use Rattle.display_map.specs.declared.change.Op.TheVariants.{Replace}
+use Rattle.cell_units.specs.Operation.{Operation, Replace, AddInlay, RemoveInlay, AddFold, RemoveFold, AddBlock, RemoveBlock, SetTab, SetWidth}
 use Rattle.display_map.specs.declared.change.Splice.{Splice}
-use Rattle.display_map.specs.declared.event.Event.{Event}
-use Rattle.display_map.specs.declared.event.Event.TheVariants.{Line, Did, Sent, Landed, Published}
-use Rattle.display_map.specs.Changes.{batch, is_operation}
+use Rattle.display_map.specs.Events.{Event, Line, Did, Sent, Landed, Published}
+use Rattle.display_map.specs.Changes.{ChangeParts, Edit, One, batch, entries_in, is_operation, operations_in, replacement, splice_of}
 use Rattle.display_map.specs.Replay.{History, State, SentJob, happens, replayed, state_of, present_of, appended}
-use Rattle.edit_script.specs.Commands.{Edit}
+use Rattle.edit_script.specs.Commands.{Apply}
 use Rattle.edit_script.specs.Verdict.{Accepted, verdict}
 use Rattle.display_cli.specs.Legal.{IsLegalSoFar, IsChanging, IsChanged, is_line, is_end, numbered_lines, lines_in, next_line, next_verdict, is_landed}
 use Rattle.display_cli.specs.Outside.{Appends}
@@ -25,14 +23,27 @@ use Rattle.display_cli.proofs.Next.{legal-snoc, free-snoc, next-line-event, next
 use Rattle.display_cli.proofs.Rounds.{none-wait, all-settled, state-append}
 use Rattle.display_cli.proofs.Fronts.{appends-more, appends-none, appends-same, front-behind}
 
-pub few-operations : (splices : List Splice) → length (batch splices) ≤ length splices
-few-operations splices =
+few-splices : (splices : List Splice) → length (batch splices) ≤ length splices
+few-splices splices =
     let some : List Splice = filter is_operation splices in
-    let mapped = length-map (reverse some) (λ s. Replace s) in
+    let mapped = length-map (reverse some) replacement in
     let turned = length-reverse some in
     let filtered = length-filter is_operation splices in
     let few = count_by-le-length is_operation splices in
     omega arith
+
+-- a change has as many operations as it has entries, or fewer
+pub few-operations : (parts : ChangeParts) → length (operations_in parts) ≤ entries_in parts
+few-operations (Edit splices) = few-splices splices
+few-operations (One (Replace start end text)) = few-splices (splice_of start end text ∷ [])
+few-operations (One (AddInlay inlay)) = omega arith
+few-operations (One (RemoveInlay id)) = omega arith
+few-operations (One (AddFold fold)) = omega arith
+few-operations (One (RemoveFold id)) = omega arith
+few-operations (One (AddBlock row id side lines)) = omega arith
+few-operations (One (RemoveBlock id)) = omega arith
+few-operations (One (SetTab tab)) = omega arith
+few-operations (One (SetWidth width)) = omega arith
 
 -- events that send and land nothing keep the jobs
 abbrev pub is_jobless : Event → Bool
@@ -62,16 +73,16 @@ or-none-false : (a : Bool) → a ≡ false → (a || false) ≡ false
 or-none-false true e = e
 or-none-false false e = refl
 
-end-not-empty' : (done : List Op) (op : Op) (rest : List Op) → done ++ (op ∷ rest) ≡ [] → ⊥
+end-not-empty' : (done : List Operation) (op : Operation) (rest : List Operation) → done ++ (op ∷ rest) ≡ [] → ⊥
 end-not-empty' [] op rest e = cc
 end-not-empty' (x ∷ done) op rest e = cc
 
-dids-quiet : (ops : List Op) → list_any is_line (dids ops) ≡ false
+dids-quiet : (ops : List Operation) → list_any is_line (dids ops) ≡ false
 dids-quiet [] = refl
 dids-quiet (op ∷ ops) = dids-quiet ops
 
-edit-same : (a b : List Splice) → Accepted (Edit a) ≡ Accepted (Edit b) → a ≡ b
-edit-same a b e = cc
+change-same : (a b : ChangeParts) → Accepted (Apply a) ≡ Accepted (Apply b) → a ≡ b
+change-same a b e = cc
 
 from-left : {X : Type 0} (xs : List X) (k : ℕ) (x : X) (left : List X) → drop k xs ≡ x ∷ left
     → (slice_get xs k ≡ Some x) × (drop (suc k) xs ≡ left)
@@ -140,7 +151,7 @@ module _ (course : Course) (number : ℕ) (line : List ℕ) (left : List (ℕ ×
   -- behind a line that does no operation
   pub going-line : IsCalm h → (lines : List (List ℕ)) (then : Option (List ℕ))
       → answer h.opening course.script h.events (Some (verdict (present_of h) line)) ≡ lines → Appends taken then (printed lines)
-      → ((splices : List Splice) → verdict (present_of h) line ≡ Accepted (Edit splices) → batch splices ≡ [])
+      → ((parts : ChangeParts) → verdict (present_of h) line ≡ Accepted (Apply parts) → operations_in parts ≡ [])
       → IsGoing course left (refused || is_refused (Some (verdict (present_of h) line))) then (appended h (Line number ∷ []))
   going-line calm lines then answered written idle =
       record {
@@ -154,14 +165,14 @@ module _ (course : Course) (number : ℕ) (line : List ℕ) (left : List (ℕ ×
         refusals = its-refusals;
       }
     where
-      idle-verdict : (splices : List Splice) → next_verdict h.opening course.script h.events ≡ Some (Accepted (Edit splices)) → batch splices ≡ []
-      idle-verdict splices e = idle splices (some-same (verdict (present_of h) line) (Accepted (Edit splices)) (sym its-verdict ∙ e))
+      idle-verdict : (parts : ChangeParts) → next_verdict h.opening course.script h.events ≡ Some (Accepted (Apply parts)) → operations_in parts ≡ []
+      idle-verdict parts e = idle parts (some-same (verdict (present_of h) line) (Accepted (Apply parts)) (sym its-verdict ∙ e))
 
-      not-going : (done rest : List Op) (op : Op) → IsChanging h.opening course.script (h.events ++ Line number ∷ []) done (op ∷ rest) → ⊥
+      not-going : (done rest : List Operation) (op : Operation) → IsChanging h.opening course.script (h.events ++ Line number ∷ []) done (op ∷ rest) → ⊥
       not-going done rest op c =
           let same = same-end h.events c.past number c.number [] done c.ends in
           let pasts : h.events ≡ c.past = same.past in
-          let none : batch c.splices ≡ [] = idle-verdict c.splices (ap (next_verdict h.opening course.script) pasts ∙ c.accepted) in
+          let none : operations_in c.parts ≡ [] = idle-verdict c.parts (ap (next_verdict h.opening course.script) pasts ∙ c.accepted) in
           end-not-empty' done op rest (sym c.operations ∙ none)
 
       not-changed : IsChanged h.opening course.script (h.events ++ Line number ∷ []) → ⊥
@@ -180,18 +191,18 @@ module _ (course : Course) (number : ℕ) (line : List ℕ) (left : List (ℕ ×
           }
 
 -- behind the operations of a change and its version
-module _ (text script : List ℕ) (past : List Event) (number : ℕ) (splices : List Splice)
-    (accepted : next_verdict text script past ≡ Some (Accepted (Edit splices))) (open_before : list_any is_end past ≡ false) where
-  open-dids : (done : List Op) → list_any is_end (past ++ (Line number ∷ dids done)) ≡ false
+module _ (text script : List ℕ) (past : List Event) (number : ℕ) (parts : ChangeParts)
+    (accepted : next_verdict text script past ≡ Some (Accepted (Apply parts))) (open_before : list_any is_end past ≡ false) where
+  open-dids : (done : List Operation) → list_any is_end (past ++ (Line number ∷ dids done)) ≡ false
   open-dids done =
       list_any-append is_end past (Line number ∷ dids done)
       ∙ (ap (λ b. b || list_any is_end (Line number ∷ dids done)) open_before ∙ none-end done)
     where
-      none-end : (done : List Op) → list_any is_end (dids done) ≡ false
+      none-end : (done : List Operation) → list_any is_end (dids done) ≡ false
       none-end [] = refl
       none-end (op ∷ done) = none-end done
 
-  dids-legal : (done rest : List Op) → batch splices ≡ done ++ rest
+  dids-legal : (done rest : List Operation) → operations_in parts ≡ done ++ rest
       → IsLegalSoFar text script 1 (past ++ (Line number ∷ dids done))
       → IsLegalSoFar text script 1 ((past ++ (Line number ∷ dids done)) ++ dids rest)
   dids-legal done [] operations legal =
@@ -200,42 +211,42 @@ module _ (text script : List ℕ) (past : List Event) (number : ℕ) (splices : 
   dids-legal done (op ∷ rest) operations legal =
       let P : List Event → Type 0 = λ l. IsLegalSoFar text script 1 l in
       let one = legal-snoc text script (past ++ (Line number ∷ dids done)) (Did op) legal
-      (next-did text script past number splices done rest op accepted operations (open-dids done)) in
+      (next-did text script past number parts done rest op accepted operations (open-dids done)) in
       let all = dids-legal (done ++ op ∷ []) rest (operations ∙ sym (append_assoc done (op ∷ []) rest))
       (subst P (dids-more past number done op) one) in
       subst P (ap (λ l. l ++ dids rest) (sym (dids-more past number done op))
       ∙ append_assoc (past ++ (Line number ∷ dids done)) (Did op ∷ []) (dids rest)) all
 
-  published-legal : (op : Op) (ops : List Op) → batch splices ≡ (op ∷ ops)
+  published-legal : (op : Operation) (ops : List Operation) → operations_in parts ≡ (op ∷ ops)
       → IsLegalSoFar text script 1 (past ++ (Line number ∷ dids (op ∷ ops)))
       → IsLegalSoFar text script 1 ((past ++ (Line number ∷ dids (op ∷ ops))) ++ Published false ∷ [])
   published-legal op ops operations legal =
       legal-snoc text script (past ++ (Line number ∷ dids (op ∷ ops))) (Published false) legal
       (next-published text script (past ++ (Line number ∷ dids (op ∷ ops)))
-      (λ done rest o c. all-done text script past number splices (op ∷ ops) rest o done accepted operations c)
-      (inl (op, ops, record { past = past; number = number; splices = splices; ends = refl; accepted = accepted; operations = operations ∙ sym (append-nil (op ∷ ops)) }))
+      (λ done rest o c. all-done text script past number parts (op ∷ ops) rest o done accepted operations c)
+      (inl (op, ops, record { past = past; number = number; parts = parts; ends = refl; accepted = accepted; operations = operations ∙ sym (append-nil (op ∷ ops)) }))
       (open-dids (op ∷ ops)))
 
-  published-free : (ops : List Op) → IsFree text script ((past ++ (Line number ∷ dids ops)) ++ Published false ∷ [])
+  published-free : (ops : List Operation) → IsFree text script ((past ++ (Line number ∷ dids ops)) ++ Published false ∷ [])
   published-free ops = free-snoc text script (past ++ (Line number ∷ dids ops)) (Published false) refl refl refl (open-dids ops)
 
-changed-quiet : (ops : List Op) → list_any is_line (changed ops) ≡ false
+changed-quiet : (ops : List Operation) → list_any is_line (changed ops) ≡ false
 changed-quiet [] = refl
 changed-quiet (op ∷ ops) = list_any-append is_line (dids ops) (Published false ∷ []) ∙ (ap (λ b. b || false) (dids-quiet ops))
 
-pub changed-jobless : (ops : List Op) → list_all is_jobless (changed ops) ≡ true
+pub changed-jobless : (ops : List Operation) → list_all is_jobless (changed ops) ≡ true
 changed-jobless [] = refl
 changed-jobless (op ∷ ops) = published-jobless ops
   where
-    published-jobless : (ops : List Op) → list_all is_jobless (dids ops ++ Published false ∷ []) ≡ true
+    published-jobless : (ops : List Operation) → list_all is_jobless (dids ops ++ Published false ∷ []) ≡ true
     published-jobless [] = refl
     published-jobless (op ∷ ops) = published-jobless ops
 
 -- a change that is accepted
 module _ (course : Course) (number : ℕ) (line : List ℕ) (left : List (ℕ × List ℕ)) (refused : Bool) (taken : Option (List ℕ)) (h : History)
-    (going : IsGoing course ((number, line) ∷ left) refused taken h) (calm : IsCalm h) (splices : List Splice)
-    (accepted : verdict (present_of h) line ≡ Accepted (Edit splices)) where
-  next-accepted : next_verdict h.opening course.script h.events ≡ Some (Accepted (Edit splices))
+    (going : IsGoing course ((number, line) ∷ left) refused taken h) (calm : IsCalm h) (parts : ChangeParts)
+    (accepted : verdict (present_of h) line ≡ Accepted (Apply parts)) where
+  next-accepted : next_verdict h.opening course.script h.events ≡ Some (Accepted (Apply parts))
   next-accepted = its-verdict course number line left refused taken h going ∙ ap Some accepted
 
   no-answer : answer h.opening course.script h.events (Some (verdict (present_of h) line)) ≡ []
@@ -250,17 +261,17 @@ module _ (course : Course) (number : ℕ) (line : List ℕ) (left : List (ℕ ×
   at-line : IsLegalSoFar h.opening course.script 1 (h.events ++ Line number ∷ [])
   at-line = its-legal course number line left refused taken h going calm
 
-  all-legal : IsLegalSoFar h.opening course.script 1 ((h.events ++ Line number ∷ []) ++ dids (batch splices))
-  all-legal = dids-legal h.opening course.script h.events number splices next-accepted going.free.goes_on [] (batch splices) refl at-line
+  all-legal : IsLegalSoFar h.opening course.script 1 ((h.events ++ Line number ∷ []) ++ dids (operations_in parts))
+  all-legal = dids-legal h.opening course.script h.events number parts next-accepted going.free.goes_on [] (operations_in parts) refl at-line
 
   -- its version isn't published yet
-  pub cut-dids : IsCut course taken (appended (appended h (Line number ∷ [])) (dids (batch splices)))
+  pub cut-dids : IsCut course taken (appended (appended h (Line number ∷ [])) (dids (operations_in parts)))
   cut-dids =
-      let quiet = quiet-append h.opening course.script (h.events ++ Line number ∷ []) (dids (batch splices)) (dids-quiet (batch splices)) in
+      let quiet = quiet-append h.opening course.script (h.events ++ Line number ∷ []) (dids (operations_in parts)) (dids-quiet (operations_in parts)) in
       let here = its-output course number line left refused taken h going in
       record {
         opening = going.opening;
-        begun = begun-more (h.events ++ Line number ∷ []) (dids (batch splices)) (end-not-empty h.events (Line number) []);
+        begun = begun-more (h.events ++ Line number ∷ []) (dids (operations_in parts)) (end-not-empty h.events (Line number) []);
         legal = all-legal;
         front = output h.opening course.script h.events;
         rest = [];
@@ -269,16 +280,16 @@ module _ (course : Course) (number : ℕ) (line : List ℕ) (left : List (ℕ ×
       }
 
   -- ... and now it is, where there was an operation
-  pub going-changed : IsGoing course left (refused || false) taken (appended (appended h (Line number ∷ [])) (changed (batch splices)))
-  going-changed = by-operations (batch splices) refl
+  pub going-changed : IsGoing course left (refused || false) taken (appended (appended h (Line number ∷ [])) (changed (operations_in parts)))
+  going-changed = by-operations (operations_in parts) refl
     where
-      by-operations : (ops : List Op) → batch splices ≡ ops
+      by-operations : (ops : List Operation) → operations_in parts ≡ ops
           → IsGoing course left (refused || false) taken (appended (appended h (Line number ∷ [])) (changed ops))
       by-operations [] e =
           let P : List Event → Type 0 = λ l. IsGoing course left (refused || false) taken (record { opening = h.opening; events = l }) in
           subst P (sym (append-nil (h.events ++ Line number ∷ [])))
           (idle-line (going-line course number line left refused taken h going calm [] taken no-answer (appends-none taken)
-          (λ others it. ap batch (edit-same others splices (sym it ∙ accepted)) ∙ e)))
+          (λ others it. ap operations_in (change-same others parts (sym it ∙ accepted)) ∙ e)))
       by-operations (op ∷ ops) e =
           let text : List ℕ = h.opening in
           let script : List ℕ = course.script in
@@ -289,8 +300,8 @@ module _ (course : Course) (number : ℕ) (line : List ℕ) (left : List (ℕ ×
           ap (λ l. l ++ Published false ∷ []) (sym (append_assoc past (Line number ∷ []) (dids (op ∷ ops))))
           ∙ append_assoc (past ++ Line number ∷ []) (dids (op ∷ ops)) (Published false ∷ []) in
           let done = subst P (ap (λ l. (past ++ Line number ∷ []) ++ dids l) e ∙ append_assoc past (Line number ∷ []) (dids (op ∷ ops))) all-legal in
-          let legal = subst P whole (published-legal text script past number splices next-accepted going.free.goes_on op ops e done) in
-          let free = subst F whole (published-free text script past number splices next-accepted going.free.goes_on (op ∷ ops)) in
+          let legal = subst P whole (published-legal text script past number parts next-accepted going.free.goes_on op ops e done) in
+          let free = subst F whole (published-free text script past number parts next-accepted going.free.goes_on (op ∷ ops)) in
           let quiet = quiet-append text script (past ++ Line number ∷ []) (changed (op ∷ ops)) (changed-quiet (op ∷ ops)) in
           let here = its-output course number line left refused taken h going in
           let W : List ℕ → Type 0 = λ bytes. Appends course.before taken bytes in
@@ -304,7 +315,7 @@ module _ (course : Course) (number : ℕ) (line : List ℕ) (left : List (ℕ ×
           }
 
 -- where the journal grew by the operations of a change, there was one
-pub changed-more : (old mid new : History) (ops : List Op) (room left limit : ℕ) → mid ≡ appended old (dids ops) → new ≡ appended mid (Published false ∷ [])
+pub changed-more : (old mid new : History) (ops : List Operation) (room left limit : ℕ) → mid ≡ appended old (dids ops) → new ≡ appended mid (Published false ∷ [])
     → room + length old.events ≡ limit → left + length mid.events ≡ limit → left < room → new ≡ appended old (changed ops)
 changed-more old mid new [] room left limit done published full rest less =
     let same : length mid.events ≡ length old.events = ap (λ h. length h.events) done ∙ ap length (append-nil old.events) in

@@ -3,13 +3,11 @@ use Rattle.std.proofs.Common.{◌≡◌, ℕ, ◌⊎◌, inl, inr, true, false, 
 use Rattle.std.specs.Option.{option_map}
 use Rattle.std.specs.List.{last_or, list_any}
 use Rattle.std.proofs.lemmas.List.{append-nil}
-use Rattle.display_map.specs.declared.change.Op.{Op}
-use Rattle.display_map.specs.declared.change.Splice.{Splice}
-use Rattle.display_map.specs.declared.event.Event.{Event}
-use Rattle.display_map.specs.declared.event.Event.TheVariants.{Line, Did, Sent, Landed, Published}
-use Rattle.display_map.specs.Changes.{batch}
+use Rattle.cell_units.specs.Operation.{Operation}
+use Rattle.display_map.specs.Events.{Event, Line, Did, Sent, Landed, Published}
+use Rattle.display_map.specs.Changes.{ChangeParts, operations_in}
 use Rattle.display_map.specs.Replay.{State, waits, is_settled, job_numbered}
-use Rattle.edit_script.specs.Commands.{Edit}
+use Rattle.edit_script.specs.Commands.{Apply}
 use Rattle.edit_script.specs.Verdict.{Accepted}
 use Rattle.display_cli.specs.Legal.{Opens, TakesNextLine, IsChanging, IsChanged, DoesChanges, PublishesLandings, IsSend, Sends, LandsOnce, AnswersSettled, KeepsBusy, IsDone, Ends, IsLegalSoFar, after, next_line, next_verdict, is_landed, is_end}
 use Rattle.display_cli.specs.Going.{IsFree}
@@ -47,7 +45,7 @@ legal-snoc text script h e legal next =
 -- behind an event that is neither a line nor an operation no change is under way
 pub not-changing :
     (text script : List ℕ) (h : List Event) (e : Event) → is_change e ≡ false
-    → (done rest : List Op) → IsChanging text script (h ++ e ∷ []) done rest → ⊥
+    → (done rest : List Operation) → IsChanging text script (h ++ e ∷ []) done rest → ⊥
 not-changing text script h e plain done rest c =
     true≢false (sym (end-changes h e c.past c.number done c.ends) ∙ plain)
 
@@ -67,11 +65,11 @@ free-snoc text script h e plain unlanded goes_on before =
 line-same : (a b : ℕ) → Line a ≡ Line b → a ≡ b
 line-same a b e = cc
 
-did-same : (a b : Op) → Did a ≡ Did b → a ≡ b
+did-same : (a b : Operation) → Did a ≡ Did b → a ≡ b
 did-same a b e = cc
 
-edit-same : (a b : List Splice) → Some (Accepted (Edit a)) ≡ Some (Accepted (Edit b)) → a ≡ b
-edit-same a b e = cc
+change-same : (a b : ChangeParts) → Some (Accepted (Apply a)) ≡ Some (Accepted (Apply b)) → a ≡ b
+change-same a b e = cc
 
 -- the first event publishes version 0
 pub next-opening : (text script : List ℕ) → IsNext text script [] (Published false)
@@ -155,7 +153,7 @@ next-landed text script h job free out =
 -- where a version is owed and no operation is, it may be published
 pub next-published :
     (text script : List ℕ) (h : List Event)
-    → ((done rest : List Op) (op : Op) → IsChanging text script h done (op ∷ rest) → ⊥)
+    → ((done rest : List Operation) (op : Operation) → IsChanging text script h done (op ∷ rest) → ⊥)
     → IsChanged text script h ⊎ (is_landed (last_or None h) ≡ true) → list_any is_end h ≡ false
     → IsNext text script h (Published false)
 next-published text script h unchanging owed goes_on =
@@ -227,57 +225,57 @@ next-line-event text script h number free line settled calm =
     }
 
 -- what is known behind the line of an accepted change and some of its operations
-module _ (text script : List ℕ) (past : List Event) (number : ℕ) (splices : List Splice) where
+module _ (text script : List ℕ) (past : List Event) (number : ℕ) (parts : ChangeParts) where
   same-rest :
-      (done done' rest rest' : List Op)
-      → next_verdict text script past ≡ Some (Accepted (Edit splices)) → batch splices ≡ done ++ rest
+      (done done' rest rest' : List Operation)
+      → next_verdict text script past ≡ Some (Accepted (Apply parts)) → operations_in parts ≡ done ++ rest
       → IsChanging text script (past ++ (Line number ∷ dids done)) done' rest' → rest ≡ rest'
   same-rest done done' rest rest' accepted operations c =
       let same = same-end past c.past number c.number done done' c.ends in
       let pasts : past ≡ c.past = same.past in
       let dones : done ≡ done' = same.done in
-      let verdicts : Some (Accepted (Edit splices)) ≡ Some (Accepted (Edit c.splices)) =
+      let verdicts : Some (Accepted (Apply parts)) ≡ Some (Accepted (Apply c.parts)) =
       sym accepted ∙ (ap (next_verdict text script) pasts ∙ c.accepted) in
-      let batches : done ++ rest ≡ done' ++ rest' = sym operations ∙ (ap batch (edit-same splices c.splices verdicts) ∙ c.operations) in
+      let batches : done ++ rest ≡ done' ++ rest' = sym operations ∙ (ap operations_in (change-same parts c.parts verdicts) ∙ c.operations) in
       let aligned : done ++ rest ≡ done ++ rest' = batches ∙ ap (λ d. d ++ rest') (sym dones) in
       append-same done rest rest' aligned
 
   pub not-done :
-      (done rest : List Op) (op : Op)
-      → next_verdict text script past ≡ Some (Accepted (Edit splices)) → batch splices ≡ done ++ (op ∷ rest)
+      (done rest : List Operation) (op : Operation)
+      → next_verdict text script past ≡ Some (Accepted (Apply parts)) → operations_in parts ≡ done ++ (op ∷ rest)
       → IsChanged text script (past ++ (Line number ∷ dids done)) → ⊥
   not-done done rest op accepted operations c =
       let e : (op ∷ rest) ≡ [] = same-rest done (c.0 ∷ c.1) (op ∷ rest) [] accepted operations c.2 in cc
 
   pub all-done :
-      (done rest : List Op) (op : Op) (done' : List Op)
-      → next_verdict text script past ≡ Some (Accepted (Edit splices)) → batch splices ≡ done
+      (done rest : List Operation) (op : Operation) (done' : List Operation)
+      → next_verdict text script past ≡ Some (Accepted (Apply parts)) → operations_in parts ≡ done
       → IsChanging text script (past ++ (Line number ∷ dids done)) done' (op ∷ rest) → ⊥
   all-done done rest op done' accepted operations c =
       let e : [] ≡ (op ∷ rest) = same-rest done done' [] (op ∷ rest) accepted (operations ∙ sym (append-nil done)) c in cc
 
   only-op :
-      (done done' rest rest' : List Op) (op op' : Op)
-      → next_verdict text script past ≡ Some (Accepted (Edit splices)) → batch splices ≡ done ++ (op ∷ rest)
+      (done done' rest rest' : List Operation) (op op' : Operation)
+      → next_verdict text script past ≡ Some (Accepted (Apply parts)) → operations_in parts ≡ done ++ (op ∷ rest)
       → IsChanging text script (past ++ (Line number ∷ dids done)) done' (op' ∷ rest') → Did op ≡ Did op'
   only-op done done' rest rest' op op' accepted operations c =
       let e : (op ∷ rest) ≡ (op' ∷ rest') = same-rest done done' (op ∷ rest) (op' ∷ rest') accepted operations c in
       let it : op ≡ op' = cc in ap (λ o. Did o) it
 
-  unlanded-dids : (o : Option Event) (done : List Op) → is_landed o ≡ false → is_landed (last_or o (dids done)) ≡ false
+  unlanded-dids : (o : Option Event) (done : List Operation) → is_landed o ≡ false → is_landed (last_or o (dids done)) ≡ false
   unlanded-dids o [] e = e
   unlanded-dids o (x ∷ done) e = unlanded-dids (Some (Did x)) done refl
 
-  unlanded-behind : (o : Option Event) (h : List Event) (done : List Op) → is_landed (last_or o (h ++ (Line number ∷ dids done))) ≡ false
+  unlanded-behind : (o : Option Event) (h : List Event) (done : List Operation) → is_landed (last_or o (h ++ (Line number ∷ dids done))) ≡ false
   unlanded-behind o [] done = unlanded-dids (Some (Line number)) done refl
   unlanded-behind o (x ∷ h) done = unlanded-behind (Some x) h done
 
-  unlanded : (done : List Op) → is_landed (last_or None (past ++ (Line number ∷ dids done))) ≡ false
+  unlanded : (done : List Operation) → is_landed (last_or None (past ++ (Line number ∷ dids done))) ≡ false
   unlanded done = unlanded-behind None past done
 
   pub next-did :
-      (done rest : List Op) (op : Op)
-      → next_verdict text script past ≡ Some (Accepted (Edit splices)) → batch splices ≡ done ++ (op ∷ rest)
+      (done rest : List Operation) (op : Operation)
+      → next_verdict text script past ≡ Some (Accepted (Apply parts)) → operations_in parts ≡ done ++ (op ∷ rest)
       → list_any is_end (past ++ (Line number ∷ dids done)) ≡ false
       → IsNext text script (past ++ (Line number ∷ dids done)) (Did op)
   next-did done rest op accepted operations goes_on =
@@ -287,7 +285,7 @@ module _ (text script : List ℕ) (past : List Event) (number : ℕ) (splices : 
         changes = record {
           goes_on = λ done' rest' op' c. only-op done done' rest rest' op op' accepted operations c;
           publishes = λ c. absurd (not-done done rest op accepted operations c);
-          only = λ op' e. (done, rest, record { past = past; number = number; splices = splices; ends = refl; accepted = accepted; operations = operations ∙ ap (λ o. done ++ (o ∷ rest)) (did-same op op' e) });
+          only = λ op' e. (done, rest, record { past = past; number = number; parts = parts; ends = refl; accepted = accepted; operations = operations ∙ ap (λ o. done ++ (o ∷ rest)) (did-same op op' e) });
         };
         landings = record {
           publishes = λ e. absurd (true≢false (sym e ∙ unlanded done));

@@ -7,8 +7,7 @@ use Rattle.std.proofs.lemmas.Bool.{ltb-false, eqb-true}
 use Rattle.std.proofs.lemmas.List.Sums.{prefix_len_passes}
 use Rattle.cell_units.specs.Text.{is_feed}
 use Rattle.cell_units.specs.Cutting.{cut_lines, onto_line}
-use Rattle.display_map.specs.declared.event.Event.{Event}
-use Rattle.display_map.specs.declared.event.Event.TheVariants.{Published}
+use Rattle.display_map.specs.Events.{Event, Published}
 use Rattle.display_map.specs.Faults.{event_limit}
 use Rattle.display_cli.specs.Ended.{IsFull}
 use Rattle.display_map.specs.Replay.{History, replayed, state_of, appended}

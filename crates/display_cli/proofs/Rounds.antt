@@ -9,8 +9,7 @@ use Rattle.std.proofs.lemmas.List.Sums.{prefix_len-le-length, prefix_len_stops, 
 use Rattle.std.proofs.Math.Seq.{drop-cons}
 use Rattle.cell_line.specs.declared.lines.Run.{Run}
 use Rattle.cell_units.specs.Record.{Mark, Record}
-use Rattle.display_map.specs.declared.event.Event.{Event}
-use Rattle.display_map.specs.declared.event.Event.TheVariants.{Sent, Landed}
+use Rattle.display_map.specs.Events.{Event, Sent, Landed}
 use Rattle.display_map.specs.Replay.{SentJob, State, History, begun, happens, replayed, state_of, appended, waits, is_held, holds, stamps_of, wrapped_at, landed_on, landed_if, with_landed, job_numbered, run_limit, run_from, first_waiting, next_run, is_settled}
 use Rattle.display_cli.specs.Legal.{IsSend, outstanding}
 use Rattle.display_cli.specs.Going.{is_over, AreOver, round}

@@ -3,10 +3,10 @@ use Rattle.std.specs.Prelude.{ℕ, ◌≡◌, ◌≢◌, ◌+◌, ◌<◌, ◌�
 use Rattle.std.specs.Str.{IsUtf8}
 use Rattle.std.specs.Str.Lossy.{utf8_valid_len}
 use Rattle.cell_units.specs.Text.{clean}
-use Rattle.display_map.specs.declared.event.Event.{Event}
-use Rattle.display_map.specs.Changes.{text_limit}
+use Rattle.display_map.specs.Events.{Event}
+use Rattle.display_map.specs.Changes.{entries_in, text_limit}
 use Rattle.display_map.specs.Faults.{event_limit}
-use Rattle.edit_script.specs.Commands.{Command, Edit, command_of}
+use Rattle.edit_script.specs.Commands.{Command, Apply, command_of}
 use Rattle.display_cli.specs.declared.words.Plan.{Plan}
 use Rattle.display_cli.specs.declared.ended.Ended.{Ended}
 use Rattle.display_cli.specs.declared.ended.Note.{Note}
@@ -97,7 +97,7 @@ IsRunOf run plan _ = IsNothing run
 
 -- how many operations a script line asks for: an entry of an edit counts as one, and any other line asks for none
 abbrev pub asked_by : Option Command → ℕ
-asked_by (Some (Edit splices)) = length splices
+asked_by (Some (Apply parts)) = entries_in parts
 asked_by _ = 0
 
 abbrev pub asked_operations : Option (ℕ × List ℕ) → ℕ

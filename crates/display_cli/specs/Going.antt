@@ -3,12 +3,11 @@ use Rattle.std.specs.Prelude.{not, ◌||◌, Result, Ok, Err, ℕ, ◌≡◌, �
 use Rattle.std.specs.List.{last_or, list_any, list_all, enumerate_from}
 use Rattle.cell_line.specs.declared.lines.Run.{Run}
 use Rattle.cell_units.specs.declared.fault.Refusal.{Refusal}
-use Rattle.display_map.specs.declared.change.Op.{Op}
+use Rattle.cell_units.specs.Operation.{Operation}
 use Rattle.display_map.specs.declared.change.Change.{Change}
 use Rattle.display_map.specs.Changes.{ops_of, change_refusal}
 use Rattle.edit_script.specs.Verdict.{is_blank}
-use Rattle.display_map.specs.declared.event.Event.{Event}
-use Rattle.display_map.specs.declared.event.Event.TheVariants.{Did, Sent, Landed, Published}
+use Rattle.display_map.specs.Events.{Event, Did, Sent, Landed, Published}
 use Rattle.display_map.specs.Faults.{event_limit}
 use Rattle.display_map.specs.Replay.{History, State, SentJob, state_of, present_of, next_run, appended}
 use Rattle.edit_script.specs.declared.asked.Query.{Query}
@@ -23,7 +22,7 @@ use Rattle.display_cli.specs.Ended.{IsFull}
 -- behind these events none is owed, and the last version isn't published yet
 pub record IsFree (text script : List ℕ) (events : List Event) : Type 0 where
   pub begun : events ≢ []
-  pub unchanging : (done rest : List Op) (op : Op) → IsChanging text script events done (op ∷ rest) → ⊥
+  pub unchanging : (done rest : List Operation) (op : Operation) → IsChanging text script events done (op ∷ rest) → ⊥
   pub unchanged : IsChanged text script events → ⊥
   pub unlanded : is_landed (last_or None events) ≡ false
   pub goes_on : list_any is_end events ≡ false
@@ -108,7 +107,7 @@ abbrev pub numbered_from : ℕ → List (List ℕ) → List (ℕ × List ℕ)
 numbered_from number lines = filter (λ l. not (is_blank l.1)) (enumerate_from number lines)
 
 -- the operations of a change, and behind them a version, where there is one
-abbrev pub changed : List Op → List Event
+abbrev pub changed : List Operation → List Event
 changed [] = []
 changed (op ∷ ops) = map (λ op. Did op) (op ∷ ops) ++ Published false ∷ []
 

@@ -4,13 +4,11 @@ use Rattle.std.specs.List.{enumerate_from, last_or, list_any, list_all}
 use Rattle.std.specs.Option.{option_map}
 use Rattle.cell_units.specs.Text.{is_feed}
 use Rattle.cell_units.specs.Cutting.{cut_lines}
-use Rattle.display_map.specs.declared.change.Op.{Op}
-use Rattle.display_map.specs.declared.change.Splice.{Splice}
-use Rattle.display_map.specs.declared.event.Event.{Event}
-use Rattle.display_map.specs.declared.event.Event.TheVariants.{Line, Did, Sent, Landed, Published}
-use Rattle.display_map.specs.Changes.{batch}
+use Rattle.cell_units.specs.Operation.{Operation}
+use Rattle.display_map.specs.Events.{Event, Line, Did, Sent, Landed, Published}
+use Rattle.display_map.specs.Changes.{ChangeParts, operations_in}
 use Rattle.display_map.specs.Replay.{State, begun, replayed, waits, run_limit, is_settled, job_numbered}
-use Rattle.edit_script.specs.Commands.{Edit, Rows}
+use Rattle.edit_script.specs.Commands.{Apply, Rows}
 use Rattle.edit_script.specs.Verdict.{Verdict, Accepted, is_blank, verdict}
 
 -- the lines of a script, without their line feeds. The last one may end without one, and nothing behind the last is a line
@@ -58,17 +56,17 @@ is_query (Some (Accepted (Rows first count))) = true
 is_query _ = false
 
 -- the events end with the line of an accepted change and with some of its operations: `done` were done, `rest` weren't yet
-pub record IsChanging (text script : List ℕ) (events : List Event) (done rest : List Op) : Type 0 where
+pub record IsChanging (text script : List ℕ) (events : List Event) (done rest : List Operation) : Type 0 where
   pub past : List Event
   pub number : ℕ
-  pub splices : List Splice
+  pub parts : ChangeParts
   pub ends : events ≡ past ++ (Line number ∷ map (λ op. Did op) done)
-  pub accepted : next_verdict text script past ≡ Some (Accepted (Edit splices))
-  pub operations : batch splices ≡ done ++ rest
+  pub accepted : next_verdict text script past ≡ Some (Accepted (Apply parts))
+  pub operations : operations_in parts ≡ done ++ rest
 
 -- all operations of an accepted change were done, and there was one
 abbrev pub IsChanged : List ℕ → List ℕ → List Event → Type 0
-IsChanged text script events = (op : Op) × (ops : List Op) × IsChanging text script events (op ∷ ops) []
+IsChanged text script events = (op : Operation) × (ops : List Operation) × IsChanging text script events (op ∷ ops) []
 
 -- opening: the first event publishes version 0
 abbrev pub Opens : List Event → Event → Type 0
@@ -81,9 +79,9 @@ TakesNextLine script past e = (number : ℕ) → e ≡ Line number → option_ma
 -- changes: behind the line of an accepted change come its operations at once, and then, where there was one, a version.
 -- Nothing else does an operation
 pub record DoesChanges (text script : List ℕ) (past : List Event) (e : Event) : Type 0 where
-  pub goes_on : (done rest : List Op) (op : Op) → IsChanging text script past done (op ∷ rest) → e ≡ Did op
+  pub goes_on : (done rest : List Operation) (op : Operation) → IsChanging text script past done (op ∷ rest) → e ≡ Did op
   pub publishes : IsChanged text script past → e ≡ Published false
-  pub only : (op : Op) → e ≡ Did op → (done : List Op) × (rest : List Op) × IsChanging text script past done (op ∷ rest)
+  pub only : (op : Operation) → e ≡ Did op → (done : List Operation) × (rest : List Operation) × IsChanging text script past done (op ∷ rest)
 
 -- landings: behind each of them comes a version at once, and no other version is published than at the opening, behind a
 -- change, behind a landing, and at the end

@@ -3,7 +3,7 @@ use Rattle.std.specs.Prelude.{ℕ, ◌≡◌, ◌<◌, ◌≤◌, ◌⊎◌, ◌
 use Rattle.std.specs.Str.{IsUtf8}
 use Rattle.std.specs.Str.Lossy.{utf8_valid_len}
 use Rattle.cell_units.specs.Text.{clean}
-use Rattle.display_map.specs.declared.event.Event.{Event}
+use Rattle.display_map.specs.Events.{Event}
 use Rattle.display_map.specs.Changes.{text_limit}
 use Rattle.display_map.specs.Replay.{History}
 use Rattle.display_cli.specs.declared.ended.Note.{Note}

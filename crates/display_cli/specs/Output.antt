@@ -1,8 +1,7 @@
 -- What a run writes.
 use Rattle.std.specs.Prelude.{ℕ, ◌||◌, Bool, true, false, List, [], ◌∷◌, ◌++◌, Option, Some, None, flat_map}
 use Rattle.cell_units.specs.Text.{line_feed}
-use Rattle.display_map.specs.declared.event.Event.{Event}
-use Rattle.display_map.specs.declared.event.Event.TheVariants.{Line}
+use Rattle.display_map.specs.Events.{Event, Line}
 use Rattle.edit_script.specs.Verdict.{Verdict, Refused, Accepted}
 use Rattle.edit_script.specs.Printed.{query_lines, refusal_text}
 use Rattle.display_cli.specs.Legal.{after, next_verdict}

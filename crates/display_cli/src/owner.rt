@@ -1,7 +1,7 @@
 //! The owner of a display: it sends jobs, does them and lands them, until no line waits.
 ghost use Rattle.std.specs.Prelude.{false, ◌≡◌, ◌+◌, ◌<◌, ◌≤◌, ◌⊎◌, ℕ, [], ◌∷◌, List, Bool, Option, length, OnOk, IfOk, IfErr, None, OnErr};
 ghost use Rattle.display_map.specs.Faults.{event_limit};
-ghost use Rattle.display_map.specs.declared.event.Event.TheVariants.{Landed, Published};
+ghost use Rattle.display_map.specs.Events.{Landed, Published};
 ghost use Rattle.display_map.specs.Replay.{state_of, next_run, appended};
 ghost use Rattle.display_map.specs.Sending.{IsOutstanding};
 ghost use Rattle.display_cli.specs.declared.stop.Stop.TheVariants as stops;

@@ -2,12 +2,11 @@
 ghost use Rattle.std.specs.Prelude.{false, ◌≡◌, ◌+◌, ◌*◌, ◌<◌, ◌≤◌, ◌||◌, ◌⊎◌, ◌^◌, ℕ, List, [], ◌∷◌, Bool, Option, Some, length, OnOk, IfOk, IfErr, OnErr};
 ghost use Rattle.std.specs.List.{position};
 ghost use Rattle.cell_units.specs.Text.{is_feed};
-ghost use Rattle.display_map.specs.Changes.{ops_of, splices_of};
+ghost use Rattle.display_map.specs.Changes.{entries_in, ops_of, parts_of};
 ghost use Rattle.display_map.specs.Faults.{event_limit};
-ghost use Rattle.display_map.specs.declared.event.Event.{Event};
-ghost use Rattle.display_map.specs.declared.event.Event.TheVariants.{Line};
+ghost use Rattle.display_map.specs.Events.{Event, Line};
 ghost use Rattle.display_map.specs.Replay.{state_of, present_of, appended};
-ghost use Rattle.edit_script.specs.Commands.{Edit, command_of, query_meaning};
+ghost use Rattle.edit_script.specs.Commands.{Apply, command_of, query_meaning};
 ghost use Rattle.edit_script.specs.Printed.{refusal_text};
 ghost use Rattle.edit_script.specs.Verdict.{Refused, Accepted, verdict, refused_or};
 ghost use Rattle.display_map.specs.Changes.{change_refusal};
@@ -28,7 +27,7 @@ use std::alloc::Global;
 
 /// How many replacements a change asks for.
 fn entries(change: &Change) -> usize
-    ensures entries { result ≡ length (splices_of change.now) }
+    ensures entries { result ≡ entries_in (parts_of change.now) }
     ensures operations { length (ops_of change.now) ≤ result }
 {
     match change {
@@ -133,7 +132,7 @@ fn change_text<K: Sink>(
     steps: &mut Steps,
 ) -> Result<bool, Stop>
     requires { IsCalm display.old }
-    ensures handled { (course : Course) (left : List (ℕ × List ℕ)) (refused : Bool) (line : List ℕ) → IsGoing course ((number, line) ∷ left) refused (K.taken out.old) display.old → command_of line ≡ Some (Edit (splices_of change.now)) → verdict (present_of display.old) line ≡ refused_or (Edit (splices_of change.now)) (change_refusal (present_of display.old) change.now) → IsHandled course left refused (K.faults out.old) (K.faults out.new) (K.taken out.new) display.new result }
+    ensures handled { (course : Course) (left : List (ℕ × List ℕ)) (refused : Bool) (line : List ℕ) → IsGoing course ((number, line) ∷ left) refused (K.taken out.old) display.old → command_of line ≡ Some (Apply (parts_of change.now)) → verdict (present_of display.old) line ≡ refused_or (Apply (parts_of change.now)) (change_refusal (present_of display.old) change.now) → IsHandled course left refused (K.faults out.old) (K.faults out.new) (K.taken out.new) display.new result }
     ensures over { OnOk result (AreOver (state_of display.new).jobs) }
     ensures rises { K.faults out.old ≤ K.faults out.new }
 {

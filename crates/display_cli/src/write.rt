@@ -1,7 +1,7 @@
 //! Writing lines to a sink.
 ghost use Rattle.std.specs.Prelude.{◌≡◌, ◌+◌, ◌≤◌, ◌++◌, ℕ, List, [], ◌∷◌, length, IfOk, OnOk, IfErr, OnErr, string_bytes};
 ghost use Rattle.cell_units.specs.Text.{line_feed};
-ghost use Rattle.display_map.specs.declared.event.Event.{Event};
+ghost use Rattle.display_map.specs.Events.{Event};
 ghost use Rattle.display_map.specs.Replay.{present_of};
 ghost use Rattle.edit_script.specs.Commands.{query_meaning};
 ghost use Rattle.edit_script.specs.Printed.{query_lines};

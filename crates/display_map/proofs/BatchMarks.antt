@@ -7,9 +7,9 @@ use Rattle.cell_units.specs.Text.{clean, row_of, is_feed}
 use Rattle.cell_units.specs.Record.{Record, Mark, plain_marks, line_count}
 use Rattle.cell_units.specs.Operation.{replaced_text}
 use Rattle.display_map.specs.declared.change.Splice.{Splice}
-use Rattle.display_map.specs.declared.change.Op.{Op}
-use Rattle.display_map.specs.declared.change.Op.TheVariants.{Replace}
-use Rattle.display_map.specs.declared.event.Event.TheVariants.{Did}
+use Rattle.cell_units.specs.Operation.{Operation}
+use Rattle.display_map.specs.Changes.{replacement}
+use Rattle.display_map.specs.Events.{Did}
 use Rattle.display_map.specs.Changes.{is_operation, batch, are_ranges}
 use Rattle.display_map.specs.Replay.{State, happens, replayed}
 use Rattle.display_map.proofs.PlainLines.{IsPlain}
@@ -50,7 +50,7 @@ abbrev replace : List ℕ → Splice → List ℕ
 replace text s = replaced_text text s.start s.end (clean s.text)
 
 abbrev pub does : State → Splice → State
-does s splice = happens s (Did (Replace splice))
+does s splice = happens s (Did (replacement splice))
 
 -- nothing is shown but the text, and each line has a mark
 pub record IsReady (r : Record) : Type 0 where
@@ -136,14 +136,14 @@ does_all : (s : State) (from : ℕ) (splices : List Splice) → IsReady s.presen
 does_all s from [] ready h = record { ready = ready; is = refl }
 does_all s from (splice ∷ splices) ready h = one_before s splice splices h.1 h.2 (does_all s splice.end splices ready h.2)
 
-pub replayed-batch : (s : State) (splices : List Splice) → replayed s (map (λ op. Did op) (batch splices)) ≡ backwards does s splices
+pub replayed-batch : (s : State) (splices : List Splice) → replayed s (map Did (batch splices)) ≡ backwards does s splices
 unfolding replayed
-replayed-batch s splices = fold-map happens (λ (op : Op). Did op) s (batch splices) ∙ fold-batch-backwards (λ t op. happens t (Did op)) s splices
+replayed-batch s splices = fold-map happens Did s (batch splices) ∙ fold-batch-backwards (λ t op. happens t (Did op)) s splices
 
 -- a batch leaves the text spliced in one pass, and the marks given from the last splice to the first
 pub state_after_batch : (s : State) (splices : List Splice) → IsPlain s.present → length s.present.marks ≡ line_count s.present.text →
     are_ranges s.present.text 0 splices ≡ true →
-    replayed s (map (λ op. Did op) (batch splices)) ≡ record s { present = after_batch s.present splices }
+    replayed s (map Did (batch splices)) ≡ record s { present = after_batch s.present splices }
 state_after_batch s splices plain marked ok =
     let ordered = are_ordered s.present.text 0 splices (omega arith) ok in
     replayed-batch s splices
@@ -160,11 +160,11 @@ sound_all s from (splice ∷ splices) sound h = go (is_operation splice) (sound_
   long = subst (λ (t : State). splice.end ≤ length t.present.text) (sym done.is) (reaches s splice.end splices h.2)
 
   go : (b : Bool) → IsSound (backwards does s splices) → IsSound (cond b (does (backwards does s splices) splice) (backwards does s splices))
-  go true later = IsSound-after (backwards does s splices) (Did (Replace splice)) later (h.1, long)
+  go true later = IsSound-after (backwards does s splices) (Did (replacement splice)) later (h.1, long)
   go false later = later
 
 -- what holds of the state holds after a batch
 pub sound_after_batch : (s : State) (splices : List Splice) → IsSound s → are_ranges s.present.text 0 splices ≡ true →
-    IsSound (replayed s (map (λ op. Did op) (batch splices)))
+    IsSound (replayed s (map Did (batch splices)))
 sound_after_batch s splices sound ok =
     subst IsSound (sym (replayed-batch s splices)) (sound_all s 0 splices sound (are_ordered s.present.text 0 splices (omega arith) ok))

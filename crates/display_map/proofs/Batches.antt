@@ -9,8 +9,8 @@ use Rattle.cell_units.specs.Text.{clean, is_boundary, goes_on}
 use Rattle.cell_units.specs.Record.{Record}
 use Rattle.cell_units.specs.Operation.{operated, replaced_text}
 use Rattle.display_map.specs.declared.change.Splice.{Splice}
-use Rattle.display_map.specs.declared.change.Op.{Op}
-use Rattle.display_map.specs.declared.change.Op.TheVariants.{Replace}
+use Rattle.cell_units.specs.Operation.{Operation}
+use Rattle.display_map.specs.Changes.{replacement}
 use Rattle.display_map.specs.Changes.{operation_of, is_operation, batch, operated_all, are_ranges}
 
 -- ---- ranges in order
@@ -53,37 +53,37 @@ abbrev pub backwards : {X : Type 0} → (X → Splice → X) → X → List Spli
 backwards step x [] = x
 backwards step x (s ∷ splices) = cond (is_operation s) (step (backwards step x splices) s) (backwards step x splices)
 
-fold-batch : {X : Type 0} (step : X → Op → X) (x : X) (s : Splice) (splices : List Splice) →
-    fold step x (batch (s ∷ splices)) ≡ cond (is_operation s) (step (fold step x (batch splices)) (Replace s)) (fold step x (batch splices))
+fold-batch : {X : Type 0} (step : X → Operation → X) (x : X) (s : Splice) (splices : List Splice) →
+    fold step x (batch (s ∷ splices)) ≡ cond (is_operation s) (step (fold step x (batch splices)) (replacement s)) (fold step x (batch splices))
 fold-batch {X} step x s splices = go (is_operation s) where
   rest : List Splice
   rest = filter is_operation splices
 
-  go : (b : Bool) → fold step x (map (λ t. Replace t) (reverse (cond b (s ∷ rest) rest)))
-      ≡ cond b (step (fold step x (map (λ t. Replace t) (reverse rest))) (Replace s)) (fold step x (map (λ t. Replace t) (reverse rest)))
+  go : (b : Bool) → fold step x (map replacement (reverse (cond b (s ∷ rest) rest)))
+      ≡ cond b (step (fold step x (map replacement (reverse rest))) (replacement s)) (fold step x (map replacement (reverse rest)))
   go true =
-      ap (λ (l : List Splice). fold step x (map (λ t. Replace t) l)) (reverse-append (s ∷ []) rest)
-      ∙ ap (fold step x) (map-append (λ (t : Splice). Replace t) (reverse rest) (s ∷ []))
-      ∙ fold_push step x (map (λ t. Replace t) (reverse rest)) (Replace s)
+      ap (λ (l : List Splice). fold step x (map replacement l)) (reverse-append (s ∷ []) rest)
+      ∙ ap (fold step x) (map-append replacement (reverse rest) (s ∷ []))
+      ∙ fold_push step x (map replacement (reverse rest)) (replacement s)
   go false = refl
 
 -- a fold of a batch's operations goes backwards over its splices
-pub fold-batch-backwards : {X : Type 0} (step : X → Op → X) (x : X) (splices : List Splice) →
-    fold step x (batch splices) ≡ backwards (λ y s. step y (Replace s)) x splices
+pub fold-batch-backwards : {X : Type 0} (step : X → Operation → X) (x : X) (splices : List Splice) →
+    fold step x (batch splices) ≡ backwards (λ y s. step y (replacement s)) x splices
 fold-batch-backwards step x [] = refl
 fold-batch-backwards {X} step x (s ∷ splices) =
     fold-batch step x s splices
-    ∙ ap (λ (y : X). cond (is_operation s) (step y (Replace s)) y) (fold-batch-backwards step x splices)
+    ∙ ap (λ (y : X). cond (is_operation s) (step y (replacement s)) y) (fold-batch-backwards step x splices)
 
 -- the operations of one splice more come before those of the splices behind it
-pub batch-cons : (s : Splice) (splices : List Splice) → batch (s ∷ splices) ≡ batch splices ++ cond (is_operation s) (Replace s ∷ []) []
+pub batch-cons : (s : Splice) (splices : List Splice) → batch (s ∷ splices) ≡ batch splices ++ cond (is_operation s) (replacement s ∷ []) []
 batch-cons s splices = go (is_operation s) where
   rest : List Splice
   rest = filter is_operation splices
 
-  go : (b : Bool) → map (λ t. Replace t) (reverse (cond b (s ∷ rest) rest)) ≡ map (λ t. Replace t) (reverse rest) ++ cond b (Replace s ∷ []) []
-  go true = ap (map (λ (t : Splice). Replace t)) (reverse-append (s ∷ []) rest) ∙ map-append (λ (t : Splice). Replace t) (reverse rest) (s ∷ [])
-  go false = sym (append-nil (map (λ t. Replace t) (reverse rest)))
+  go : (b : Bool) → map replacement (reverse (cond b (s ∷ rest) rest)) ≡ map replacement (reverse rest) ++ cond b (replacement s ∷ []) []
+  go true = ap (map replacement) (reverse-append (s ∷ []) rest) ∙ map-append replacement (reverse rest) (s ∷ [])
+  go false = sym (append-nil (map replacement (reverse rest)))
 
 -- what is no operation replaces nothing by nothing
 no_operation : (s : Splice) → is_operation s ≡ false → (s.start ≡ s.end) × (s.text ≡ [])
@@ -138,14 +138,14 @@ backwards-text text from (s ∷ splices) h = go (is_operation s) refl (backwards
       ∙ ap (λ (new : List ℕ). take from text ++ (slice_range text from s.start ++ (clean new ++ tail))) (sym none.1)
 
 texts : (r : Record) (splices : List Splice) →
-    (backwards (λ r s. operated (operation_of (Replace s)) r) r splices).text ≡ backwards (λ t s. replaced_text t s.start s.end (clean s.text)) r.text splices
+    (backwards (λ r s. operated (replacement s) r) r splices).text ≡ backwards (λ t s. replaced_text t s.start s.end (clean s.text)) r.text splices
 texts r [] = refl
 texts r (s ∷ splices) = go (is_operation s) (texts r splices) where
   later : Record
-  later = backwards (λ r s. operated (operation_of (Replace s)) r) r splices
+  later = backwards (λ r s. operated (replacement s) r) r splices
 
   go : (b : Bool) → later.text ≡ backwards (λ t s. replaced_text t s.start s.end (clean s.text)) r.text splices →
-      (cond b (operated (operation_of (Replace s)) later) later).text
+      (cond b (operated (replacement s) later) later).text
       ≡ cond b (replaced_text (backwards (λ t s. replaced_text t s.start s.end (clean s.text)) r.text splices) s.start s.end (clean s.text))
       (backwards (λ t s. replaced_text t s.start s.end (clean s.text)) r.text splices)
   go true e = ap (λ (t : List ℕ). replaced_text t s.start s.end (clean s.text)) e
@@ -155,7 +155,7 @@ texts r (s ∷ splices) = go (is_operation s) (texts r splices) where
 pub text_after_batch : (r : Record) (splices : List Splice) → are_ranges r.text 0 splices ≡ true →
     (operated_all (batch splices) r).text ≡ spliced r.text 0 splices
 text_after_batch r splices ok =
-    ap (λ (after : Record). after.text) (fold-batch-backwards (λ r op. operated (operation_of op) r) r splices)
+    ap (λ (after : Record). after.text) (fold-batch-backwards (λ r op. operated op r) r splices)
     ∙ texts r splices
     ∙ backwards-text r.text 0 splices (are_ordered r.text 0 splices (omega arith) ok)
 

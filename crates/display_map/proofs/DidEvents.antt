@@ -3,28 +3,27 @@ use Rattle.std.proofs.Common.{◌≡◌, ℕ, ◌+◌, ◌-◌, ◌<◌, ◌≤�
 use Rattle.std.specs.List.{filter}
 use Rattle.std.proofs.lemmas.List.{length-map, map-append, reverse-append, drop_all, drop_more}
 use Rattle.display_map.specs.declared.change.Splice.{Splice}
-use Rattle.display_map.specs.declared.change.Op.{Op}
-use Rattle.display_map.specs.declared.change.Op.TheVariants.{Replace}
-use Rattle.display_map.specs.declared.event.Event.{Event}
-use Rattle.display_map.specs.declared.event.Event.TheVariants.{Did}
+use Rattle.cell_units.specs.Operation.{Operation}
+use Rattle.display_map.specs.Changes.{replacement}
+use Rattle.display_map.specs.Events.{Event, Did}
 use Rattle.display_map.specs.Changes.{batch, is_operation}
 use Rattle.display_map.specs.Splicing.{did_events}
 
-batch-cons : (s : Splice) (splices : List Splice) → batch (s ∷ splices) ≡ batch splices ++ cond (is_operation s) (Replace s ∷ []) []
+batch-cons : (s : Splice) (splices : List Splice) → batch (s ∷ splices) ≡ batch splices ++ cond (is_operation s) (replacement s ∷ []) []
 batch-cons s splices = go (is_operation s) where
   rest : List Splice
   rest = filter is_operation splices
 
-  go : (b : Bool) → map (λ t. Replace t) (reverse (cond b (s ∷ rest) rest)) ≡ map (λ t. Replace t) (reverse rest) ++ cond b (Replace s ∷ []) []
-  go true = ap (map (λ (t : Splice). Replace t)) (reverse-append (s ∷ []) rest) ∙ map-append (λ (t : Splice). Replace t) (reverse rest) (s ∷ [])
-  go false = sym (append-nil (map (λ (t : Splice). Replace t) (reverse rest)))
+  go : (b : Bool) → map replacement (reverse (cond b (s ∷ rest) rest)) ≡ map replacement (reverse rest) ++ cond b (replacement s ∷ []) []
+  go true = ap (map replacement) (reverse-append (s ∷ []) rest) ∙ map-append replacement (reverse rest) (s ∷ [])
+  go false = sym (append-nil (map replacement (reverse rest)))
 
-did-cons : (s : Splice) (splices : List Splice) → did_events (s ∷ splices) ≡ did_events splices ++ cond (is_operation s) (Did (Replace s) ∷ []) []
+did-cons : (s : Splice) (splices : List Splice) → did_events (s ∷ splices) ≡ did_events splices ++ cond (is_operation s) (Did (replacement s) ∷ []) []
 did-cons s splices =
-    ap (map (λ (op : Op). Did op)) (batch-cons s splices)
-    ∙ map-append (λ (op : Op). Did op) (batch splices) (cond (is_operation s) (Replace s ∷ []) [])
+    ap (map Did) (batch-cons s splices)
+    ∙ map-append Did (batch splices) (cond (is_operation s) (replacement s ∷ []) [])
     ∙ go (is_operation s) where
-      go : (b : Bool) → did_events splices ++ map (λ op. Did op) (cond b (Replace s ∷ []) []) ≡ did_events splices ++ cond b (Did (Replace s) ∷ []) []
+      go : (b : Bool) → did_events splices ++ map Did (cond b (replacement s ∷ []) []) ≡ did_events splices ++ cond b (Did (replacement s) ∷ []) []
       go true = refl
       go false = refl
 
@@ -34,14 +33,14 @@ one_before splices i s some le is =
     drop_more splices (i - 1) s (omega arith) ∙ (λ k. sym is k ∷ drop (next k) splices)
 
 pub did-pushed : (old journal journal' : List Event) (splices : List Splice) (i : ℕ) (s : Splice) → 0 < i → i ≤ length splices →
-    s ≡ get_or splices (i - 1) s → is_operation s ≡ true → journal ≡ old ++ did_events (drop i splices) → journal' ≡ journal ++ Did (Replace s) ∷ [] →
+    s ≡ get_or splices (i - 1) s → is_operation s ≡ true → journal ≡ old ++ did_events (drop i splices) → journal' ≡ journal ++ Did (replacement s) ∷ [] →
     journal' ≡ old ++ did_events (drop (i - 1) splices)
 did-pushed old journal journal' splices i s some le is op before pushed =
     pushed
-    ∙ ap (λ (l : List Event). l ++ Did (Replace s) ∷ []) before
-    ∙ append_assoc old (did_events (drop i splices)) (Did (Replace s) ∷ [])
+    ∙ ap (λ (l : List Event). l ++ Did (replacement s) ∷ []) before
+    ∙ append_assoc old (did_events (drop i splices)) (Did (replacement s) ∷ [])
     ∙ ap (λ (l : List Event). old ++ l)
-    (ap (λ (b : Bool). did_events (drop i splices) ++ cond b (Did (Replace s) ∷ []) []) (sym op)
+    (ap (λ (b : Bool). did_events (drop i splices) ++ cond b (Did (replacement s) ∷ []) []) (sym op)
     ∙ sym (did-cons s (drop i splices))
     ∙ ap did_events (sym (one_before splices i s some le is)))
 
@@ -52,13 +51,13 @@ did-passed old journal splices i s some le is op before =
     before
     ∙ ap (λ (l : List Event). old ++ l)
     (sym (append-nil (did_events (drop i splices)))
-    ∙ ap (λ (b : Bool). did_events (drop i splices) ++ cond b (Did (Replace s) ∷ []) []) (sym op)
+    ∙ ap (λ (b : Bool). did_events (drop i splices) ++ cond b (Did (replacement s) ∷ []) []) (sym op)
     ∙ sym (did-cons s (drop i splices))
     ∙ ap did_events (sym (one_before splices i s some le is)))
 
 length-batch : (s : Splice) (splices : List Splice) → length (batch (s ∷ splices)) ≡ length (batch splices) + cond (is_operation s) 1 0
-length-batch s splices = ap length (batch-cons s splices) ∙ length-append (batch splices) (cond (is_operation s) (Replace s ∷ []) []) ∙ ap (λ (n : ℕ). length (batch splices) + n) (go (is_operation s)) where
-  go : (b : Bool) → length (cond b (Replace s ∷ []) []) ≡ cond b 1 0
+length-batch s splices = ap length (batch-cons s splices) ∙ length-append (batch splices) (cond (is_operation s) (replacement s ∷ []) []) ∙ ap (λ (n : ℕ). length (batch splices) + n) (go (is_operation s)) where
+  go : (b : Bool) → length (cond b (replacement s ∷ []) []) ≡ cond b 1 0
   go true = refl
   go false = refl
 
@@ -75,7 +74,7 @@ room_for_one old journal splices i s some le is op before =
       arith,
       ap length before,
       length-append old (did_events (drop i splices)),
-      length-map (batch (drop i splices)) (λ (op : Op). Did op),
+      length-map (batch (drop i splices)) Did,
       batch-le splices (i - 1),
       ap (λ (l : List Splice). length (batch l)) (one_before splices i s some le is),
       length-batch s (drop i splices),

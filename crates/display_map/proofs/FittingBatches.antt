@@ -5,14 +5,12 @@ use Rattle.std.proofs.lemmas.List.{length-take-le, map-append}
 use Rattle.cell_units.specs.Text.{clean}
 use Rattle.cell_units.specs.Operation.{replaced_text}
 use Rattle.display_map.specs.declared.change.Splice.{Splice}
-use Rattle.display_map.specs.declared.change.Op.{Op}
-use Rattle.display_map.specs.declared.change.Op.TheVariants.{Replace}
-use Rattle.display_map.specs.declared.change.Change.{Change}
+use Rattle.cell_units.specs.Operation.{Operation}
+use Rattle.display_map.specs.Changes.{replacement}
 use Rattle.cell_units.specs.declared.fault.Refusal.{Refusal}
 use Rattle.cell_units.specs.declared.fault.Refusal.TheVariants.{BadRange}
-use Rattle.display_map.specs.declared.event.Event.{Event}
-use Rattle.display_map.specs.declared.event.Event.TheVariants.{Did}
-use Rattle.display_map.specs.Changes.{is_operation, batch, are_ranges, change_refusal, ops_of, splices_of}
+use Rattle.display_map.specs.Events.{Event, Did}
+use Rattle.display_map.specs.Changes.{is_operation, batch, are_ranges, edit_refusal}
 use Rattle.display_map.specs.LineStep.{line_step}
 use Rattle.display_map.specs.Replay.{State, happens, replayed}
 use Rattle.display_map.specs.LawfulStates.{EventsFit}
@@ -42,7 +40,7 @@ texts s (x ∷ splices) = go (is_operation x) (texts s splices) where
 
 -- what stands before the splices is still there
 reach : (s : State) (from : ℕ) (splices : List Splice) → AreOrdered (length s.present.text) from splices →
-    from ≤ length (replayed s (map (λ op. Did op) (batch splices))).present.text
+    from ≤ length (replayed s (map Did (batch splices))).present.text
 reach s from splices h =
     omega (
       arith,
@@ -53,12 +51,12 @@ reach s from splices h =
     )
 
 fit_all : (s : State) (from : ℕ) (splices : List Splice) → AreOrdered (length s.present.text) from splices →
-    EventsFit s (map (λ op. Did op) (batch splices))
+    EventsFit s (map Did (batch splices))
 fit_all s from [] h = tt
 fit_all s from (x ∷ splices) h =
-    subst (EventsFit s) (sym (ap (map (λ (op : Op). Did op)) (batch-cons x splices) ∙ map-append (λ (op : Op). Did op) (batch splices) (cond (is_operation x) (Replace x ∷ []) [])))
-    (EventsFit-append s (map (λ op. Did op) (batch splices)) (map (λ op. Did op) (cond (is_operation x) (Replace x ∷ []) [])) (fit_all s x.end splices h.2) (go (is_operation x))) where
-      go : (b : Bool) → EventsFit (replayed s (map (λ op. Did op) (batch splices))) (map (λ op. Did op) (cond b (Replace x ∷ []) []))
+    subst (EventsFit s) (sym (ap (map Did) (batch-cons x splices) ∙ map-append Did (batch splices) (cond (is_operation x) (replacement x ∷ []) [])))
+    (EventsFit-append s (map Did (batch splices)) (map (λ op. Did op) (cond (is_operation x) (replacement x ∷ []) [])) (fit_all s x.end splices h.2) (go (is_operation x))) where
+      go : (b : Bool) → EventsFit (replayed s (map Did (batch splices))) (map (λ op. Did op) (cond b (replacement x ∷ []) []))
       go true = (((h.1, reach s x.end splices h.2), tt), tt)
       go false = tt
 
@@ -66,8 +64,8 @@ ranges_of : (r : Option Refusal) (b : Bool) → cond (not b) (Some BadRange) r �
 ranges_of r true e = refl
 ranges_of r false e = absurd (cc e)
 
--- the operations of a change that is not refused fit
-pub fitting_change : (s : State) (change : Change) → change_refusal s.present change ≡ None → EventsFit s (map (λ op. Did op) (ops_of change))
-fitting_change s change e =
-    let ok = ranges_of _ (are_ranges s.present.text 0 (splices_of change)) e in
-    fit_all s 0 (splices_of change) (are_ordered s.present.text 0 (splices_of change) (omega arith) ok)
+-- the operations of an edit that is not refused fit
+pub fitting_edit : (s : State) (splices : List Splice) → edit_refusal s.present splices ≡ None → EventsFit s (map Did (batch splices))
+fitting_edit s splices e =
+    let ok = ranges_of _ (are_ranges s.present.text 0 splices) e in
+    fit_all s 0 splices (are_ordered s.present.text 0 splices (omega arith) ok)

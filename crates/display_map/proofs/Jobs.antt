@@ -6,9 +6,8 @@ use Rattle.std.proofs.lemmas.Bool.{eq-eqb, ne_eqb}
 use Rattle.std.proofs.lemmas.List.{drop-map}
 use Rattle.std.proofs.lemmas.List.Folds.{list_any-append}
 use Rattle.cell_units.specs.Record.{Record, Mark}
-use Rattle.display_map.specs.declared.change.Op.{Op}
-use Rattle.display_map.specs.declared.event.Event.{Event}
-use Rattle.display_map.specs.declared.event.Event.TheVariants.{Line, Did, Sent, Landed, Published}
+use Rattle.cell_units.specs.Operation.{Operation}
+use Rattle.display_map.specs.Events.{Event, Line, Did, Sent, Landed, Published}
 use Rattle.display_map.specs.Replay.{SentJob, State, holds, wrapped_at, landed_on, job_numbered, with_landed, stamps_of, happens, is_held, waits, run_from, first_waiting, next_run}
 use Rattle.display_map.proofs.Stamps.{stamps, stamps-wrapped_at}
 
@@ -131,7 +130,7 @@ waits-sent s job first count m =
 -- ---- events that are no operations
 
 -- they change marks alone
-pub still : (s : State) (e : Event) → ((op : Op) → e ≡ Did op → ⊥) → (happens s e).present ≡ record s.present { marks = (happens s e).present.marks }
+pub still : (s : State) (e : Event) → ((op : Operation) → e ≡ Did op → ⊥) → (happens s e).present ≡ record s.present { marks = (happens s e).present.marks }
 still s (Line number) other = refl
 still s (Did op) other = absurd (other op refl)
 still s (Sent job first count) other = refl

@@ -7,9 +7,8 @@ use Rattle.cell_units.specs.Text.{clean, is_feed, row_of}
 use Rattle.cell_units.specs.Record.{Record}
 use Rattle.cell_units.specs.BufferLines.{buffer_lines}
 use Rattle.display_map.specs.declared.change.Splice.{Splice}
-use Rattle.display_map.specs.declared.change.Op.{Op}
-use Rattle.display_map.specs.declared.event.Event.{Event}
-use Rattle.display_map.specs.declared.event.Event.TheVariants.{Did}
+use Rattle.cell_units.specs.Operation.{Operation}
+use Rattle.display_map.specs.Events.{Event, Did}
 use Rattle.display_map.specs.declared.wrap.Wrap.{Wrap}
 use Rattle.display_map.specs.Changes.{are_ranges, batch, edit_refusal, is_operation, text_limit}
 use Rattle.display_map.specs.Kept.{AreWrapped, IsStamped, IsWrapped, Keeps, KeepsHistory}
@@ -52,7 +51,7 @@ from_along tab (l ∷ ls) (w ∷ ws) h = (h.0, from_along tab ls ws h.1)
 fresh_wrapped : (tab width : ℕ) (line : List ℕ) → IsWrapped tab line (fresh_wrap width)
 fresh_wrapped tab width line = record { lawful = inl refl; rows_are = (plain_wrapped tab line).rows_are }
 
-none_published : (ops : List Op) → versions_of (map (λ op. Did op) ops) ≡ 0
+none_published : (ops : List Operation) → versions_of (map Did ops) ≡ 0
 none_published [] = refl
 none_published (op ∷ ops) = none_published ops
 

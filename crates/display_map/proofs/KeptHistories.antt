@@ -5,8 +5,7 @@ use Rattle.std.proofs.lemmas.List.Sums.{sum_by-append}
 use Rattle.cell_units.specs.Record.{Mark, opened, plain_marks, line_count}
 use Rattle.cell_units.specs.BufferLines.{buffer_lines}
 use Rattle.cell_units.proofs.BufferLines.{length-buffer_lines}
-use Rattle.display_map.specs.declared.event.Event.{Event}
-use Rattle.display_map.specs.declared.event.Event.TheVariants.{Line, Published}
+use Rattle.display_map.specs.Events.{Event, Line, Published}
 use Rattle.display_map.specs.Changes.{text_limit}
 use Rattle.display_map.specs.declared.wrap.Wrap.{Wrap}
 use Rattle.display_map.specs.Kept.{AreWrapped, IsStamped, Keeps, KeepsHistory, plain_wrap}

@@ -11,7 +11,7 @@ use Rattle.cell_units.specs.BufferLines.{buffer_lines}
 use Rattle.cell_units.proofs.BufferLines.{length-buffer_lines}
 use Rattle.wrap_workers.specs.Jobs.{JobParts, wraps_of}
 use Rattle.display_map.specs.Changes.{text_limit}
-use Rattle.display_map.specs.declared.event.Event.TheVariants.{Landed}
+use Rattle.display_map.specs.Events.{Landed}
 use Rattle.display_map.specs.declared.wrap.Wrap.{Wrap}
 use Rattle.display_map.specs.Kept.{AreWrapped, IsStamped, Keeps, KeepsHistory, NoneWaits, landed_wraps, no_wrap, over_run, text_elements}
 use Rattle.display_map.specs.Replay.{SentJob, State, History, state_of, present_of, appended, happens, waits, wrapped_at}

@@ -5,8 +5,7 @@ use Rattle.std.proofs.lemmas.Bool.{ne_eqb, eq-eqb, true≢false}
 use Rattle.std.proofs.lemmas.List.{length-map, take-map, drop-map, length_push, get_or-map, get_or_append_left, get_or_at}
 use Rattle.std.proofs.lemmas.List.FromFn.{get_or-range_with_len}
 use Rattle.cell_units.specs.Record.{Record, Mark}
-use Rattle.display_map.specs.declared.event.Event.{Event}
-use Rattle.display_map.specs.declared.event.Event.TheVariants.{Line, Did, Sent, Landed, Published}
+use Rattle.display_map.specs.Events.{Event, Line, Did, Sent, Landed, Published}
 use Rattle.plain_rows.specs.Rows.{line_elements}
 use Rattle.cell_line.specs.declared.element.Element.{Element}
 use Rattle.wrap_workers.specs.Jobs.{JobParts}

@@ -4,7 +4,7 @@ use Rattle.std.specs.List.{list_any, range_with_len}
 use Rattle.std.proofs.lemmas.List.{map-id, set-get_or, set_split}
 use Rattle.std.proofs.lemmas.List.Folds.{list_any-append}
 use Rattle.cell_units.specs.Record.{Record, Mark}
-use Rattle.display_map.specs.declared.event.Event.TheVariants.{Landed}
+use Rattle.display_map.specs.Events.{Landed}
 use Rattle.display_map.specs.Replay.{SentJob, State, holds, wrapped_at, landed_on, happens, waits}
 use Rattle.display_map.proofs.PlainRows.{slice_get_some}
 use Rattle.std.proofs.lemmas.Simd.{map-map}

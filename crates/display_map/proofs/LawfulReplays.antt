@@ -10,8 +10,7 @@ use Rattle.cell_units.specs.Operation.{Operation, operated}
 use Rattle.cell_units.specs.LineCounts.{IsLawful, Fits, IsFresh}
 use Rattle.cell_units.proofs.Unfolded.{length-display_lines}
 use Rattle.cell_units.proofs.LawfulOperations.{IsLawful-operated, lawful_alike}
-use Rattle.display_map.specs.declared.event.Event.{Event}
-use Rattle.display_map.specs.declared.event.Event.TheVariants.{Line, Did, Sent, Landed, Published}
+use Rattle.display_map.specs.Events.{Event, Line, Did, Sent, Landed, Published}
 use Rattle.display_map.specs.Changes.{operation_of}
 use Rattle.display_map.specs.LineStep.{line_step, IsMarked}
 use Rattle.display_map.specs.Replay.{SentJob, State, begun, happens, holds, job_numbered, landed_on, replayed, wrapped_at}
@@ -43,8 +42,8 @@ landed_lawful r (Some job) s = go (eqb job.width r.width) where
 IsLawfulState-happens : (s : State) (e : Event) → EventFits s e → IsLawfulState s → IsLawfulState (happens s e)
 IsLawfulState-happens s (Line number) fits is = is
 IsLawfulState-happens s (Did op) fits is = record {
-  lawful = IsLawful-step (operation_of op) s.present is.lawful fits.0 fits.1;
-  marked = IsMarked-step (operation_of op) s.present is.lawful fits.0 is.marked;
+  lawful = IsLawful-step op s.present is.lawful fits.0 fits.1;
+  marked = IsMarked-step op s.present is.lawful fits.0 is.marked;
 }
 IsLawfulState-happens s (Sent job first count) fits is = record { lawful = is.lawful; marked = is.marked }
 IsLawfulState-happens s (Landed job) fits is =

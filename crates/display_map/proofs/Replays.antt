@@ -8,10 +8,10 @@ use Rattle.std.proofs.lemmas.List.FromFn.{length-range_with_len}
 use Rattle.cell_units.specs.Text.{is_feed, row_of, clean}
 use Rattle.cell_units.specs.Record.{Record, Mark, plain_mark, line_count, opened}
 use Rattle.cell_units.proofs.ReplacedRows.{row_of-le}
+use Rattle.cell_units.specs.Operation.{Replace}
 use Rattle.display_map.specs.declared.change.Splice.{Splice}
-use Rattle.display_map.specs.declared.change.Op.TheVariants.{Replace}
-use Rattle.display_map.specs.declared.event.Event.{Event}
-use Rattle.display_map.specs.declared.event.Event.TheVariants.{Line, Did, Sent, Landed, Published}
+use Rattle.display_map.specs.Changes.{replacement, splice_of}
+use Rattle.display_map.specs.Events.{Event, Line, Did, Sent, Landed, Published}
 use Rattle.display_map.specs.Changes.{operation_of}
 use Rattle.display_map.specs.LineStep.{line_step}
 use Rattle.display_map.specs.Replay.{SentJob, State, History, begun, holds, wrapped_at, landed_on, job_numbered, landed_if, with_landed, stamps_of, happens, replayed, state_of, appended}
@@ -58,7 +58,8 @@ pub record IsSound (s : State) : Type 0 where
 -- a replacement is within the text, and a job has the next number
 abbrev pub IsDue : State → Event → Type 0
 IsDue s (Line number) = Unit {0}
-IsDue s (Did (Replace splice)) = (splice.start ≤ splice.end) × (splice.end ≤ length s.present.text)
+IsDue s (Did (Replace a b text)) = (a ≤ b) × (b ≤ length s.present.text)
+IsDue s (Did operation) = ⊥
 IsDue s (Sent job first count) = job ≡ length s.jobs + 1
 IsDue s (Landed job) = Unit {0}
 IsDue s (Published last) = Unit {0}
@@ -93,10 +94,10 @@ still_given next next' jobs le h =
     (λ job below. All-weaker (λ (x : ℕ). x < next) (λ (x : ℕ). x < next') (λ x lt. omega (arith, lt, le)) job.stamps below) jobs h
 
 sound_did : (s : State) (splice : Splice) → IsSound s → splice.start ≤ splice.end → splice.end ≤ length s.present.text →
-    IsSound (happens s (Did (Replace splice)))
+    IsSound (happens s (Did (replacement splice)))
 sound_did s splice sound le within =
     let after = replaced_record splice.start splice.end splice.text s.present in
-    let step : after ≡ line_step (operation_of (Replace splice)) s.present =
+    let step : after ≡ line_step (replacement splice) s.present =
     sym (line_step-plain splice.start splice.end splice.text s.present sound.present.plain sound.present.marked le within) in
     subst (λ (r : Record). IsSound (record s { present = r })) step
     (record {
@@ -180,7 +181,8 @@ sound_landed s number sound =
 -- what holds is kept by each event that is due
 pub IsSound-after : (s : State) (e : Event) → IsSound s → IsDue s e → IsSound (happens s e)
 IsSound-after s (Line number) sound due = sound
-IsSound-after s (Did (Replace splice)) sound due = sound_did s splice sound due.0 due.1
+IsSound-after s (Did (Replace a b text)) sound due = sound_did s (splice_of a b text) sound due.0 due.1
+IsSound-after s (Did operation) sound due = absurd due
 IsSound-after s (Sent job first count) sound due = sound_sent s job first count sound due
 IsSound-after s (Landed job) sound due = sound_landed s job sound
 IsSound-after s (Published last) sound due = sound

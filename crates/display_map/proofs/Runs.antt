@@ -5,7 +5,7 @@ use Rattle.std.proofs.lemmas.List.{append_assoc, map-append, map-id, take-append
 use Rattle.std.proofs.lemmas.Simd.{map-map}
 use Rattle.std.proofs.lemmas.List.Folds.{list_any-append}
 use Rattle.cell_units.specs.Record.{Mark, Record}
-use Rattle.display_map.specs.declared.event.Event.TheVariants.{Sent}
+use Rattle.display_map.specs.Events.{Sent}
 use Rattle.display_map.specs.Replay.{SentJob, State, holds, wrapped_at, stamps_of, happens, waits}
 use Rattle.display_map.proofs.Stamps.{stamps, times, times-cons, times-append}
 use Rattle.display_map.proofs.Jobs.{waits-sent, landed_marks}

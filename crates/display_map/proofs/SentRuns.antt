@@ -7,8 +7,7 @@ use Rattle.cell_line.specs.declared.lines.Run.{Run}
 use Rattle.cell_line.specs.Wrapping.{IsWidth, cuts_of}
 use Rattle.cell_units.specs.Record.{Record, Mark}
 use Rattle.cell_units.specs.BufferLines.{buffer_lines}
-use Rattle.display_map.specs.declared.event.Event.{Event}
-use Rattle.display_map.specs.declared.event.Event.TheVariants.{Sent}
+use Rattle.display_map.specs.Events.{Event, Sent}
 use Rattle.display_map.specs.declared.wrap.Wrap.{Wrap}
 use Rattle.display_map.specs.Kept.{AreWrapped, IsStamped, Keeps, KeepsHistory, NoneWaits, first_waiting_in, no_wrap, over_run, sent_wrap, text_elements}
 use Rattle.display_map.specs.Replay.{State, History, state_of, appended, happens, waits, run_limit, first_waiting, next_run, stamps_of}

@@ -14,14 +14,15 @@ use Rattle.cell_line.specs.Wrapping.{IsWidth, cuts_of}
 use Rattle.plain_rows.specs.Rows.{Row, text_rows}
 use Rattle.display_map.specs.Replay.{State, History, state_of, present_of, versions_of, waits, run_limit}
 use Rattle.display_map.specs.Changes.{text_limit}
-use Rattle.display_map.specs.declared.event.Event.{Event}
+use Rattle.display_map.specs.declared.event.Event as declared
+use Rattle.display_map.specs.Events.{Event, events_of}
 use Rattle.display_map.specs.declared.wrap.Wrap.{Wrap}
 use Rattle.display_map.specs.declared.wrap.RowPlace.{RowPlace}
 
 -- the events that are shared, if there are any
-abbrev pub kept_events : {Z : Type 0} → Option (Arc (Vec Event Z) Z) → List Event
+abbrev pub kept_events : {Z : Type 0} → Option (Arc (Vec declared.Event Z) Z) → List Event
 kept_events None = []
-kept_events (Some events) = (arc_value events).items
+kept_events (Some events) = events_of (arc_value events).items
 
 -- the elements of a line of bytes by itself
 abbrev pub text_elements : ℕ → List ℕ → List Element

@@ -1,15 +1,13 @@
 -- What each state of a replay keeps, where its operations fit.
 use Rattle.std.specs.Prelude.{List, [], ◌∷◌}
 use Rattle.cell_units.specs.LineCounts.{IsLawful, Fits, IsFresh}
-use Rattle.display_map.specs.declared.event.Event.{Event}
-use Rattle.display_map.specs.declared.event.Event.TheVariants.{Did}
-use Rattle.display_map.specs.Changes.{operation_of}
+use Rattle.display_map.specs.Events.{Event, Did}
 use Rattle.display_map.specs.LineStep.{IsMarked}
 use Rattle.display_map.specs.Replay.{State, happens}
 
 -- the operation of an event, if it is one, fits the present record
 abbrev pub EventFits : State → Event → Type 0
-EventFits s (Did op) = Fits (operation_of op) s.present × IsFresh (operation_of op) s.present
+EventFits s (Did op) = Fits op s.present × IsFresh op s.present
 EventFits s _ = Unit {0}
 
 -- so does that of each of the events, in order

@@ -1,4 +1,5 @@
 pub mod Changes
+pub mod Events
 pub mod LineStep
 pub mod Replay
 pub mod Shown

@@ -3,9 +3,7 @@ use Rattle.std.specs.Prelude.{ℕ, ◌==◌, ◌&&◌, not, min, Bool, true, fal
 use Rattle.std.specs.List.{list_any, list_all, prefix_len, last_or}
 use Rattle.cell_line.specs.declared.lines.Run.{Run}
 use Rattle.cell_units.specs.Record.{Mark, Record, opened}
-use Rattle.display_map.specs.declared.event.Event.{Event}
-use Rattle.display_map.specs.declared.event.Event.TheVariants.{Line, Did, Sent, Landed, Published}
-use Rattle.display_map.specs.Changes.{operation_of}
+use Rattle.display_map.specs.Events.{Event, Line, Did, Sent, Landed, Published}
 use Rattle.display_map.specs.LineStep.{line_step}
 
 -- a job: its number, the width and the stamps of its lines when it was sent, and whether it has landed
@@ -57,7 +55,7 @@ stamps_of marks first count = map (λ m. m.stamp) (take count (drop first marks)
 
 abbrev pub happens : State → Event → State
 happens s (Line number) = s
-happens s (Did op) = record s { present = line_step (operation_of op) s.present }
+happens s (Did op) = record s { present = line_step op s.present }
 happens s (Sent job first count) =
     record s {
       jobs = s.jobs ++ record { number = job; width = s.present.width; stamps = stamps_of s.present.marks first count; landed = false } ∷ [];

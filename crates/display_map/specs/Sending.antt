@@ -4,8 +4,7 @@ use Rattle.std.specs.List.{list_any}
 use Rattle.cell_line.specs.declared.element.Element.{Element}
 use Rattle.plain_rows.specs.Rows.{line_elements}
 use Rattle.wrap_workers.specs.Jobs.{JobParts}
-use Rattle.display_map.specs.declared.event.Event.{Event}
-use Rattle.display_map.specs.declared.event.Event.TheVariants.{Did, Sent, Landed}
+use Rattle.display_map.specs.Events.{Event, Did, Sent, Landed}
 use Rattle.display_map.specs.Replay.{History, state_of, present_of, appended, next_run}
 
 -- the event that sends a job

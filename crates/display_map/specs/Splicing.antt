@@ -2,8 +2,7 @@
 use Rattle.std.specs.Prelude.{ℕ, ◌+◌, ◌-◌, not, Bool, if◌then◌else◌, List, [], ◌∷◌, ◌++◌, drop, replicate, slice_range, map, count_by, ◌==◌, ◌&&◌, nat_le}
 use Rattle.cell_units.specs.Text.{clean, is_boundary, is_feed, row_of}
 use Rattle.display_map.specs.declared.change.Splice.{Splice}
-use Rattle.display_map.specs.declared.event.Event.{Event}
-use Rattle.display_map.specs.declared.event.Event.TheVariants.{Did}
+use Rattle.display_map.specs.Events.{Event, Did}
 use Rattle.display_map.specs.declared.wrap.Wrap.{Wrap}
 use Rattle.display_map.specs.Changes.{batch, is_operation}
 
@@ -33,4 +32,4 @@ fresh_wrap width = record { mark = 0; rows = 1; waits = not (0 == width) }
 
 -- the events of a batch
 abbrev pub did_events : List Splice → List Event
-did_events splices = map (λ op. Did op) (batch splices)
+did_events splices = map Did (batch splices)

@@ -3,15 +3,15 @@ ghost use Rattle.std.specs.Prelude.{◌≡◌, ◌+◌, ◌==◌, ◌^◌, ◌<�
 ghost use Rattle.std.specs.Arc.{arc_value};
 ghost use Rattle.std.specs.Str.{IsUtf8};
 ghost use Rattle.cell_units.specs.Text.{clean};
-ghost use Rattle.display_map.specs.declared.event.Event.TheVariants.{Did, Landed, Line, Published};
-ghost use Rattle.display_map.specs.Changes.{text_limit, ops_of, change_refusal};
+ghost use Rattle.display_map.specs.Events.{Did, Landed, Line, Published};
+ghost use Rattle.display_map.specs.Changes.{text_limit, ops_of, change_refusal, batch, edit_refusal};
 ghost use Rattle.display_map.specs.Faults.{event_limit, IsOpenRefused, IsRefusedAs};
 ghost use Rattle.display_map.specs.Kept.{plain_wrap};
 ghost use Rattle.display_map.specs.Sending.{IsOutstanding, IsRunTaken};
 ghost use Rattle.display_map.specs.Replay.{present_of, appended, is_settled};
 
 use crate::buffer::Buffer;
-use crate::change::Change;
+use crate::change::{Change, Op, Splice};
 use crate::event::Event;
 use crate::fault::TextFault;
 use crate::held::Held;
@@ -23,6 +23,7 @@ use crate::{cleaning, splicing};
 use cell_units::{Fault, NoMemory, Refusal, Steps};
 use std::alloc::Global;
 use std::marker::Model;
+use std::slice;
 use std::sync::Arc;
 use wrap_workers::{Done, Job};
 
@@ -217,19 +218,14 @@ impl Display {
         Ok(())
     }
 
-    /// Does a change. A refused change leaves the display as it was.
-    ///
-    /// The ranges of an edit are those of the text before it. It is refused as `BadRange` where one is backwards, past the
-    /// end or off a boundary or starts before the end of the one before it, and else as `TooLong` where the text would be
-    /// longer than a text may be.
-    pub fn apply(&mut self, alloc: Global, change: &Change, _steps: &mut Steps) -> Result<(), Fault>
-        requires room { length self.old.events + length (ops_of change.now) ≤ event_limit }
-        ensures accepted { OnOk result (change_refusal (present_of self.old) change.now ≡ None) }
-        ensures done { OnOk result (self.new ≡ appended self.old (map (λ op. Did op) (ops_of change.now))) }
-        ensures refused { IfErr result (IsRefusedAs (change_refusal (present_of self.old) change.now)) }
+    /// Does a batch of replacements.
+    fn edit(&mut self, alloc: Global, splices: &[Splice]) -> Result<(), Fault>
+        requires room { length self.old.events + length (batch splices.now) ≤ event_limit }
+        ensures accepted { OnOk result (edit_refusal (present_of self.old) splices.now ≡ None) }
+        ensures done { OnOk result (self.new ≡ appended self.old (map Did (batch splices.now))) }
+        ensures refused { IfErr result (IsRefusedAs (edit_refusal (present_of self.old) splices.now)) }
         ensures unchanged { OnErr result (self.new ≡ self.old) }
     {
-        let splices = splicing::splices(change);
         if !splicing::are_ranges(self.text.as_str(), splices) {
             return Err(Fault::Refused(Refusal::BadRange));
         }
@@ -246,6 +242,31 @@ impl Display {
         self.wraps = wraps;
         self.first = 0;
         Ok(())
+    }
+
+    /// Does a change. A refused change leaves the display as it was. It is refused by the first of these that fits:
+    ///
+    /// - `BadNumber`: a tab size isn't 1 to 16, or a width neither 0 nor 2 to 10,000;
+    /// - `IdInUse`, `UnknownId`: an id that is added is there already, or one that is removed isn't;
+    /// - `BadRange`: an offset is past the end or no boundary; a fold is backwards or empty; a block's row is past the
+    ///   last; a range of an edit is backwards, or starts before the end of the one before it;
+    /// - `BadText`: an inlay's text is empty; a block has no line, more than 256, or one with a line end;
+    /// - `TooLong`: the text would be longer than a text may be; an inlay's text or a block's line is over 1,024 bytes;
+    ///   65,536 of the kind are there.
+    ///
+    /// The ranges of an edit are those of the text before it.
+    pub fn apply(&mut self, alloc: Global, change: &Change, _steps: &mut Steps) -> Result<(), Fault>
+        requires room { length self.old.events + length (ops_of change.now) ≤ event_limit }
+        ensures accepted { OnOk result (change_refusal (present_of self.old) change.now ≡ None) }
+        ensures done { OnOk result (self.new ≡ appended self.old (map Did (ops_of change.now))) }
+        ensures refused { IfErr result (IsRefusedAs (change_refusal (present_of self.old) change.now)) }
+        ensures unchanged { OnErr result (self.new ≡ self.old) }
+    {
+        match change {
+            Change::Edit(splices) => self.edit(alloc, splices),
+            Change::One(Op::Replace(splice)) => self.edit(alloc, slice::from_ref(splice)),
+            Change::One(_) => Err(Fault::NoMemory),
+        }
     }
 
     /// Whether every line stands wrapped at the present width.

@@ -1,5 +1,6 @@
 //! What happens to a display, event by event.
 ghost use Rattle.std.specs.Prelude.{◌≡◌, IfOk};
+ghost use Rattle.display_map.specs.Events.{event_of};
 
 use crate::change::Op;
 use cell_units::NoMemory;
@@ -22,7 +23,7 @@ pub enum Event {
 
 impl Event {
     pub(crate) fn copy(&self, alloc: Global) -> Result<Event, NoMemory>
-        ensures { IfOk result (λ copy. copy ≡ self.now) }
+        ensures { IfOk result (λ copy. event_of copy ≡ event_of self.now) }
     {
         match self {
             Event::Line { number } => Ok(Event::Line { number: *number }),

@@ -1,7 +1,8 @@
 //! The journal of a display.
 ghost use Rattle.std.specs.Prelude.{◌≡◌, ◌+◌, ◌<◌, ◌≤◌, ◌^◌, [], ◌∷◌, ◌++◌, length, take, slice_get, IfOk, OnOk, OnErr};
-ghost use Rattle.std.specs.Option.{option_copied};
+ghost use Rattle.std.specs.Option.{option_copied, option_map};
 ghost use Rattle.std.specs.Arc.{arc_value};
+ghost use Rattle.display_map.specs.Events.{event_of, events_of};
 
 use crate::event::Event;
 use cell_units::NoMemory;
@@ -9,7 +10,7 @@ use std::alloc::Global;
 use std::marker::Model;
 use std::sync::Arc;
 
-/// The events of a display, in order.
+/// The events of a display, in order. It is seen as the list of what they tell.
 #[derive(Debug, Drop)]
 pub struct Journal {
     // Shared with other journals, which may end earlier: the events from `len` on are none of this one's.
@@ -19,7 +20,7 @@ pub struct Journal {
 
 impl Model for Journal {
     ghost use Rattle.std.specs.Prelude.{List};
-    ghost use Rattle.display_map.specs.declared.event.Event.{Event};
+    ghost use Rattle.display_map.specs.Events.{Event};
 
     ghost Value = { List Event };
 
@@ -33,7 +34,7 @@ impl Model for Journal {
 
 /// A copy of events, with room for one more.
 fn copied(alloc: Global, events: &[Event]) -> Result<Vec<Event>, NoMemory>
-    ensures { IfOk result (λ copy. copy.items ≡ events.now) }
+    ensures { IfOk result (λ copy. events_of copy.items ≡ events_of events.now) }
 {
     let mut copy = Vec::with_capacity(alloc, events.len())?;
     for event in events {
@@ -51,8 +52,8 @@ fn push_behind(
     event: Event,
 ) -> Result<(), NoMemory>
     requires { len ≤ length (arc_value shared.old).items }
-    ensures appended { OnOk result ((arc_value shared.new).items ≡ take len (arc_value shared.old).items ++ event ∷ []) }
-    ensures unchanged { OnErr result (take len (arc_value shared.new).items ≡ take len (arc_value shared.old).items) }
+    ensures appended { OnOk result (events_of (arc_value shared.new).items ≡ take len (events_of (arc_value shared.old).items) ++ event_of event ∷ []) }
+    ensures unchanged { OnErr result (take len (events_of (arc_value shared.new).items) ≡ take len (events_of (arc_value shared.old).items)) }
     ensures long { len ≤ length (arc_value shared.new).items }
 {
     match Arc::get_mut(shared) {
@@ -82,7 +83,7 @@ impl Journal {
 
     /// The event at a place, counted from 0; `None` past the end.
     pub fn get(&self, at: u32) -> Option<&Event>
-        ensures { option_copied result ≡ slice_get self.now at }
+        ensures { option_map event_of (option_copied result) ≡ slice_get self.now at }
     {
         if at < self.len {
             self.events.as_ref()?.get(at as usize)
@@ -115,7 +116,7 @@ impl Journal {
     /// Appends an event. The events are altered in place where no other journal shares them, and copied elsewhere.
     pub(crate) fn push(&mut self, alloc: Global, event: Event) -> Result<(), NoMemory>
         requires { length self.old + 1 < 2 ^ 32 }
-        ensures appended { OnOk result (self.new ≡ self.old ++ event ∷ []) }
+        ensures appended { OnOk result (self.new ≡ self.old ++ event_of event ∷ []) }
         ensures unchanged { OnErr result (self.new ≡ self.old) }
     {
         let len = self.len as usize;

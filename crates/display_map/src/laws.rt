@@ -6,10 +6,9 @@ ghost use Rattle.cell_units.specs.Touched.{Rows, row_range, touched};
 ghost use Rattle.cell_units.specs.LineCounts.{Fits, IsFresh, IsLawful};
 ghost use Rattle.cell_line.specs.declared.element.Element.{Element};
 ghost use Rattle.wrap_workers.specs.Jobs.{JobParts};
-ghost use Rattle.display_map.specs.declared.change.Change.{Change};
-ghost use Rattle.display_map.specs.declared.event.Event.{Event};
-ghost use Rattle.display_map.specs.declared.event.Event.TheVariants.{Did};
-ghost use Rattle.display_map.specs.Changes.{change_refusal, ops_of};
+ghost use Rattle.display_map.specs.declared.change.Splice.{Splice};
+ghost use Rattle.display_map.specs.Events.{Event, Did};
+ghost use Rattle.display_map.specs.Changes.{batch, edit_refusal};
 ghost use Rattle.display_map.specs.LineStep.{GivesFreshMarks, IsMarked, KeepsMarks, SplicesMarks, line_step};
 ghost use Rattle.display_map.specs.Replay.{History, State, appended, begun, replayed};
 ghost use Rattle.display_map.specs.LawfulStates.{EventsFit, IsLawfulState};
@@ -35,8 +34,8 @@ pub fn step_laws()
 {}
 
 /// Each state that a journal of fitting operations leads to is lawful: its record is, with one mark for each display line.
-/// The operations of a change that isn't refused fit. It does nothing.
+/// The operations of an edit that isn't refused fit. It does nothing.
 pub fn replay_laws()
     ensures lawful { (text : List ℕ) (events : List Event) → EventsFit (begun text) events → IsLawfulState (replayed (begun text) events) }
-    ensures accepted { (s : State) (change : Change) → change_refusal s.present change ≡ None → EventsFit s (map (λ op. Did op) (ops_of change)) }
+    ensures accepted { (s : State) (splices : List Splice) → edit_refusal s.present splices ≡ None → EventsFit s (map Did (batch splices)) }
 {}

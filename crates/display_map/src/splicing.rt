@@ -2,28 +2,17 @@
 ghost use Rattle.std.specs.Prelude.{◌≡◌, ◌+◌, ◌^◌, ◌<◌, ◌≤◌, ◌++◌, true, length, take, replicate, count_by, string_bytes, IfOk, OnOk, OnErr};
 ghost use Rattle.cell_units.specs.Record.{line_count};
 ghost use Rattle.cell_units.specs.Text.{clean, is_boundary, is_feed};
-ghost use Rattle.display_map.specs.Changes.{are_ranges, batch, is_operation, splices_of};
+ghost use Rattle.display_map.specs.Changes.{are_ranges, batch, is_operation};
 ghost use Rattle.display_map.specs.Splicing.{did_events, is_range, spliced_text, spliced_wraps};
 
 use crate::buffer::Buffer;
-use crate::change::{Change, Op, Splice};
+use crate::change::{Op, Splice};
 use crate::cleaning;
 use crate::event::Event;
 use crate::journal::Journal;
 use crate::wrap::Wrap;
 use cell_units::NoMemory;
 use std::alloc::Global;
-use std::slice;
-
-/// The splices of a change. One replacement means an edit of it alone.
-pub(crate) fn splices(change: &Change) -> &[Splice]
-    ensures { result.now ≡ splices_of change.now }
-{
-    match change {
-        Change::Edit(splices) => splices.as_slice(),
-        Change::One(Op::Replace(splice)) => slice::from_ref(splice),
-    }
-}
 
 /// Whether a splice is an operation: it doesn't replace nothing by nothing.
 fn is_operation(splice: &Splice) -> bool

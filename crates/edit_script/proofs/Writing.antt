@@ -18,7 +18,8 @@ use Rattle.serde_json.specs.Written.{outline, items_outline, compact_text, items
 use Rattle.serde_json.proofs.Numbers.{number_of-decimal}
 use Rattle.serde_json.proofs.Texts.{print-outline}
 use Rattle.display_map.specs.declared.change.Splice.{Splice}
-use Rattle.edit_script.specs.Commands.{Command, Edit, Rows, greatest_number, splices_of_items, command_of_key, command_of}
+use Rattle.display_map.specs.Changes.{Edit, One}
+use Rattle.edit_script.specs.Commands.{Command, Apply, Rows, greatest_number, splices_of_items, command_of_key, command_of}
 use Rattle.edit_script.specs.Laws.{splice_data, splices_data, keyed, written, IsWritableSplice, IsWritable}
 use Rattle.edit_script.proofs.Lines.{command_of-read}
 
@@ -122,9 +123,10 @@ command_of-keyed key values command k u found is =
     sym (command_of-read (compact_text (keyed key values)) (keyed key values) (IsUtf8-keyed key values k u) found) ∙ is
 
 pub command_of-written : (command : Command) → IsWritable command → command_of (written command) ≡ Some command
-command_of-written (Edit ss) h =
-    command_of-keyed (codes "edit") (splices_data ss) (Edit ss) (IsUtf8-are_ascii (codes "edit") refl) (IsUtf8-splices false ss h)
-    (read-keyed (codes "edit") (splices_data ss) (numbers-splices ss h) (of_items-splices ss h) (depth-splices ss)) (ap (option_map Edit) (splices-splices ss h))
+command_of-written (Apply (Edit ss)) h =
+    command_of-keyed (codes "edit") (splices_data ss) (Apply (Edit ss)) (IsUtf8-are_ascii (codes "edit") refl) (IsUtf8-splices false ss h)
+    (read-keyed (codes "edit") (splices_data ss) (numbers-splices ss h) (of_items-splices ss h) (depth-splices ss)) (ap (option_map (λ (splices : List Splice). Apply (Edit splices))) (splices-splices ss h))
+command_of-written (Apply (One operation)) h = absurd h
 command_of-written (Rows first count) h =
     let values : Items = item (number (unsigned first)) (item (number (unsigned count)) no_items) in
     command_of-keyed (codes "rows") values (Rows first count) (IsUtf8-are_ascii (codes "rows") refl)

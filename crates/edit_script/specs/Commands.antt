@@ -5,15 +5,16 @@ use Rattle.serde_json.specs.Data.{Data, Items, no_items, item, Members, no_membe
 use Rattle.serde_json.specs.Find.{as_number, as_u64, as_str, as_array, as_object}
 use Rattle.serde_json.specs.Read.{read}
 use Rattle.display_map.specs.declared.change.Splice.{Splice}
-use Rattle.display_map.specs.Changes.{splices_of}
+use Rattle.display_map.specs.Changes.{ChangeParts, parts_of}
+use Rattle.display_map.specs.Changes as changes
 use Rattle.edit_script.specs.declared.asked.Query.{Query}
 use Rattle.edit_script.specs.declared.asked.Asked.{Asked}
 use Rattle.edit_script.specs.declared.asked.Query.TheVariants as queries
 use Rattle.edit_script.specs.declared.asked.Asked.TheVariants as asked
 
--- a batch of replacements, or the question for the rows from a first one on, up to a count
+-- a change, or the question for the rows from a first one on, up to a count
 pub data Command : Type 0 where
-  Edit : List Splice → Command
+  Apply : ChangeParts → Command
   Rows : (first count : ℕ) → Command
 
 abbrev pub query_meaning : Query → Command
@@ -21,7 +22,7 @@ query_meaning (queries.Rows first count) = Rows first count
 
 -- the command that a value of the program stands for
 abbrev pub meaning : Asked → Command
-meaning (asked.Change change) = Edit (splices_of change)
+meaning (asked.Change change) = Apply (parts_of change)
 meaning (asked.Query query) = query_meaning query
 
 abbrev pub greatest_number : ℕ
@@ -54,7 +55,7 @@ rows_of_items _ = None
 -- the command of a key and its value
 abbrev pub command_of_key : List ℕ → Data → Option Command
 command_of_key key value =
-    if bytes_eq key (codes "edit") then option_map Edit (option_and_then splices_of_items (as_array value))
+    if bytes_eq key (codes "edit") then option_map (λ splices. Apply (changes.Edit splices)) (option_and_then splices_of_items (as_array value))
     else if bytes_eq key (codes "rows") then option_and_then rows_of_items (as_array value)
     else None
 

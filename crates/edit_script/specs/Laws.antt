@@ -5,7 +5,8 @@ use Rattle.std.specs.Str.{IsUtf8}
 use Rattle.serde_json.specs.Data.{Data, unsigned, number, string, array, object, Items, no_items, item, no_members, member}
 use Rattle.serde_json.specs.Written.{compact_text}
 use Rattle.display_map.specs.declared.change.Splice.{Splice}
-use Rattle.edit_script.specs.Commands.{Command, Edit, Rows, greatest_number}
+use Rattle.display_map.specs.Changes.{Edit, One}
+use Rattle.edit_script.specs.Commands.{Command, Apply, Rows, greatest_number}
 
 -- {key: value}
 abbrev pub keyed : List ℕ → Items → Data
@@ -19,7 +20,8 @@ splices_data [] = no_items
 splices_data (s ∷ ss) = item (splice_data s) (splices_data ss)
 
 abbrev pub command_data : Command → Data
-command_data (Edit splices) = keyed (codes "edit") (splices_data splices)
+command_data (Apply (Edit splices)) = keyed (codes "edit") (splices_data splices)
+command_data (Apply (One operation)) = keyed (codes "edit") no_items
 command_data (Rows first count) = keyed (codes "rows") (item (number (unsigned first)) (item (number (unsigned count)) no_items))
 
 -- the line of a command, as compact JSON
@@ -29,7 +31,8 @@ written command = compact_text (command_data command)
 abbrev pub IsWritableSplice : Splice → Type 0
 IsWritableSplice s = (s.start ≤ greatest_number) × (s.end ≤ greatest_number) × IsUtf8 s.text
 
--- the numbers of the command are none over the greatest, and its texts are UTF-8
+-- the numbers of the command are none over the greatest, and its texts are UTF-8. Of changes only edits are commands so far
 abbrev pub IsWritable : Command → Type 0
-IsWritable (Edit splices) = All IsWritableSplice splices
+IsWritable (Apply (Edit splices)) = All IsWritableSplice splices
+IsWritable (Apply (One operation)) = ⊥
 IsWritable (Rows first count) = (first ≤ greatest_number) × (count ≤ greatest_number)

@@ -6,8 +6,8 @@ use Rattle.cell_units.specs.declared.fault.Refusal.TheVariants.{NotCommand, TooL
 use Rattle.cell_units.specs.declared.fault.Fault.{Fault}
 use Rattle.cell_units.specs.declared.fault.Fault.TheVariants as faults
 use Rattle.cell_units.specs.Record.{Record}
-use Rattle.display_map.specs.Changes.{edit_refusal}
-use Rattle.edit_script.specs.Commands.{Command, Edit, Rows, command_of}
+use Rattle.display_map.specs.Changes.{refusal_of}
+use Rattle.edit_script.specs.Commands.{Command, Apply, Rows, command_of}
 
 -- the greatest length of a line, in bytes
 abbrev pub line_limit : ℕ
@@ -31,7 +31,7 @@ refused_or command (Some refusal) = Refused refusal
 
 -- a command is judged on the record; a question for rows is never refused
 abbrev pub command_verdict : Record → Command → Verdict
-command_verdict r (Edit splices) = refused_or (Edit splices) (edit_refusal r splices)
+command_verdict r (Apply parts) = refused_or (Apply parts) (refusal_of r parts)
 command_verdict r (Rows first count) = Accepted (Rows first count)
 
 abbrev pub form_verdict : Record → Option Command → Verdict

@@ -6,7 +6,8 @@ ghost use Rattle.cell_units.specs.declared.fault.Refusal.{Refusal};
 ghost use Rattle.cell_units.specs.declared.fault.Refusal.TheVariants.{NotCommand, BadRange};
 ghost use Rattle.cell_units.specs.Record.{Record, opened};
 ghost use Rattle.plain_rows.specs.Rows.{head_kind, more_kind, block_kind};
-ghost use Rattle.edit_script.specs.Commands.{Command, Edit, Rows, command_of};
+ghost use Rattle.display_map.specs.Changes.{Edit};
+ghost use Rattle.edit_script.specs.Commands.{Command, Apply, Rows, command_of};
 ghost use Rattle.edit_script.specs.Verdict.{Accepted, Refused, IsLineRefused, command_verdict, is_blank, line_limit, verdict};
 ghost use Rattle.edit_script.specs.Laws.{IsWritable, written};
 ghost use Rattle.edit_script.specs.Printed.{refusal_text, row_lines};
@@ -28,9 +29,9 @@ pub fn written_law()
 pub fn worked_commands()
     ensures rows { command_of (codes "{\"rows\":[0,9]}") ≡ Some (Rows 0 9) }
     ensures spaced { command_of (codes " { \"rows\" : [ 2 , 4 ] } \r") ≡ Some (Rows 2 4) }
-    ensures edit { command_of (codes "{\"edit\":[[1,2,\"XY\"]]}") ≡ Some (Edit (record { start = 1; end = 2; text = codes "XY" } ∷ [])) }
-    ensures batch { command_of (codes "{\"edit\":[[0,1,\"\"],[3,3,\"\\n\"]]}") ≡ Some (Edit (record { start = 0; end = 1; text = [] } ∷ record { start = 3; end = 3; text = 10 ∷ [] } ∷ [])) }
-    ensures no_operation { command_of (codes "{\"edit\":[]}") ≡ Some (Edit []) }
+    ensures edit { command_of (codes "{\"edit\":[[1,2,\"XY\"]]}") ≡ Some (Apply (Edit (record { start = 1; end = 2; text = codes "XY" } ∷ []))) }
+    ensures batch { command_of (codes "{\"edit\":[[0,1,\"\"],[3,3,\"\\n\"]]}") ≡ Some (Apply (Edit (record { start = 0; end = 1; text = [] } ∷ record { start = 3; end = 3; text = 10 ∷ [] } ∷ []))) }
+    ensures no_operation { command_of (codes "{\"edit\":[]}") ≡ Some (Apply (Edit [])) }
     ensures greatest { command_of (codes "{\"rows\":[4294967296,4294967295]}") ≡ Some (Rows 4294967295 4294967295) }
     ensures last_stands { command_of (codes "{\"rows\":[7,7],\"rows\":[0,1]}") ≡ Some (Rows 0 1) }
     ensures no_key { command_of (codes "{}") ≡ None }
@@ -55,7 +56,7 @@ pub fn worked_commands()
 /// What lines are on a text of three bytes. It does nothing.
 pub fn worked_verdicts()
     ensures blank { (is_blank [] ≡ true) × (is_blank (codes " \t\r") ≡ true) × (is_blank (codes " x") ≡ false) }
-    ensures accepted { verdict (opened (codes "abc")) (codes "{\"edit\":[[1,3,\"\"]]}") ≡ Accepted (Edit (record { start = 1; end = 3; text = [] } ∷ [])) }
+    ensures accepted { verdict (opened (codes "abc")) (codes "{\"edit\":[[1,3,\"\"]]}") ≡ Accepted (Apply (Edit (record { start = 1; end = 3; text = [] } ∷ []))) }
     ensures past_the_end { verdict (opened (codes "abc")) (codes "{\"edit\":[[1,4,\"\"]]}") ≡ Refused BadRange }
     ensures backwards { verdict (opened (codes "abc")) (codes "{\"edit\":[[2,1,\"\"]]}") ≡ Refused BadRange }
     ensures out_of_order { verdict (opened (codes "abc")) (codes "{\"edit\":[[1,2,\"\"],[0,1,\"\"]]}") ≡ Refused BadRange }

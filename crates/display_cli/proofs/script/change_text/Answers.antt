@@ -1,7 +1,7 @@
 -- The line is recorded, and then its change is done or its refusal is written.
 use Rattle.std.proofs.Common.{◌≡◌, ◌≤◌, [], ◌∷◌, arith, Option, ap, subst, sym, length}
 use Rattle.cell_units.specs.declared.fault.Refusal.{Refusal}
-use Rattle.display_map.specs.Changes.{splices_of}
+use Rattle.display_map.specs.Changes.{entries_in, parts_of}
 use Rattle.edit_script.specs.Commands.{command_of}
 use Rattle.edit_script.specs.Printed.{refusal_text}
 use Rattle.display_cli.specs.declared.stop.Stop.{Stop}
@@ -12,7 +12,7 @@ use Rattle.display_cli.proofs.script.change_text.Goals as goal
 
 pub returns-in_err-note-clause-handled : goal.returns-in_err-note-clause-handled
 returns-in_err-note-clause-handled g c course left refused line going command is =
-    let asked : asked_by (command_of line) ≡ length (splices_of c.args.change.now) = ap asked_by command in
+    let asked : asked_by (command_of line) ≡ entries_in (parts_of c.args.change.now) = ap asked_by command in
     let few : c.entries.result ≤ asked_by (command_of line) = omega (arith, c.entries.ensures.entries) in
     handled-err course left refused (g.K.Sink.faults c.args.out.now) (g.K.Sink.faults c.args.out.now) (g.K.Sink.taken c.args.out.now) c.note.new.display
     c.from_residual.result c.in_err-note.field-0.0 c.from_residual.ensures.1

@@ -3,7 +3,7 @@ use Rattle.std.proofs.Common.{◌≡◌, ◌+◌, ◌≤◌, ◌++◌, ℕ, List
 use Rattle.std.specs.Prelude.{slice_get}
 use Rattle.std.proofs.lemmas.List.{take_all}
 use Rattle.cell_units.specs.Text.{line_feed}
-use Rattle.display_map.specs.declared.event.Event.{Event}
+use Rattle.display_map.specs.Events.{Event}
 use Rattle.display_map.specs.Replay.{present_of}
 use Rattle.edit_script.specs.Commands.{query_meaning}
 use Rattle.edit_script.specs.Printed.{query_lines}

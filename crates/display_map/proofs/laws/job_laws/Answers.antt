@@ -1,7 +1,7 @@
 use Rattle.std.proofs.Common.{◌≡◌, ℕ, ◌||◌, ◌∷◌, [], ◌++◌, List, Bool, false, refl, sym, ap, ◌∙◌, append_assoc}
 use Rattle.std.specs.List.{list_any}
 use Rattle.std.proofs.lemmas.List.Folds.{list_any-append}
-use Rattle.display_map.specs.declared.event.Event.{Event}
+use Rattle.display_map.specs.Events.{Event}
 use Rattle.display_map.specs.Replay.{History, present_of}
 use Rattle.plain_rows.specs.Rows.{line_elements}
 use Rattle.display_map.specs.Sending.{is_did, is_landing, sending}

@@ -1,4 +1,4 @@
-use Rattle.display_map.proofs.FittingBatches.{fitting_change}
+use Rattle.display_map.proofs.FittingBatches.{fitting_edit}
 use Rattle.display_map.proofs.LawfulReplays.{IsLawfulState-replayed}
 use Rattle.display_map.proofs.laws.replay_laws.Goals as goal
 
@@ -6,4 +6,4 @@ pub returns-clause-lawful : goal.returns-clause-lawful
 returns-clause-lawful c = IsLawfulState-replayed
 
 pub returns-clause-accepted : goal.returns-clause-accepted
-returns-clause-accepted c = fitting_change
+returns-clause-accepted c = fitting_edit

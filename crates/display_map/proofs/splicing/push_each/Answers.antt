@@ -1,9 +1,8 @@
 use Rattle.std.proofs.Common.{◌≡◌, ◌∷◌, [], ◌++◌, List, length, take, drop, refl, sym, ap, ◌∙◌, arith}
 use Rattle.std.proofs.lemmas.List.{take_at}
-use Rattle.display_map.specs.declared.change.Op.TheVariants.{Replace}
+use Rattle.display_map.specs.Changes.{replacement}
 use Rattle.display_map.specs.declared.change.Splice.{Splice}
-use Rattle.display_map.specs.declared.event.Event.{Event}
-use Rattle.display_map.specs.declared.event.Event.TheVariants.{Did}
+use Rattle.display_map.specs.Events.{Event, Did}
 use Rattle.display_map.specs.Splicing.{did_events}
 use Rattle.display_map.proofs.DidEvents.{did-none, did-passed, did-pushed, room_for_one}
 use Rattle.display_map.proofs.splicing.push_each.Goals as goal
@@ -28,7 +27,7 @@ push-requires c =
 pub loop-i-preserved-in_ok-push : goal.loop-i-preserved-in_ok-push
 loop-i-preserved-in_ok-push c =
     did-pushed c.args.journal.now c.loop-i.journal c.push.new.self c.args.splices.now c.loop-i.i c.index-splices-i.result (omega arith) (omega arith) c.index-splices-i.is (sym c.is_operation.ensures ∙ c.if-is_operation.true) c.loop-i.invariant
-    (c.in_ok-push.ensures.appended ∙ ap (λ (s : Splice). c.loop-i.journal ++ Did (Replace s) ∷ []) c.in_ok-copy.ensures)
+    (c.in_ok-push.ensures.appended ∙ ap (λ (s : Splice). c.loop-i.journal ++ Did (replacement s) ∷ []) c.in_ok-copy.ensures)
 
 pub returns-in_err-push-clause-begins : goal.returns-in_err-push-clause-begins
 returns-in_err-push-clause-begins c =

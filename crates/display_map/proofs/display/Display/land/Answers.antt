@@ -8,8 +8,7 @@ use Rattle.cell_line.specs.declared.lines.Run.{Run}
 use Rattle.cell_units.specs.BufferLines.{buffer_lines}
 use Rattle.cell_units.proofs.BufferLines.{length-buffer_lines}
 use Rattle.wrap_workers.specs.Jobs.{IsLawful, JobParts, places_of, wraps_of}
-use Rattle.display_map.specs.declared.event.Event.{Event}
-use Rattle.display_map.specs.declared.event.Event.TheVariants.{Landed}
+use Rattle.display_map.specs.Events.{Event, Landed}
 use Rattle.display_map.specs.declared.wrap.Wrap.{Wrap}
 use Rattle.display_map.specs.Kept.{KeepsHistory, landed_wraps, over_run, text_elements}
 use Rattle.display_map.specs.Replay.{History, present_of, appended}

@@ -1,6 +1,6 @@
 use Rattle.std.proofs.Common.{sym, subst, List}
 use Rattle.std.specs.Arc.{arc_value}
-use Rattle.display_map.specs.declared.event.Event.{Event}
+use Rattle.display_map.specs.Events.{Event}
 use Rattle.display_map.specs.Kept.{KeepsHistory}
 use Rattle.display_map.proofs.KeptHistories.{kept-line}
 use Rattle.display_map.proofs.display.Display.note_line.Goals as goal

@@ -1,7 +1,6 @@
 use Rattle.std.proofs.Common.{◌≡◌, ◌+◌, ap, sym, ◌∙◌, subst, arith, List, [], ◌∷◌, ◌++◌}
 use Rattle.std.specs.Arc.{arc_value}
-use Rattle.display_map.specs.declared.event.Event.{Event}
-use Rattle.display_map.specs.declared.event.Event.TheVariants.{Published}
+use Rattle.display_map.specs.Events.{Event, Published}
 use Rattle.display_map.specs.Kept.{KeepsHistory}
 use Rattle.display_map.specs.Replay.{History, versions_of, ends}
 use Rattle.display_map.proofs.KeptHistories.{kept-published, versions-more, ends-published}

@@ -7,8 +7,7 @@ use Rattle.cell_units.specs.BufferLines.{buffer_lines}
 use Rattle.cell_units.proofs.BufferLines.{line_count-is}
 use Rattle.cell_line.specs.declared.element.Element.{Element}
 use Rattle.wrap_workers.specs.Jobs.{JobParts, IsLawful}
-use Rattle.display_map.specs.declared.event.Event.{Event}
-use Rattle.display_map.specs.declared.event.Event.TheVariants.{Sent}
+use Rattle.display_map.specs.Events.{Event, Sent}
 use Rattle.display_map.specs.declared.wrap.Wrap.{Wrap}
 use Rattle.display_map.specs.Kept.{IsNextRun, KeepsHistory, first_waiting_in, text_elements}
 use Rattle.display_map.specs.Replay.{History, state_of, present_of, appended, next_run}

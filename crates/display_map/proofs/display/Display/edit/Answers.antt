@@ -3,7 +3,7 @@ use Rattle.std.specs.Arc.{arc_value}
 use Rattle.std.specs.String.{string_bytes}
 use Rattle.cell_units.specs.declared.fault.Refusal.TheVariants.{TooLong}
 use Rattle.cell_units.specs.Record.{line_count}
-use Rattle.display_map.specs.declared.event.Event.{Event}
+use Rattle.display_map.specs.Events.{Event}
 use Rattle.display_map.specs.declared.wrap.Wrap.{Wrap}
 use Rattle.display_map.specs.Changes.{are_ranges, edit_refusal, text_limit}
 use Rattle.display_map.specs.Kept.{KeepsHistory}
@@ -11,21 +11,20 @@ use Rattle.display_map.specs.Replay.{History, present_of, appended}
 use Rattle.display_map.specs.Splicing.{did_events, fresh_wrap, spliced_text, spliced_wraps}
 use Rattle.display_map.proofs.KeptBatches.{kept-batch, not_refused, too_long}
 use Rattle.display_map.proofs.WrappedRows.{lines_kept}
-use Rattle.display_map.proofs.display.Display.apply.Goals as goal
+use Rattle.display_map.proofs.display.Display.edit.Goals as goal
 
 pub returns-then-len-gt-TEXT_LIMIT-clause-refused : goal.returns-then-len-gt-TEXT_LIMIT-clause-refused
 returns-then-len-gt-TEXT_LIMIT-clause-refused c =
     let d = c.self.inside in
     let h : History = record { opening = arc_value d.opening; events = d.journal } in
     let text = arc_value d.text in
-    let splices = c.splices-splices.result.now in
+    let splices = c.args.splices.now in
     let ok : are_ranges text 0 splices ≡ true =
     ap (λ (t : List ℕ). are_ranges t 0 splices) (sym (c.as_str.ensures.text ∙ c.deref.ensures)) ∙ sym c.if-not-are_ranges.ensures in
     let is : string_bytes c.in_ok-text.text ≡ spliced_text text 0 splices =
     c.in_ok-text.ensures ∙ ap (λ (t : List ℕ). spliced_text t 0 splices) (c.as_str-2.ensures.text ∙ c.deref-2.ensures) in
     let long : text_limit < length (spliced_text text 0 splices) = omega (arith, ap length is, c.len.ensures, c.if-len-gt-TEXT_LIMIT.true) in
-    ap (edit_refusal (present_of c.args.self.now)) (sym c.splices-splices.ensures)
-    ∙ subst (λ (h : History). edit_refusal (present_of h) splices ≡ Some TooLong) c.self.view_is
+    subst (λ (h : History). edit_refusal (present_of h) splices ≡ Some TooLong) c.self.view_is
     (too_long h splices text d.tab d.width (arc_value d.wraps).items d.versions d.jobs d.first c.self.invariant ok long)
 
 pub spliced_wraps-requires : goal.spliced_wraps-requires
@@ -45,7 +44,7 @@ invariant_of-self-2 c =
     let h : History = record { opening = arc_value d.opening; events = d.journal } in
     let text = arc_value d.text in
     let wraps = (arc_value d.wraps).items in
-    let splices = c.splices-splices.result.now in
+    let splices = c.args.splices.now in
     let ok : are_ranges text 0 splices ≡ true =
     ap (λ (t : List ℕ). are_ranges t 0 splices) (sym (c.as_str.ensures.text ∙ c.deref.ensures)) ∙ sym c.if-not-are_ranges.ensures in
     let is : string_bytes c.in_ok-text.text ≡ spliced_text text 0 splices =
@@ -68,12 +67,11 @@ returns-clause-accepted c =
     let d = c.self.inside in
     let h : History = record { opening = arc_value d.opening; events = d.journal } in
     let text = arc_value d.text in
-    let splices = c.splices-splices.result.now in
+    let splices = c.args.splices.now in
     let ok : are_ranges text 0 splices ≡ true =
     ap (λ (t : List ℕ). are_ranges t 0 splices) (sym (c.as_str.ensures.text ∙ c.deref.ensures)) ∙ sym c.if-not-are_ranges.ensures in
     let is : string_bytes c.in_ok-text.text ≡ spliced_text text 0 splices =
     c.in_ok-text.ensures ∙ ap (λ (t : List ℕ). spliced_text t 0 splices) (c.as_str-2.ensures.text ∙ c.deref-2.ensures) in
     let short : length (spliced_text text 0 splices) ≤ text_limit = omega (arith, ap length is, c.len.ensures, c.if-len-gt-TEXT_LIMIT.false) in
-    ap (edit_refusal (present_of c.args.self.now)) (sym c.splices-splices.ensures)
-    ∙ subst (λ (h : History). edit_refusal (present_of h) splices ≡ None) c.self.view_is
+    subst (λ (h : History). edit_refusal (present_of h) splices ≡ None) c.self.view_is
     (not_refused h splices text d.tab d.width (arc_value d.wraps).items d.versions d.jobs d.first c.self.invariant ok short)

@@ -1,0 +1,26 @@
+-- What happens to a display, as a list of events tells it.
+use Rattle.std.specs.Prelude.{ℕ, Bool, List, map}
+use Rattle.cell_units.specs.Operation.{Operation}
+use Rattle.display_map.specs.Changes.{operation_of}
+use Rattle.display_map.specs.declared.event.Event as declared
+use Rattle.display_map.specs.declared.event.Event.TheVariants as events
+
+-- a script line was answered, refused or is about to be done; an operation was done; a job was sent with the display lines
+-- from the first one on; its wraps were taken; a version was published
+pub data Event : Type 0 where
+  Line : (number : ℕ) → Event
+  Did : (operation : Operation) → Event
+  Sent : (job first count : ℕ) → Event
+  Landed : (job : ℕ) → Event
+  Published : (last : Bool) → Event
+
+-- the event that a value of the program tells of
+abbrev pub event_of : declared.Event → Event
+event_of (events.Line number) = Line number
+event_of (events.Did op) = Did (operation_of op)
+event_of (events.Sent job first count) = Sent job first count
+event_of (events.Landed job) = Landed job
+event_of (events.Published last) = Published last
+
+abbrev pub events_of : List declared.Event → List Event
+events_of events = map event_of events
