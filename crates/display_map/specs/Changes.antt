@@ -4,6 +4,7 @@ use Rattle.std.specs.List.{list_any}
 use Rattle.cell_units.specs.declared.fault.Refusal.{Refusal}
 use Rattle.cell_units.specs.declared.fault.Refusal.TheVariants.{BadNumber, BadRange, BadText, IdInUse, TooLong, UnknownId}
 use Rattle.cell_units.specs.declared.place.Bias.{Bias}
+use Rattle.cell_units.specs.declared.limits.TheConstants.{BLOCK_LINES_LIMIT, BLOCK_LINE_LIMIT, ENTRY_LIMIT, INLAY_LIMIT, LEAST_WIDTH, TAB_LIMIT, TEXT_LIMIT, WIDTH_LIMIT}
 use Rattle.cell_units.specs.Text.{carriage_return, is_boundary, is_feed}
 use Rattle.cell_units.specs.Record as records
 use Rattle.cell_units.specs.Record.{Record, line_count}
@@ -19,31 +20,7 @@ use Rattle.display_map.specs.declared.change.Change.TheVariants as changes
 
 -- the greatest length of a text, in bytes
 abbrev pub text_limit : ℕ
-text_limit = 33554432
-
--- the greatest length of an inlay's text as it is given, and of a line of a block, in bytes
-abbrev pub line_limit : ℕ
-line_limit = 1024
-
--- how many lines a block may have
-abbrev pub block_limit : ℕ
-block_limit = 256
-
--- how many inlays, folds and blocks there may be, of each kind
-abbrev pub entry_limit : ℕ
-entry_limit = 65536
-
-abbrev pub least_tab : ℕ
-least_tab = 1
-
-abbrev pub greatest_tab : ℕ
-greatest_tab = 16
-
-abbrev pub least_width : ℕ
-least_width = 2
-
-abbrev pub greatest_width : ℕ
-greatest_width = 10000
+text_limit = TEXT_LIMIT
 
 -- ---- what a change asks
 
@@ -122,9 +99,9 @@ first_of (p ∷ ps) = if p.0 then Some p.1 else first_of ps
 -- an edit: its ranges are judged first, and then the length of the text that it leaves
 abbrev pub edit_refusal : Record → List Splice → Option Refusal
 edit_refusal r splices = first_of (
-  (not (are_ranges r.text 0 splices), BadRange)
-  ∷ (nat_lt text_limit (length (operated_all (batch splices) r).text), TooLong)
-  ∷ [])
+    (not (are_ranges r.text 0 splices), BadRange)
+    ∷ (nat_lt text_limit (length (operated_all (batch splices) r).text), TooLong)
+    ∷ [])
 
 abbrev pub has_inlay : ℕ → Record → Bool
 has_inlay id r = list_any (λ i. i.id == id) r.inlays
@@ -137,15 +114,15 @@ has_block id r = list_any (λ b. b.id == id) r.blocks
 
 -- so many of a kind are there that none may be added
 abbrev pub is_full : {X : Type 0} → List X → Bool
-is_full entries = nat_le entry_limit (length entries)
+is_full entries = nat_le ENTRY_LIMIT (length entries)
 
 abbrev pub inlay_refusal : Record → records.Inlay → Option Refusal
 inlay_refusal r i = first_of (
-  (has_inlay i.id r, IdInUse)
-  ∷ (not (is_boundary r.text i.offset), BadRange)
-  ∷ (length i.text == 0, BadText)
-  ∷ (nat_lt line_limit (length i.text) || is_full r.inlays, TooLong)
-  ∷ [])
+    (has_inlay i.id r, IdInUse)
+    ∷ (not (is_boundary r.text i.offset), BadRange)
+    ∷ (length i.text == 0, BadText)
+    ∷ (nat_lt INLAY_LIMIT (length i.text) || is_full r.inlays, TooLong)
+    ∷ [])
 
 -- the fold is of a range between boundaries that isn't empty
 abbrev pub is_fold_range : List ℕ → records.Fold → Bool
@@ -153,10 +130,10 @@ is_fold_range text f = nat_lt f.start f.end && is_boundary text f.start && is_bo
 
 abbrev pub fold_refusal : Record → records.Fold → Option Refusal
 fold_refusal r f = first_of (
-  (has_fold f.id r, IdInUse)
-  ∷ (not (is_fold_range r.text f), BadRange)
-  ∷ (is_full r.folds, TooLong)
-  ∷ [])
+    (has_fold f.id r, IdInUse)
+    ∷ (not (is_fold_range r.text f), BadRange)
+    ∷ (is_full r.folds, TooLong)
+    ∷ [])
 
 abbrev pub is_line_end : ℕ → Bool
 is_line_end b = is_feed b || (b == carriage_return)
@@ -164,21 +141,21 @@ is_line_end b = is_feed b || (b == carriage_return)
 -- the lines of a block: at least one, at most so many, and none with a line end
 abbrev pub are_block_lines : List (List ℕ) → Bool
 are_block_lines lines =
-    nat_lt 0 (length lines) && nat_le (length lines) block_limit && not (list_any (list_any is_line_end) lines)
+    nat_lt 0 (length lines) && nat_le (length lines) BLOCK_LINES_LIMIT && not (list_any (list_any is_line_end) lines)
 
 abbrev pub block_refusal : Record → (row id : ℕ) → List (List ℕ) → Option Refusal
 block_refusal r row id lines = first_of (
-  (has_block id r, IdInUse)
-  ∷ (nat_le (line_count r.text) row, BadRange)
-  ∷ (not (are_block_lines lines), BadText)
-  ∷ (list_any (λ line. nat_lt line_limit (length line)) lines || is_full r.blocks, TooLong)
-  ∷ [])
+    (has_block id r, IdInUse)
+    ∷ (nat_le (line_count r.text) row, BadRange)
+    ∷ (not (are_block_lines lines), BadText)
+    ∷ (list_any (λ line. nat_lt BLOCK_LINE_LIMIT (length line)) lines || is_full r.blocks, TooLong)
+    ∷ [])
 
 abbrev pub is_tab_size : ℕ → Bool
-is_tab_size size = nat_le least_tab size && nat_le size greatest_tab
+is_tab_size size = nat_le 1 size && nat_le size TAB_LIMIT
 
 abbrev pub is_width : ℕ → Bool
-is_width cells = (cells == 0) || (nat_le least_width cells && nat_le cells greatest_width)
+is_width cells = (cells == 0) || (nat_le LEAST_WIDTH cells && nat_le cells WIDTH_LIMIT)
 
 abbrev pub operation_refusal : Record → Operation → Option Refusal
 operation_refusal r (operations.Replace start end text) = edit_refusal r (splice_of start end text ∷ [])

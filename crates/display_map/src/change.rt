@@ -27,11 +27,19 @@ pub enum Op {
         text: Text,
     },
     /// Takes the inlay of this id away.
-    Uninlay { id: u32 },
+    Uninlay {
+        id: u32,
+    },
     /// Hides the bytes from `start` to `end` behind a placeholder.
-    Fold { id: u32, start: u32, end: u32 },
+    Fold {
+        id: u32,
+        start: u32,
+        end: u32,
+    },
     /// Takes the fold of this id away.
-    Unfold { id: u32 },
+    Unfold {
+        id: u32,
+    },
     /// Puts 1 to 256 lines of at most 1,024 bytes above or below a row of the text.
     Block {
         id: u32,
@@ -40,11 +48,17 @@ pub enum Op {
         lines: Vec<Text>,
     },
     /// Takes the block of this id away.
-    Unblock { id: u32 },
+    Unblock {
+        id: u32,
+    },
     /// Sets the tab size, 1 to 16 cells.
-    Tab { size: u32 },
+    Tab {
+        size: u32,
+    },
     /// Sets the width at which lines are wrapped, 2 to 10,000 cells, or 0 for off.
-    Width { cells: u32 },
+    Width {
+        cells: u32,
+    },
 }
 
 /// What a command asks of a display: a batch of replacements, whose ranges are those of the text before all of them,
