@@ -10,3 +10,4 @@ pub mod Quiet
 pub mod Seam
 pub mod Bare
 pub mod Marks
+pub mod RowTexts

@@ -5,3 +5,4 @@ pub mod Laws
 pub mod Worked
 pub mod Simple
 pub mod Bare
+pub mod RowTexts

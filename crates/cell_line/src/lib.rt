@@ -11,12 +11,14 @@ pub mod element;
 pub mod laws;
 pub mod lines;
 mod mark;
+pub mod texts;
 pub mod wrapping;
 
 pub use element::{Element, elements};
 pub use laws::line_laws;
 pub use lines::{Lines, Run};
-pub use wrapping::{Cuts, cuts, indent, wrap};
+pub use texts::row_texts_of_pieces;
+pub use wrapping::{Cuts, cuts, cuts_of_pieces, indent};
 
 #[cfg(test)]
 mod tests;

@@ -1,13 +1,14 @@
 //! Lines of elements, and runs of them.
-ghost use Rattle.std.specs.Prelude.{◌≡◌, ◌<◌, ◌^◌, List, length, IfOk};
+ghost use Rattle.std.specs.Prelude.{◌≡◌, ◌<◌, ◌^◌, List, length, drop, take, IfOk};
 ghost use Rattle.cell_line.specs.declared.element.Element.{Element};
 ghost use Rattle.cell_line.specs.Elements.{total_cells};
 ghost use Rattle.cell_line.specs.Lines.{line_at, LineFitsU32};
+ghost use Rattle.cell_line.specs.RowTexts.{row_texts_of};
 ghost use Rattle.cell_line.specs.Wrapping.{IsWidth, cuts_of};
 
 use crate::element::Element;
 use crate::wrapping::{Cuts, cuts};
-use cell_units::NoMemory;
+use cell_units::{NoMemory, Text};
 use std::alloc::Global;
 
 /// Consecutive lines: `count` of them, from the line `first` on.
@@ -18,7 +19,7 @@ pub struct Run {
 }
 
 /// A list of lines, each a list of elements.
-pub trait Lines: Drop {
+pub trait Lines: Drop + Send + Sync {
     // The elements of each line in order.
     ghost elements_by_line: { Self → List (List Element) };
 
@@ -41,6 +42,27 @@ pub trait Lines: Drop {
         let elements = self.elements(alloc, line)?;
         let cuts = cuts(alloc, elements.as_slice(), width)?;
         Ok(cuts)
+    }
+
+    /// The texts of the line's rows at a width, from the row `first` on, as many as there are up to `count`. The cuts are
+    /// those of the line at that width. A tab is as many spaces as it has cells, and each row after the line's first
+    /// begins with the indent's spaces.
+    fn row_texts(
+        &self,
+        alloc: Global,
+        line: u32,
+        width: u32,
+        cuts: &Cuts,
+        first: u32,
+        count: u32,
+    ) -> Result<Vec<Text>, NoMemory>
+        requires within { line < length (elements_by_line self.now) }
+        requires fits { LineFitsU32 (line_at (elements_by_line self.now) line) }
+        requires lawful { IsWidth width }
+        requires cut { cuts.now.items ≡ cuts_of (line_at (elements_by_line self.now) line) width }
+        ensures { IfOk result (λ texts. texts.items ≡ take count (drop first (row_texts_of (line_at (elements_by_line self.now) line) width))) }
+    {
+        Err(NoMemory)
     }
 
     /// An equal list of lines, which no later change of this one reaches. It takes no memory: `NoMemory` is one holder too many.

@@ -1,6 +1,7 @@
 //! Where a line is cut, so that its rows fit a width.
 ghost use Rattle.std.specs.Prelude.{◌≡◌, ℕ, ◌+◌, ◌-◌, ◌*◌, ◌/◌, ◌^◌, ◌<◌, ◌≤◌, length, IfOk};
 ghost use Rattle.cell_line.specs.Elements.{elements_of, total_cells};
+ghost use Rattle.cell_line.specs.Lines.{LineFitsU32};
 ghost use Rattle.cell_line.specs.Wrapping.{IsWidth, is_blank, lead_of, indent_of, cuts_of};
 
 use crate::cutting::mark_cuts;
@@ -66,11 +67,15 @@ pub fn cuts(alloc: Global, elements: &[Element], width: u32) -> Result<Cuts, NoM
     Ok(cuts)
 }
 
-/// The cuts of the line that the pieces make, at a tab size of 1 to 16 cells and a width. It keeps no texts of elements.
-pub fn wrap(alloc: Global, pieces: &[Piece], tab: u32, width: u32) -> Result<Cuts, NoMemory>
+/// The cuts of the line that the pieces make at a tab size of 1 to 16 cells and a width, without the texts of its elements.
+pub fn cuts_of_pieces(
+    alloc: Global,
+    pieces: &[Piece],
+    tab: u32,
+    width: u32,
+) -> Result<Cuts, NoMemory>
     requires size { (1 ≤ tab) × (tab ≤ 16) }
-    requires fits { total_cells (elements_of pieces.now tab) < 2 ^ 32 }
-    requires count { length (elements_of pieces.now tab) < 2 ^ 32 }
+    requires fits { LineFitsU32 (elements_of pieces.now tab) }
     requires lawful { IsWidth width }
     ensures { IfOk result (λ cuts. cuts.items ≡ cuts_of (elements_of pieces.now tab) width) }
 {

@@ -2,7 +2,7 @@
 use Rattle.std.proofs.Common.{◌≡◌, ℕ, ◌+◌, ◌-◌, ◌<◌, ◌≤◌, ◌&&◌, ◌==◌, nat_lt, filter, cond, zero, suc, true, false, Bool, List, [], ◌∷◌, ◌++◌, length, map, drop, get_or, slice_range, Some, refl, sym, ap, ◌∙◌, arith}
 use Rattle.std.specs.Prelude.{slice_get}
 use Rattle.std.specs.List.{flat_map, sum_by, zip, enumerate_from}
-use Rattle.std.proofs.lemmas.List.{append-nil, length-map, drop_more, take_rest}
+use Rattle.std.proofs.lemmas.List.{append-nil, get_or-map, length-map, drop_more}
 use Rattle.std.proofs.lemmas.List.Concat.{length-flat_map}
 use Rattle.std.proofs.lemmas.List.Sums.{sum_by-cons}
 use Rattle.cell_units.specs.declared.place.Side.{Side}
@@ -10,10 +10,12 @@ use Rattle.cell_units.specs.declared.place.Side.TheVariants.{Above, Below}
 use Rattle.cell_units.specs.Record.{Mark, Record}
 use Rattle.cell_units.specs.BufferLines.{buffer_lines}
 use Rattle.cell_line.specs.declared.element.Element.{Element}
+use Rattle.cell_line.specs.RowTexts.{later_text, parted, row_texts_of, shown_elements, texts_of_parts}
 use Rattle.cell_line.specs.Wrapping.{cuts_of, indent_of, next_start_of, row_starts}
 use Rattle.cell_units.proofs.BufferLines.{bytes_of_lines}
 use Rattle.cell_line.proofs.Rows.{cuts-off, cuts-on}
-use Rattle.plain_rows.specs.Rows.{Row, is_on, line_of_block, block_rows, blocks_at, line_rows, rows_by_line, rows_of, text_rows, head_row, more_row, parted, head_and_more}
+use Rattle.cell_line.proofs.RowTexts.{get_or-parted, length-parted, length-row_texts_of}
+use Rattle.plain_rows.specs.Rows.{Row, is_on, line_of_block, block_rows, blocks_at, line_rows, rows_by_line, rows_of, text_rows, head_and_more, head_row, more_row}
 use Rattle.display_map.specs.Kept.{text_elements}
 use Rattle.display_map.proofs.PlainLines.{IsPlain, line_elements-plain}
 use Rattle.display_map.proofs.RowBounds.{length_of_text}
@@ -54,25 +56,13 @@ pub length-cuts_of : (es : List Element) (width : ℕ) → length (cuts_of es wi
 length-cuts_of es zero = omega (arith, ap length (cuts-off es))
 length-cuts_of es (suc width) = omega (arith, ap length (cuts-on es (suc width) (omega arith)), length-row_starts es (suc width - indent_of es (suc width)) (length es) (next_start_of es (suc width) 0))
 
-length-parted : (es : List Element) (start : ℕ) (cuts : List ℕ) → length (parted es start cuts) ≡ length cuts + 1
-length-parted es start [] = refl
-length-parted es start (cut ∷ cuts) = omega (arith, length-parted es cut cuts)
-
-length-parts : (indent : ℕ) (parts : List (List Element)) → length (head_and_more indent parts) ≡ length parts
-length-parts indent [] = refl
-length-parts indent (part ∷ parts) = ap suc (length-map parts (more_row indent))
+length-head_and_more : (texts : List (List ℕ)) → length (head_and_more texts) ≡ length texts
+length-head_and_more [] = refl
+length-head_and_more (text ∷ texts) = ap suc (length-map texts more_row)
 
 -- a line has one more row than it has cuts
 pub length-text_rows : (es : List Element) (width : ℕ) → length (text_rows es width) ≡ length (cuts_of es width) + 1
-length-text_rows es width =
-    length-parts (indent_of es width) (parted es 0 (cuts_of es width)) ∙ length-parted es 0 (cuts_of es width)
-
-get_or-parted : (es : List Element) (start : ℕ) (cuts : List ℕ) (row : ℕ) → row ≤ length cuts →
-    get_or (parted es start cuts) row [] ≡ slice_range es (get_or (start ∷ cuts) row 0) (get_or cuts row (length es))
-get_or-parted es start [] zero le = sym (take_rest es start)
-get_or-parted es start [] (suc row) le = absurd (omega arith)
-get_or-parted es start (cut ∷ cuts) zero le = refl
-get_or-parted es start (cut ∷ cuts) (suc row) le = get_or-parted es cut cuts row (omega arith)
+length-text_rows es width = length-head_and_more (row_texts_of es width) ∙ length-row_texts_of es width
 
 -- the elements of a row: from the cut before it, or the line's start, to the cut behind it, or the line's end
 abbrev pub row_elements : List Element → ℕ → ℕ → List Element
@@ -88,28 +78,31 @@ slice_get-map f [] i d lt = absurd (omega arith)
 slice_get-map f (x ∷ xs) zero d lt = refl
 slice_get-map f (x ∷ xs) (suc i) d lt = slice_get-map f xs i d (omega arith)
 
-head_part : (indent : ℕ) (parts : List (List Element)) → 0 < length parts → slice_get (head_and_more indent parts) 0 ≡ Some (head_row (get_or parts 0 []))
+head_part : (indent : ℕ) (parts : List (List Element)) → 0 < length parts →
+    slice_get (head_and_more (texts_of_parts indent parts)) 0 ≡ Some (head_row (shown_elements (get_or parts 0 [])))
 head_part indent [] lt = absurd (omega arith)
 head_part indent (part ∷ parts) lt = refl
 
 more_part : (indent : ℕ) (parts : List (List Element)) (row : ℕ) → suc row < length parts →
-    slice_get (head_and_more indent parts) (suc row) ≡ Some (more_row indent (get_or parts (suc row) []))
+    slice_get (head_and_more (texts_of_parts indent parts)) (suc row) ≡ Some (more_row (later_text indent (get_or parts (suc row) [])))
 more_part indent [] row lt = absurd (omega arith)
-more_part indent (part ∷ parts) row lt = slice_get-map (more_row indent) parts row [] (omega arith)
+more_part indent (part ∷ parts) row lt =
+    slice_get-map more_row (map (later_text indent) parts) row [] (omega (arith, length-map parts (later_text indent)))
+    ∙ ap (λ (text : List ℕ). Some (more_row text)) (get_or-map (later_text indent) parts row [] [] (omega arith))
 
 -- the first row of a line
-pub first_text_row : (es : List Element) (width : ℕ) → slice_get (text_rows es width) 0 ≡ Some (head_row (row_elements es width 0))
+pub first_text_row : (es : List Element) (width : ℕ) → slice_get (text_rows es width) 0 ≡ Some (head_row (shown_elements (row_elements es width 0)))
 first_text_row es width =
     head_part (indent_of es width) (parted es 0 (cuts_of es width)) (omega (arith, length-parted es 0 (cuts_of es width)))
-    ∙ ap (λ (part : List Element). Some (head_row part)) (get_or-parted es 0 (cuts_of es width) 0 (omega arith))
+    ∙ ap (λ (part : List Element). Some (head_row (shown_elements part))) (get_or-parted es 0 (cuts_of es width) 0 (omega arith))
 
 -- the rows after it
 pub later_text_row : (es : List Element) (width row : ℕ) → 0 < row → row ≤ length (cuts_of es width) →
-    slice_get (text_rows es width) row ≡ Some (more_row (indent_of es width) (row_elements es width row))
+    slice_get (text_rows es width) row ≡ Some (more_row (later_text (indent_of es width) (row_elements es width row)))
 later_text_row es width zero some le = absurd (omega arith)
 later_text_row es width (suc row) some le =
     more_part (indent_of es width) (parted es 0 (cuts_of es width)) row (omega (arith, length-parted es 0 (cuts_of es width)))
-    ∙ ap (λ (part : List Element). Some (more_row (indent_of es width) part)) (get_or-parted es 0 (cuts_of es width) (suc row) le)
+    ∙ ap (λ (part : List Element). Some (more_row (later_text (indent_of es width) part))) (get_or-parted es 0 (cuts_of es width) (suc row) le)
 
 -- ---- the rows of all lines
 

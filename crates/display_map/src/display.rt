@@ -14,7 +14,7 @@ use crate::buffer::Buffer;
 use crate::change::{Change, Op, Splice};
 use crate::event::Event;
 use crate::fault::TextFault;
-use crate::held::Held;
+use crate::held::{self, Held};
 use crate::journal::Journal;
 use crate::version::Version;
 use crate::view::View;
@@ -183,7 +183,7 @@ impl Display {
         }
         self.jobs += 1;
         self.first = first + count;
-        Ok(Some(Job::new(number, lines, run, self.width)))
+        Ok(Some(held::job(number, lines, run, self.width)))
     }
 
     /// Takes the wraps of a job that this display sent. Where the job's width is the present one, its lines stand wrapped

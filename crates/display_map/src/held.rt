@@ -2,14 +2,16 @@
 ghost use Rattle.std.specs.Prelude.{◌≡◌, length, slice_index_or, [], IfOk};
 ghost use Rattle.cell_line.specs.Lines.{line_at, LineFitsU32};
 ghost use Rattle.cell_line.specs.Wrapping.{IsWidth, cuts_of};
+ghost use Rattle.wrap_workers.specs.Jobs.{IsLawful};
 
 use crate::buffer::Buffer;
 use crate::paint;
-use cell_line::{Cuts, Element, Lines};
+use cell_line::{Cuts, Element, Lines, Run};
 use cell_units::NoMemory;
 use std::alloc::Global;
 use std::marker::Model;
 use std::sync::Arc;
+use wrap_workers::Job;
 
 /// The lines of a display of one moment, shared. They are seen as lists of elements.
 #[derive(Drop)]
@@ -55,4 +57,12 @@ impl Lines for Held {
             tab: self.tab,
         })
     }
+}
+
+/// A job on these lines.
+pub(crate) fn job(number: u64, lines: Held, run: Run, width: u32) -> Job<Held>
+    requires { IsLawful lines run width }
+    ensures { result ≡ record { number = number; lines = lines; run = run; width = width } }
+{
+    Job::new(number, lines, run, width)
 }

@@ -1,14 +1,15 @@
 //! The elements of a line, and the text of its rows.
 ghost use Rattle.std.specs.Prelude.{◌≡◌, ℕ, ◌*◌, ◌+◌, ◌^◌, ◌<◌, ◌≤◌, ◌∷◌, ◌++◌, length, replicate, slice_get, slice_index, slice_index_or, slice_range, string_bytes, IfOk, OnOk};
 ghost use Rattle.cell_line.specs.Elements.{total_cells};
+ghost use Rattle.cell_line.specs.RowTexts.{later_text, shown_element, shown_elements};
 ghost use Rattle.cell_line.specs.Wrapping.{IsWidth, cuts_of};
-ghost use Rattle.plain_rows.specs.Rows.{head_row, more_row, shown_element, shown_elements, text_rows};
+ghost use Rattle.plain_rows.specs.Rows.{head_row, more_row, text_rows};
 ghost use Rattle.display_map.specs.Changes.{text_limit};
 ghost use Rattle.display_map.specs.Kept.{text_elements};
 ghost use Rattle.display_map.specs.Shown.{shown_row};
 
 use crate::shown::{Kind, Shown};
-use cell_line::{Cuts, Element, cuts, elements, indent, wrap};
+use cell_line::{Cuts, Element, cuts, cuts_of_pieces, elements, indent};
 use cell_units::{NoMemory, Piece, PieceKind, Text};
 use std::alloc::Global;
 
@@ -40,7 +41,7 @@ pub(crate) fn text_cuts(alloc: Global, line: &str, tab: u32, width: u32) -> Resu
         start: 0,
         end: line.len() as u32,
     };
-    let cuts = wrap(alloc, &[piece], tab, width)?;
+    let cuts = cuts_of_pieces(alloc, &[piece], tab, width)?;
     Ok(cuts)
 }
 
@@ -108,7 +109,7 @@ fn row_elements<'a>(elements: &'a [Element], cuts: &[u32], row: usize) -> &'a [E
 
 /// The row with which a line begins.
 fn head_row(alloc: Global, part: &[Element]) -> Result<Shown, NoMemory>
-    ensures { IfOk result (λ shown. shown_row (Some shown) ≡ Some (head_row part.now)) }
+    ensures { IfOk result (λ shown. shown_row (Some shown) ≡ Some (head_row (shown_elements part.now))) }
 {
     let mut text = String::new(alloc);
     push_elements(&mut text, part)?;
@@ -120,7 +121,7 @@ fn head_row(alloc: Global, part: &[Element]) -> Result<Shown, NoMemory>
 
 /// A row with which a line goes on.
 fn more_row(alloc: Global, indent: u32, part: &[Element]) -> Result<Shown, NoMemory>
-    ensures { IfOk result (λ shown. shown_row (Some shown) ≡ Some (more_row indent part.now)) }
+    ensures { IfOk result (λ shown. shown_row (Some shown) ≡ Some (more_row (later_text indent part.now))) }
 {
     let mut text = String::new(alloc);
     push_spaces(&mut text, indent)?;

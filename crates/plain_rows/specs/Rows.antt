@@ -1,5 +1,5 @@
 -- The rows of a record, from scratch: the blocks above each display line, the line's text rows, the blocks below it.
-use Rattle.std.specs.Prelude.{ℕ, ◌==◌, ◌&&◌, not, Bool, true, false, if◌then◌else◌, List, [], ◌∷◌, ◌++◌, map, filter, flat_map, drop, zip, replicate, slice_range}
+use Rattle.std.specs.Prelude.{ℕ, ◌==◌, ◌&&◌, not, Bool, true, false, if◌then◌else◌, List, [], ◌∷◌, ◌++◌, map, filter, flat_map, zip}
 use Rattle.std.specs.List.{enumerate_from}
 use Rattle.cell_units.specs.declared.place.Bias.TheVariants.{Left, Right}
 use Rattle.cell_units.specs.declared.place.Side.{Side}
@@ -10,7 +10,7 @@ use Rattle.cell_units.specs.Folded.{line_of}
 use Rattle.cell_units.specs.Pieces.{folded_lines}
 use Rattle.cell_line.specs.declared.element.Element.{Element}
 use Rattle.cell_line.specs.Elements.{elements_of}
-use Rattle.cell_line.specs.Wrapping.{cuts_of, indent_of}
+use Rattle.cell_line.specs.RowTexts.{row_texts_of}
 
 -- the letter that is printed for a row: t for a line's first text row, w for one that goes on, b for a block's
 abbrev pub head_kind : ℕ
@@ -26,33 +26,20 @@ pub record Row : Type 0 where
   pub kind : ℕ
   pub text : List ℕ
 
--- an element as it is shown: a tab is as many spaces as it has cells
-abbrev pub shown_element : Element → List ℕ
-shown_element e = if e.tab then replicate e.cells 32 else e.text
+abbrev pub head_row : List ℕ → Row
+head_row text = record { kind = head_kind; text = text }
 
-abbrev pub shown_elements : List Element → List ℕ
-shown_elements es = flat_map shown_element es
+abbrev pub more_row : List ℕ → Row
+more_row text = record { kind = more_kind; text = text }
 
--- the elements from a start on, parted at the cuts
-abbrev pub parted : List Element → ℕ → List ℕ → List (List Element)
-parted es start [] = drop start es ∷ []
-parted es start (cut ∷ cuts) = slice_range es start cut ∷ parted es cut cuts
-
-abbrev pub head_row : List Element → Row
-head_row es = record { kind = head_kind; text = shown_elements es }
-
--- a row that goes on begins with the indent's spaces
-abbrev pub more_row : ℕ → List Element → Row
-more_row indent es = record { kind = more_kind; text = replicate indent 32 ++ shown_elements es }
-
--- the first part is the head, and the others go on
-abbrev pub head_and_more : ℕ → List (List Element) → List Row
-head_and_more indent [] = []
-head_and_more indent (part ∷ parts) = head_row part ∷ map (more_row indent) parts
+-- the first text is the head's, and the others go on
+abbrev pub head_and_more : List (List ℕ) → List Row
+head_and_more [] = []
+head_and_more (text ∷ texts) = head_row text ∷ map more_row texts
 
 -- the text rows of a line that stands wrapped at the width
 abbrev pub text_rows : List Element → ℕ → List Row
-text_rows es width = head_and_more (indent_of es width) (parted es 0 (cuts_of es width))
+text_rows es width = head_and_more (row_texts_of es width)
 
 -- each line's rows with what stands above and below it
 abbrev pub with_blocks : (ℕ → List Row) → (ℕ → List Row) → List (List Row) → List (List Row)

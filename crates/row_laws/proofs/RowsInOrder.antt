@@ -10,8 +10,10 @@ use Rattle.cell_units.specs.declared.place.Side.TheVariants.{Above, Below}
 use Rattle.cell_units.specs.Cutting.{cut_lines, onto_line}
 use Rattle.cell_units.specs.Record.{Mark, Record, plain_mark}
 use Rattle.cell_line.specs.declared.element.Element.{Element}
-use Rattle.cell_line.specs.Wrapping.{cuts_of, indent_of}
-use Rattle.plain_rows.specs.Rows.{Row, blocks_at, head_and_more, line_elements, line_rows, more_row, parted, rows_by_line, text_rows, with_blocks}
+use Rattle.cell_line.specs.RowTexts.{row_texts_of}
+use Rattle.cell_line.specs.Wrapping.{cuts_of}
+use Rattle.cell_line.proofs.RowTexts.{length-row_texts_of}
+use Rattle.plain_rows.specs.Rows.{Row, blocks_at, head_and_more, line_elements, line_rows, more_row, rows_by_line, text_rows, with_blocks}
 use Rattle.plain_rows.specs.Spots.{elements_at, mark_at, rows_before}
 use Rattle.row_laws.proofs.LineSpots.{sum_by-take_rises}
 
@@ -24,16 +26,12 @@ lines-breaks {X = X} p (x ∷ xs) = omega (arith, sum_by-cons (λ y. cond (p y) 
   go false [] h = omega (arith, h)
   go false (l ∷ ls) h = omega (arith, h)
 
-length-parted : (es : List Element) (start : ℕ) (cuts : List ℕ) → length (parted es start cuts) ≡ length cuts + 1
-length-parted es start [] = refl
-length-parted es start (c ∷ cs) = omega (arith, length-parted es c cs)
-
 -- a line has one row more than cuts
 pub length-text_rows : (es : List Element) (width : ℕ) → length (text_rows es width) ≡ length (cuts_of es width) + 1
-length-text_rows es width = go (parted es 0 (cuts_of es width)) ∙ length-parted es 0 (cuts_of es width) where
-  go : (parts : List (List Element)) → length (head_and_more (indent_of es width) parts) ≡ length parts
+length-text_rows es width = go (row_texts_of es width) ∙ length-row_texts_of es width where
+  go : (texts : List (List ℕ)) → length (head_and_more texts) ≡ length texts
   go [] = refl
-  go (part ∷ parts) = let e = length-map parts (more_row (indent_of es width)) in omega (arith, e)
+  go (text ∷ texts) = let e = length-map texts more_row in omega (arith, e)
 
 abbrev rows_upto : ℕ → List (List Row) → ℕ
 rows_upto k lines = length (flat_map (λ rows. rows) (take k lines))

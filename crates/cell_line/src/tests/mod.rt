@@ -6,7 +6,7 @@ ghost use Rattle.cell_line.specs.Wrapping.{IsWidth};
 use crate::element::Element;
 use crate::laws::{line_laws, worked_rows};
 use crate::lines::Lines;
-use crate::wrapping::{Cuts, cuts, indent, wrap};
+use crate::wrapping::{Cuts, cuts, cuts_of_pieces, indent};
 use alike::{Alike, short_line};
 use cell_units::{NoMemory, Piece, PieceKind, Text};
 use std::alloc::Global;
@@ -45,7 +45,7 @@ fn wrapped(alloc: Global, text: &str, width: u32) -> Result<Cuts, NoMemory>
 {
     line_laws();
     let pieces = short_piece(alloc, text)?;
-    let cuts = wrap(alloc, pieces.as_slice(), 4, width)?;
+    let cuts = cuts_of_pieces(alloc, pieces.as_slice(), 4, width)?;
     Ok(cuts)
 }
 

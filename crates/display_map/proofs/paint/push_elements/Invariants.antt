@@ -1,6 +1,6 @@
 use Rattle.std.proofs.Common.{◌≡◌, ◌++◌, take}
 use Rattle.std.specs.String.{string_bytes}
-use Rattle.plain_rows.specs.Rows.{shown_elements}
+use Rattle.cell_line.specs.RowTexts.{shown_elements}
 use Rattle.display_map.proofs.paint.push_elements.Given as goal
 
 abbrev pub invariant-loop-element : goal.invariant-loop-element

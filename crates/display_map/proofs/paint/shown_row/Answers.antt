@@ -2,6 +2,7 @@ use Rattle.std.proofs.Common.{◌≡◌, ◌<◌, ◌≤◌, ℕ, Option, Some, 
 use Rattle.cell_line.specs.declared.element.Element.{Element}
 use Rattle.display_map.specs.Shown.{shown_row}
 use Rattle.cell_line.specs.Wrapping.{cuts_of}
+use Rattle.cell_line.specs.RowTexts.{later_text, shown_elements}
 use Rattle.plain_rows.specs.Rows.{Row, head_row, more_row, text_rows}
 use Rattle.display_map.proofs.PlainRows.{first_text_row, later_text_row, row_elements}
 use Rattle.display_map.proofs.RowBounds.{row_bounds}
@@ -28,9 +29,9 @@ returns-then-row-eq0 c =
     let es = c.args.elements.now in
     let part = part_is es c.args.width c.args.row c.as_slice.result.now c.row_elements-part.result.now (c.as_slice.ensures ∙ c.in_ok-cuts.ensures) c.row_elements-part.ensures in
     let here = c.if-row-eq0.true in
-    let is : Some (head_row c.row_elements-part.result.now) ≡ slice_get (text_rows es c.args.width) c.args.row =
-    ap (λ (p : List Element). Some (head_row p)) part
-    ∙ ap (λ (row : ℕ). Some (head_row (row_elements es c.args.width row))) here
+    let is : Some (head_row (shown_elements c.row_elements-part.result.now)) ≡ slice_get (text_rows es c.args.width) c.args.row =
+    ap (λ (p : List Element). Some (head_row (shown_elements p))) part
+    ∙ ap (λ (row : ℕ). Some (head_row (shown_elements (row_elements es c.args.width row)))) here
     ∙ sym (first_text_row es c.args.width)
     ∙ ap (slice_get (text_rows es c.args.width)) (sym here) in
     subst (λ (row : Option Row). IfOk c.head_row.result (λ shown. shown_row (Some shown) ≡ row)) is c.head_row.ensures
@@ -40,7 +41,7 @@ returns c =
     let es = c.args.elements.now in
     let part = part_is es c.args.width c.args.row c.as_slice.result.now c.row_elements-part.result.now (c.as_slice.ensures ∙ c.in_ok-cuts.ensures) c.row_elements-part.ensures in
     let later : 0 < c.args.row = omega arith in
-    let is : Some (more_row c.indent.result c.row_elements-part.result.now) ≡ slice_get (text_rows es c.args.width) c.args.row =
-    (λ i. Some (more_row (c.indent.ensures i) (part i)))
+    let is : Some (more_row (later_text c.indent.result c.row_elements-part.result.now)) ≡ slice_get (text_rows es c.args.width) c.args.row =
+    (λ i. Some (more_row (later_text (c.indent.ensures i) (part i))))
     ∙ sym (later_text_row es c.args.width c.args.row later c.requires.within) in
     subst (λ (row : Option Row). IfOk c.more_row.result (λ shown. shown_row (Some shown) ≡ row)) is c.more_row.ensures

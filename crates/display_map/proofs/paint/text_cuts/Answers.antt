@@ -9,26 +9,13 @@ use Rattle.display_map.proofs.PlainLines.{elements_of_one}
 use Rattle.display_map.proofs.RowBounds.{cells_of_text, length_of_text}
 use Rattle.display_map.proofs.paint.text_cuts.Goals as goal
 
-pub wrap-requires-clause-fits : goal.wrap-requires-clause-fits
-wrap-requires-clause-fits c =
+pub cuts_of_pieces-requires-clause-fits : goal.cuts_of_pieces-requires-clause-fits
+cuts_of_pieces-requires-clause-fits c =
     let piece : Piece = record { kind = Buffer; text = c.in_ok-from_str.field-0; start = 0; end = length c.args.line.now } in
-    omega (
-      arith,
-      ap total_cells (elements_of_one c.args.tab piece),
-      cells_of_text c.args.tab c.in_ok-from_str.field-0 c.requires.tab.1,
-      ap length c.in_ok-from_str.ensures,
-      c.requires.size,
-    )
-
-pub wrap-requires-clause-count : goal.wrap-requires-clause-count
-wrap-requires-clause-count c =
-    let piece : Piece = record { kind = Buffer; text = c.in_ok-from_str.field-0; start = 0; end = length c.args.line.now } in
-    omega (
-      arith,
-      ap length (elements_of_one c.args.tab piece),
-      length_of_text c.args.tab c.in_ok-from_str.field-0,
-      ap length c.in_ok-from_str.ensures,
-      c.requires.size,
+    let line = elements_of_one c.args.tab piece in
+    let size = ap length c.in_ok-from_str.ensures in (
+      omega (arith, ap length line, length_of_text c.args.tab c.in_ok-from_str.field-0, size, c.requires.size),
+      omega (arith, ap total_cells line, cells_of_text c.args.tab c.in_ok-from_str.field-0 c.requires.tab.1, size, c.requires.size),
     )
 
 pub returns : goal.returns

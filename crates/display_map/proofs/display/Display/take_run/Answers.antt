@@ -49,8 +49,8 @@ send-requires c =
     let run = subst (λ (ws : List Wrap). IsNextRun ws (Some c.in-Some.run')) (c.deref-2.ensures.value ∙ ap (λ w. w.items) c.deref.ensures) c.in-Some.ensures in
     (run_within (arc_value c.self.inside.wraps).items c.in-Some.run' run).2
 
-pub new-requires : goal.new-requires
-new-requires c =
+pub job-requires : goal.job-requires
+job-requires c =
     let d = c.self.inside in
     let h : History = record { opening = arc_value d.opening; events = d.journal } in
     let text = arc_value d.text in
@@ -94,4 +94,4 @@ returns-clause-taken c =
       lines_are = ap (λ (t : List ℕ). map (text_elements d.tab) (buffer_lines t)) c.in_ok-try_clone.ensures ∙ sym (lines_of (present_of h) text d.tab wraps c.self.invariant.record_is);
       event_is = ap (λ (events : List Event). record { opening = arc_value d.opening; events = events }) c.in_ok-push.ensures.appended;
     } in
-    subst (λ (h : History). IsSent h after c.new.result) c.self.view_is (subst (IsSent h after) (sym c.new.ensures) sent)
+    subst (λ (h : History). IsSent h after c.job.result) c.self.view_is (subst (IsSent h after) (sym c.job.ensures) sent)

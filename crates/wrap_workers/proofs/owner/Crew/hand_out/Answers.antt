@@ -7,7 +7,7 @@ use Rattle.wrap_workers.proofs.Weights.{free-times}
 use Rattle.wrap_workers.proofs.owner.Crew.hand_out.Goals as goal
 
 pub hire-errand-requires-clause-new : goal.hire-errand-requires-clause-new
-hire-errand-requires-clause-new g c =
+hire-errand-requires-clause-new g c = λ _ _.
     free-times _ _ (subst (λ crewed. IsFree c.args.job.number crewed.out) (sym c.self.view_is) c.requires)
 
 pub invariant_of-self : goal.invariant_of-self

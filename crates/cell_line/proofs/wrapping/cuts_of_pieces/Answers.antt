@@ -3,7 +3,7 @@ use Rattle.cell_line.specs.declared.element.Element.{Element}
 use Rattle.cell_line.specs.Elements.{elements_of}
 use Rattle.cell_line.specs.Wrapping.{cuts_of}
 use Rattle.cell_line.proofs.Bare.{cuts_of-bare}
-use Rattle.cell_line.proofs.wrapping.wrap.Goals as goal
+use Rattle.cell_line.proofs.wrapping.cuts_of_pieces.Goals as goal
 
 pub returns : goal.returns
 returns c =
