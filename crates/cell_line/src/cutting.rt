@@ -1,7 +1,8 @@
 //! Where a line of marks is cut, so that its rows fit a width.
 ghost use Rattle.std.specs.Prelude.{◌≡◌, ℕ, ◌+◌, ◌-◌, ◌*◌, ◌/◌, ◌^◌, ◌<◌, ◌≤◌, ◌↔◌, ◌&&◌, not, length, IsTrue, IfOk, true};
 ghost use Rattle.cell_line.specs.Elements.{total_cells};
-ghost use Rattle.cell_line.specs.Wrapping.{IsWidth, is_blank, may_part, lead_of, indent_of, is_opportunity, next_start_of, cuts_of};
+ghost use Rattle.cell_units.specs.Lawful.{IsWidth};
+ghost use Rattle.cell_line.specs.Wrapping.{is_blank, may_part, lead_of, indent_of, is_opportunity, next_start_of, cuts_of};
 
 use crate::mark::Mark;
 use crate::wrapping::Cuts;

@@ -4,7 +4,8 @@ ghost use Rattle.cell_line.specs.declared.element.Element.{Element};
 ghost use Rattle.cell_line.specs.Elements.{total_cells};
 ghost use Rattle.cell_line.specs.Lines.{line_at, LineFitsU32};
 ghost use Rattle.cell_line.specs.RowTexts.{row_texts_of};
-ghost use Rattle.cell_line.specs.Wrapping.{IsWidth, cuts_of};
+ghost use Rattle.cell_units.specs.Lawful.{IsWidth};
+ghost use Rattle.cell_line.specs.Wrapping.{cuts_of};
 
 use crate::element::Element;
 use crate::wrapping::{Cuts, cuts};

@@ -3,7 +3,8 @@ ghost use Rattle.std.specs.Prelude.{◌≡◌, ◌≤◌, drop, take, IfOk};
 ghost use Rattle.cell_line.specs.Elements.{elements_of};
 ghost use Rattle.cell_line.specs.Lines.{LineFitsU32};
 ghost use Rattle.cell_line.specs.RowTexts.{row_texts_of};
-ghost use Rattle.cell_line.specs.Wrapping.{IsWidth, cuts_of};
+ghost use Rattle.cell_units.specs.Lawful.{IsWidth};
+ghost use Rattle.cell_line.specs.Wrapping.{cuts_of};
 
 use crate::wrapping::Cuts;
 use cell_units::{NoMemory, Piece, Text};

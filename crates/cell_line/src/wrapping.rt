@@ -2,7 +2,8 @@
 ghost use Rattle.std.specs.Prelude.{◌≡◌, ℕ, ◌+◌, ◌-◌, ◌*◌, ◌/◌, ◌^◌, ◌<◌, ◌≤◌, length, IfOk};
 ghost use Rattle.cell_line.specs.Elements.{elements_of, total_cells};
 ghost use Rattle.cell_line.specs.Lines.{LineFitsU32};
-ghost use Rattle.cell_line.specs.Wrapping.{IsWidth, is_blank, lead_of, indent_of, cuts_of};
+ghost use Rattle.cell_units.specs.Lawful.{IsWidth};
+ghost use Rattle.cell_line.specs.Wrapping.{is_blank, lead_of, indent_of, cuts_of};
 
 use crate::cutting::mark_cuts;
 use crate::element::Element;

@@ -5,11 +5,12 @@ use Rattle.std.proofs.lemmas.Bool.{cases_order, eq-eqb, le-leb, le-ltb, lt-leb, 
 use Rattle.std.proofs.lemmas.List.{length-take-le, take_more}
 use Rattle.std.proofs.lemmas.List.Concat.{flat_map-append}
 use Rattle.std.proofs.lemmas.List.Sums.{sum_by-cons}
+use Rattle.cell_units.specs.declared.place.Bias.{Bias}
 use Rattle.cell_units.specs.declared.place.Bias.TheVariants.{Left, Right}
 use Rattle.cell_units.specs.Text.{clean}
 use Rattle.cell_units.specs.Record.{Inlay}
-use Rattle.cell_units.specs.Inlaid.{Token, Byte, InlayByte, bytes_of, inlay_bytes, inlays_at, show_each}
-use Rattle.cell_units.specs.Folded.{shown}
+use Rattle.cell_units.specs.Inlaid.{Token, Byte, InlayByte, bytes_of, inlaid_place, inlay_bytes, inlays_at, show_each}
+use Rattle.cell_units.specs.Folded.{folded_place, shown}
 use Rattle.cell_units.specs.Layers.{Source, inlay_source, place_of}
 use Rattle.cell_units.specs.Laws.{inlaid_bytes}
 use Rattle.cell_units.proofs.ShownText.{show_each-append}
@@ -115,3 +116,8 @@ module _ (text : List ℕ) (inlays : List Inlay) where
         size-inlays (λ i. eqb i.offset o) inlays,
         either (λ i. ltb i.offset o) (λ i. eqb i.offset o) (λ i. leb i.offset o) (λ i. upto-next o i.offset) inlays,
       )
+
+-- the inlaid text is the folded text without folds
+pub inlaid-unfolded : (text : List ℕ) (inlays : List Inlay) (o : ℕ) (bias : Bias) → inlaid_place text inlays o bias ≡ folded_place text inlays [] o bias
+inlaid-unfolded text inlays o Left = refl
+inlaid-unfolded text inlays o Right = refl

@@ -1,148 +1,143 @@
--- Each operation leaves a lawful record.
-use Rattle.std.proofs.Common.{◌≡◌, ℕ, ◌+◌, ◌-◌, ◌<◌, ◌≤◌, Bool, true, false, cond, eqb, ltb, not, List, [], ◌∷◌, length, map, refl, ap, subst, arith, inl, inr}
-use mathlib.Core.Logic.{◌⊎◌}
-use Rattle.std.specs.List.{All, count_by, filter}
-use Rattle.std.proofs.lemmas.Bool.{cases_Bool, eqb-true, ltb-true}
+-- The record of a text is lawful, and each operation that is allowed leaves one with lawful entries.
+use Rattle.std.proofs.Common.{ℕ, ◌+◌, ◌<◌, zero, suc, ltb, not, eqb, List, length, refl, sym, ◌∙◌, inl, inr, arith}
+use Rattle.std.specs.List.{range_with_len}
+use Rattle.std.specs.Str.{IsUtf8}
+use Rattle.std.proofs.lemmas.Bool.{ltb-true}
+use Rattle.std.proofs.lemmas.List.{length-map}
+use Rattle.std.proofs.lemmas.List.FromFn.{length-range_with_len}
+use Rattle.std.proofs.lemmas.Str.{IsUtf8-take}
 use Rattle.cell_units.specs.declared.place.Bias.{Bias}
-use Rattle.cell_units.specs.declared.place.Bias.TheVariants.{Left}
-use Rattle.cell_units.specs.Text.{clean}
+use Rattle.cell_units.specs.declared.place.Bias.TheVariants.{Left, Right}
+use Rattle.cell_units.specs.Text.{IsBoundary, IsText, clean}
 use Rattle.cell_units.specs.Anchor.{move}
-use Rattle.cell_units.specs.Sorting.{insert_by, sort_by}
-use Rattle.cell_units.specs.Record.{Inlay, Fold, Record, inlay_le, fold_le}
-use Rattle.cell_units.specs.Operation.{Operation, Replace, AddInlay, RemoveInlay, AddFold, RemoveFold, AddBlock, RemoveBlock, SetTab, SetWidth, operated, replaced_text, move_inlay, move_fold, moved_inlays, moved_folds, without_inlay, without_fold}
-use Rattle.cell_units.specs.LineCounts.{IsLawful, Fits, IsFresh}
+use Rattle.cell_units.specs.BufferLines.{line_start}
+use Rattle.cell_units.specs.Record.{Block, Fold, Inlay, Mark, Record, block_le, fold_le, inlay_le, line_count, opened, plain_mark, plain_marks}
+use Rattle.cell_units.specs.Operation.{Operation, Replace, AddInlay, RemoveInlay, AddFold, RemoveFold, AddBlock, RemoveBlock, SetTab, SetWidth, block_at_row, move_block, move_fold, move_inlay, operated, replaced_text}
+use Rattle.cell_units.specs.Lawful.{HasLawfulEntries, IsAllowed, IsBlockOf, IsFoldOf, IsInlayOf, IsLawful, IsWidth}
+use Rattle.cell_units.proofs.BufferLines.{boundary_at_start}
+use Rattle.cell_units.proofs.Characters.{clean-utf8}
 use Rattle.cell_units.proofs.CutLists.{Every}
-use Rattle.cell_units.proofs.Moves.{Place, Below, Within, Above, place}
-use Rattle.cell_units.proofs.SortedLists.{IsSorted, IsSorted-sort, IsSorted-insert, IsSorted-filter, sort-sorted, Every-insert, Every-sort, Every-filter, Every-map, Every-passed, count-insert, count-sort, count-filter, count-map}
-use Rattle.cell_units.proofs.ShownMoved.{inlay_total, inlay_trans}
-use Rattle.cell_units.proofs.ReplacedRows.{length-replaced_text}
-use Rattle.cell_units.proofs.FoundEntries.{Every-from_All, All-from_Every}
+use Rattle.cell_units.proofs.FoundEntries.{All-from_Every}
+use Rattle.cell_units.proofs.PlainLayers.{no_entries, plain_well_formed}
+use Rattle.cell_units.proofs.Unfolded.{length-display_lines}
+use Rattle.cell_units.proofs.Entries.{entries-added, entries-kept, entries-moved, entries-moved_some}
+use Rattle.cell_units.proofs.EntryOrders.{block_total, block_trans, fold_total, fold_trans, inlay_total, inlay_trans}
+use Rattle.cell_units.proofs.MovedBoundaries.{boundary-moved, replaced-is_text}
 
--- an anchor within the text is within the new text
-pub move-bound : (p : ℕ) (bias : Bias) (a b n long : ℕ) → a ≤ b → b ≤ long → p ≤ long → move p bias a b n ≤ a + n + (long - b)
-move-bound p bias a b n long ab bl pl = go (place p bias a b n ab) where
-  go : Place p bias a b n → move p bias a b n ≤ a + n + (long - b)
-  go (Below l e) = omega arith
-  go (Within g l h1 h2) = omega arith
-  go (Above l e) = omega arith
+-- a row starts at a boundary
+pub start_boundary : (text : List ℕ) (row : ℕ) → IsUtf8 text → row < line_count text → IsBoundary text (line_start text row)
+start_boundary text row utf8 lt =
+    let at = boundary_at_start text row utf8 lt in
+    (at.0, IsUtf8-take text (line_start text row) utf8 at)
 
--- one more of an id that was not there
-one_more : {X : Type 0} (id_of : X → ℕ) (le : X → X → Bool) (x : X) (xs : List X) → count_by (λ y. eqb (id_of y) (id_of x)) xs ≡ 0 →
-    ((id : ℕ) → count_by (λ y. eqb (id_of y) id) xs ≤ 1) → (id : ℕ) → count_by (λ y. eqb (id_of y) id) (insert_by le x xs) ≤ 1
-one_more id_of le x xs fresh distinct id = go (cases_Bool (eqb (id_of x) id)) where
-  counted : count_by (λ y. eqb (id_of y) id) (insert_by le x xs) ≡ cond (eqb (id_of x) id) 1 0 + count_by (λ y. eqb (id_of y) id) xs
-  counted = count-insert le (λ y. eqb (id_of y) id) x xs
+abbrev inlay_id : Inlay → ℕ
+inlay_id i = i.id
 
-  go : (eqb (id_of x) id ≡ true) ⊎ (eqb (id_of x) id ≡ false) → count_by (λ y. eqb (id_of y) id) (insert_by le x xs) ≤ 1
-  go (inl e) =
-      let none : count_by (λ y. eqb (id_of y) id) xs ≡ 0 = subst (λ k. count_by (λ y. eqb (id_of y) k) xs ≡ 0) (eqb-true (id_of x) id e) fresh in
-      omega (arith, counted, none, ap {B = ℕ} (λ (b : Bool). cond b 1 0) e)
-  go (inr e) = omega (arith, counted, distinct id, ap {B = ℕ} (λ (b : Bool). cond b 1 0) e)
+abbrev fold_id : Fold → ℕ
+fold_id f = f.id
 
--- whether a record is lawful, its text, inlays and folds say
-pub lawful_alike : (r r' : Record) → r.text ≡ r'.text → r.inlays ≡ r'.inlays → r.folds ≡ r'.folds → IsLawful r → IsLawful r'
-lawful_alike r r' t i f is = record {
-  inlays_sorted = subst (λ (l : List Inlay). sort_by inlay_le l ≡ l) i is.inlays_sorted;
-  inlays_distinct = λ id. subst (λ (l : List Inlay). count_by (λ x. eqb x.id id) l ≤ 1) i (is.inlays_distinct id);
-  inlays_within = subst (λ (l : List Inlay). All (λ x. x.offset ≤ length r'.text) l) i (subst (λ (t : List ℕ). All (λ x. x.offset ≤ length t) r.inlays) t is.inlays_within);
-  folds_distinct = λ id. subst (λ (l : List Fold). count_by (λ x. eqb x.id id) l ≤ 1) f (is.folds_distinct id);
-  folds_within = subst (λ (l : List Fold). All (λ x. (x.start < x.end) × (x.end ≤ length r'.text)) l) f (subst (λ (t : List ℕ). All (λ x. (x.start < x.end) × (x.end ≤ length t)) r.folds) t is.folds_within);
-}
+abbrev block_id : Block → ℕ
+block_id k = k.id
 
-module _ (r : Record) (is : IsLawful r) where
-  sorted : IsSorted inlay_le r.inlays
-  sorted = subst (IsSorted inlay_le) is.inlays_sorted (IsSorted-sort inlay_le inlay_total inlay_trans r.inlays)
-
-  abbrev InText : ℕ → Inlay → Type 0
-  InText long i = i.offset ≤ long
-
-  abbrev IsWithin : ℕ → Fold → Type 0
-  IsWithin long f = (f.start < f.end) × (f.end ≤ long)
-
-  inlays : Every (InText (length r.text)) r.inlays
-  inlays = Every-from_All (InText (length r.text)) r.inlays is.inlays_within
-
-  folds : Every (IsWithin (length r.text)) r.folds
-  folds = Every-from_All (IsWithin (length r.text)) r.folds is.folds_within
-
-  module _ (a b : ℕ) (s : List ℕ) (ab : a ≤ b) (bt : b ≤ length r.text) where
+module _ (r : Record) (is : HasLawfulEntries r) where
+  module _ (a b : ℕ) (s : List ℕ) (ok : IsAllowed (Replace a b s) r) where
     abbrev n : ℕ
     n = length (clean s)
 
-    abbrev long : ℕ
-    long = length (replaced_text r.text a b (clean s))
+    abbrev new : List ℕ
+    new = replaced_text r.text a b (clean s)
 
-    long_is : long ≡ a + n + (length r.text - b)
-    long_is = length-replaced_text r.text a b (clean s) (omega arith)
+    goes : (p : ℕ) (bias : Bias) → IsBoundary r.text p → IsBoundary new (move p bias a b n)
+    goes p bias h = boundary-moved r.text a b (clean s) is.source.text.0 ok.0 ok.1 ok.2 (clean-utf8 s ok.3) p bias h
 
-    bound : (p : ℕ) (bias : Bias) → p ≤ length r.text → move p bias a b n ≤ long
-    bound p bias le = omega (arith, long_is, move-bound p bias a b n (length r.text) ab bt le)
-
-    -- those that are not empty, with the bound of their ends
-    kept : (fs : List Fold) → Every (λ f. f.end ≤ long) fs → Every (IsWithin long) (filter (λ f. ltb f.start f.end) fs)
-    kept fs ends = pairs (filter (λ f. ltb f.start f.end) fs) (Every-passed (λ f. ltb f.start f.end) fs) (Every-filter fold_le (λ f. f.end ≤ long) (λ f. ltb f.start f.end) fs ends) where
-      pairs : (gs : List Fold) → Every (λ f. ltb f.start f.end ≡ true) gs → Every (λ f. f.end ≤ long) gs → Every (IsWithin long) gs
-      pairs [] h l = tt
-      pairs (g ∷ gs) h l = ((ltb-true g.start g.end h.0, l.0), pairs gs h.1 l.1)
-
-    lawful_replaced : IsLawful (operated (Replace a b s) r)
+    lawful_replaced : HasLawfulEntries (operated (Replace a b s) r)
     lawful_replaced = record {
-      inlays_sorted = sort-sorted inlay_le (moved_inlays a b n r.inlays) (IsSorted-sort inlay_le inlay_total inlay_trans (map (move_inlay a b n) r.inlays));
-      inlays_distinct = λ id.
-          omega (
-            arith,
-            count-sort inlay_le (λ i. eqb i.id id) (map (move_inlay a b n) r.inlays),
-            count-map (move_inlay a b n) (λ i. eqb i.id id) (λ x. refl) r.inlays,
-            is.inlays_distinct id,
-          );
-      inlays_within = All-from_Every (InText long) (moved_inlays a b n r.inlays)
-          (Every-sort inlay_le (InText long) (map (move_inlay a b n) r.inlays)
-          (Every-map (move_inlay a b n) (InText (length r.text)) (InText long) (λ i le. bound i.offset i.bias le) r.inlays inlays));
-      folds_distinct = λ id.
-          omega (
-            arith,
-            count-sort fold_le (λ f. eqb f.id id) (filter (λ f. ltb f.start f.end) (map (move_fold a b n) r.folds)),
-            count-filter (λ f. ltb f.start f.end) (λ f. eqb f.id id) (map (move_fold a b n) r.folds),
-            count-map (move_fold a b n) (λ f. eqb f.id id) (λ x. refl) r.folds,
-            is.folds_distinct id,
-          );
-      folds_within = All-from_Every (IsWithin long) (moved_folds a b n r.folds)
-          (Every-sort fold_le (IsWithin long) (filter (λ f. ltb f.start f.end) (map (move_fold a b n) r.folds))
-          (kept (map (move_fold a b n) r.folds)
-          (Every-map (move_fold a b n) (IsWithin (length r.text)) (λ f. f.end ≤ long) (λ f h. bound f.end Left h.1) r.folds folds)));
+      source = record {
+        text = replaced-is_text r.text a b s is.source.text ok.0 ok.1 ok.2 ok.3;
+        inlays = entries-moved inlay_le inlay_total inlay_trans inlay_id (IsInlayOf r.text) (IsInlayOf new) (move_inlay a b n) (λ i. refl)
+            (λ i h. record { boundary = goes i.offset i.bias h.boundary; utf8 = h.utf8; some = h.some; short = h.short }) r.inlays is.source.inlays;
+        folds = entries-moved_some fold_le fold_total fold_trans fold_id (IsFoldOf r.text) (λ f. IsBoundary new f.start × IsBoundary new f.end) (IsFoldOf new) (move_fold a b n) (λ f. ltb f.start f.end) (λ f. refl)
+            (λ f h. (goes f.start Right h.start, goes f.end Left h.end))
+            (λ f h k. record { start = h.0; end = h.1; some = ltb-true f.start f.end k }) r.folds is.source.folds;
+      };
+      blocks = entries-moved block_le block_total block_trans block_id (IsBlockOf r.text) (IsBlockOf new) (move_block a b n) (λ k. refl)
+          (λ k h. record { boundary = goes k.offset Right h.boundary; lines = h.lines }) r.blocks is.blocks;
+      tab = is.tab;
+      width = is.width;
     }
 
-  pub IsLawful-operated : (operation : Operation) → Fits operation r → IsFresh operation r → IsLawful (operated operation r)
-  IsLawful-operated (Replace a b s) fits fresh = lawful_replaced a b s fits.0 fits.1
-  IsLawful-operated (AddInlay i) fits fresh = record {
-    inlays_sorted = sort-sorted inlay_le (insert_by inlay_le i r.inlays) (IsSorted-insert inlay_le inlay_total inlay_trans i r.inlays sorted);
-    inlays_distinct = one_more (λ (j : Inlay). j.id) inlay_le i r.inlays fresh is.inlays_distinct;
-    inlays_within = All-from_Every (InText (length r.text)) (insert_by inlay_le i r.inlays) (Every-insert inlay_le (InText (length r.text)) i r.inlays fits inlays);
-    folds_distinct = is.folds_distinct;
-    folds_within = is.folds_within;
+  pub lawful-operated : (operation : Operation) → IsAllowed operation r → HasLawfulEntries (operated operation r)
+  lawful-operated (Replace a b s) ok = lawful_replaced a b s ok
+  lawful-operated (AddInlay i) ok = record {
+    source = record {
+      text = is.source.text;
+      inlays = entries-added inlay_le inlay_total inlay_trans inlay_id (IsInlayOf r.text) i r.inlays is.source.inlays ok.0 ok.1;
+      folds = is.source.folds;
+    };
+    blocks = is.blocks;
+    tab = is.tab;
+    width = is.width;
   }
-  IsLawful-operated (RemoveInlay id) fits fresh = record {
-    inlays_sorted = sort-sorted inlay_le (without_inlay id r.inlays) (IsSorted-filter inlay_le (λ i. not (eqb i.id id)) r.inlays sorted);
-    inlays_distinct = λ k. omega (arith, count-filter (λ i. not (eqb i.id id)) (λ i. eqb i.id k) r.inlays, is.inlays_distinct k);
-    inlays_within = All-from_Every (InText (length r.text)) (without_inlay id r.inlays) (Every-filter inlay_le (InText (length r.text)) (λ i. not (eqb i.id id)) r.inlays inlays);
-    folds_distinct = is.folds_distinct;
-    folds_within = is.folds_within;
+  lawful-operated (RemoveInlay id) ok = record {
+    source = record {
+      text = is.source.text;
+      inlays = entries-kept inlay_le inlay_total inlay_trans inlay_id (IsInlayOf r.text) (λ i. not (eqb i.id id)) r.inlays is.source.inlays;
+      folds = is.source.folds;
+    };
+    blocks = is.blocks;
+    tab = is.tab;
+    width = is.width;
   }
-  IsLawful-operated (AddFold f) fits fresh = record {
-    inlays_sorted = is.inlays_sorted;
-    inlays_distinct = is.inlays_distinct;
-    inlays_within = is.inlays_within;
-    folds_distinct = one_more (λ (g : Fold). g.id) fold_le f r.folds fresh is.folds_distinct;
-    folds_within = All-from_Every (IsWithin (length r.text)) (insert_by fold_le f r.folds) (Every-insert fold_le (IsWithin (length r.text)) f r.folds fits folds);
+  lawful-operated (AddFold f) ok = record {
+    source = record {
+      text = is.source.text;
+      inlays = is.source.inlays;
+      folds = entries-added fold_le fold_total fold_trans fold_id (IsFoldOf r.text) f r.folds is.source.folds ok.0 ok.1;
+    };
+    blocks = is.blocks;
+    tab = is.tab;
+    width = is.width;
   }
-  IsLawful-operated (RemoveFold id) fits fresh = record {
-    inlays_sorted = is.inlays_sorted;
-    inlays_distinct = is.inlays_distinct;
-    inlays_within = is.inlays_within;
-    folds_distinct = λ k. omega (arith, count-filter (λ f. not (eqb f.id id)) (λ f. eqb f.id k) r.folds, is.folds_distinct k);
-    folds_within = All-from_Every (IsWithin (length r.text)) (without_fold id r.folds) (Every-filter fold_le (IsWithin (length r.text)) (λ f. not (eqb f.id id)) r.folds folds);
+  lawful-operated (RemoveFold id) ok = record {
+    source = record {
+      text = is.source.text;
+      inlays = is.source.inlays;
+      folds = entries-kept fold_le fold_total fold_trans fold_id (IsFoldOf r.text) (λ f. not (eqb f.id id)) r.folds is.source.folds;
+    };
+    blocks = is.blocks;
+    tab = is.tab;
+    width = is.width;
   }
-  IsLawful-operated (AddBlock row id side lines) fits fresh = lawful_alike r (operated (AddBlock row id side lines) r) refl refl refl is
-  IsLawful-operated (RemoveBlock id) fits fresh = lawful_alike r (operated (RemoveBlock id) r) refl refl refl is
-  IsLawful-operated (SetTab tab) fits fresh = lawful_alike r (operated (SetTab tab) r) refl refl refl is
-  IsLawful-operated (SetWidth width) fits fresh = lawful_alike r (operated (SetWidth width) r) refl refl refl is
+  lawful-operated (AddBlock row id side lines) ok = record {
+    source = is.source;
+    blocks = entries-added block_le block_total block_trans block_id (IsBlockOf r.text) (block_at_row r.text row id side lines) r.blocks is.blocks
+        (record { boundary = start_boundary r.text row is.source.text.0 ok.0; lines = ok.1 }) ok.2;
+    tab = is.tab;
+    width = is.width;
+  }
+  lawful-operated (RemoveBlock id) ok = record {
+    source = is.source;
+    blocks = entries-kept block_le block_total block_trans block_id (IsBlockOf r.text) (λ k. not (eqb k.id id)) r.blocks is.blocks;
+    tab = is.tab;
+    width = is.width;
+  }
+  lawful-operated (SetTab tab) ok = record { source = is.source; blocks = is.blocks; tab = ok; width = is.width }
+  lawful-operated (SetWidth width) ok = record { source = is.source; blocks = is.blocks; tab = is.tab; width = ok }
+
+-- ---- a text that was just opened
+
+pub plain_widths : (stamp n : ℕ) → Every (λ (m : Mark). IsWidth m.width) (plain_marks stamp n)
+plain_widths stamp zero = tt
+plain_widths stamp (suc n) = (inl refl, plain_widths (stamp + 1) n)
+
+pub opened-lawful : (text : List ℕ) → IsText text → IsLawful (opened text)
+opened-lawful text is = record {
+  entries = record {
+    source = plain_well_formed text is;
+    blocks = no_entries block_le block_id (IsBlockOf text);
+    tab = (omega arith, omega arith);
+    width = inr (omega arith, omega arith);
+  };
+  marked = length-map (range_with_len 0 (line_count text)) plain_mark ∙ length-range_with_len 0 (line_count text) ∙ sym (length-display_lines text);
+  widths = All-from_Every (λ (m : Mark). IsWidth m.width) (plain_marks 0 (line_count text)) (plain_widths 0 (line_count text));
+}

@@ -1,6 +1,12 @@
 pub mod Joined
 pub mod TextLaws
+pub mod Points
+pub mod PieceRuns
 pub mod Returns
+pub mod Characters
+pub mod MovedBoundaries
+pub mod EntryOrders
+pub mod Entries
 pub mod BufferLines
 pub mod Unfolded
 pub mod ReplacedRows

@@ -12,12 +12,14 @@ use Rattle.cell_units.specs.Inlaid.{Token, is_break}
 use Rattle.cell_units.specs.Folded.{covered, display_lines, folded, token_row}
 use Rattle.cell_units.specs.Pieces.{pieces_of}
 use Rattle.cell_units.specs.Touched.{Rows, row_range, touched, touched_before, untouched, rows_of, rows_of_inlay, rows_of_fold}
-use Rattle.cell_units.specs.LineCounts.{IsLawful, Fits, KeepsCount, lines_of, operated_piece}
+use Rattle.cell_units.specs.Lawful.{HasLawfulEntries, IsAllowed, IsFoldOf, IsInlayOf}
+use Rattle.cell_units.specs.LineCounts.{KeepsCount, lines_of, operated_piece}
 use Rattle.cell_units.proofs.CutLists.{Every, Every-mono, Every-append, Every-left, Every-right}
 use Rattle.cell_units.proofs.CutRuns.{Counted}
 use Rattle.cell_units.proofs.Moves.{move_token}
 use Rattle.cell_units.proofs.SortedLists.{IsSorted, IsSorted-sort}
-use Rattle.cell_units.proofs.ShownMoved.{inlay_total, inlay_trans}
+use Rattle.cell_units.proofs.EntryOrders.{inlay_total, inlay_trans}
+use Rattle.cell_units.proofs.Entries.{sorted_entries}
 use Rattle.cell_units.proofs.CountedLines.{replaced}
 use Rattle.cell_units.proofs.AddedLines.{inlay_added, inlay_removed, fold_added, fold_removed}
 use Rattle.cell_units.proofs.ReplacedRows.{row_of_start-replaced}
@@ -47,9 +49,11 @@ with_inlays r inlays = record r { inlays = inlays }
 abbrev with_folds : Record → List Fold → Record
 with_folds r folds = record r { folds = folds }
 
-module _ (r : Record) (is : IsLawful r) where
+module _ (r : Record) (is : HasLawfulEntries r) where
   within : Every (λ f. (f.start < f.end) × (f.end ≤ length r.text)) r.folds
-  within = Every-from_All (λ f. (f.start < f.end) × (f.end ≤ length r.text)) r.folds is.folds_within
+  within =
+      Every-mono (IsFoldOf r.text) (λ f. (f.start < f.end) × (f.end ≤ length r.text)) r.folds (λ f h. (h.some, h.end.0))
+      (Every-from_All (IsFoldOf r.text) r.folds is.source.folds.each)
 
   free : covered r.folds (length r.text) ≡ false
   free = free_at_end (length r.text) r.folds (Every-mono (λ f. (f.start < f.end) × (f.end ≤ length r.text)) (λ f. f.end ≤ length r.text) r.folds (λ f h. h.1) within)
@@ -58,7 +62,7 @@ module _ (r : Record) (is : IsLawful r) where
   end_is_free = free
 
   sorted : IsSorted inlay_le r.inlays
-  sorted = subst (IsSorted inlay_le) is.inlays_sorted (IsSorted-sort inlay_le inlay_total inlay_trans r.inlays)
+  sorted = sorted_entries inlay_le inlay_total inlay_trans (λ (i : Inlay). i.id) r.inlays is.source.inlays.in_order
 
   replacement : (a b : ℕ) (s : List ℕ) → a ≤ b → b ≤ length r.text →
       KeepsLines (touched (Replace a b s) r) (operated_piece (Replace a b s)) r (operated (Replace a b s) r)
@@ -82,11 +86,16 @@ module _ (r : Record) (is : IsLawful r) where
       lines_kept (λ t. t) (λ p. p) pieces_stay r (with_inlays r new) row row row
       (both (CountedInlays row) (sym p.old_is) (sym p.new_is) (inlay_added p.before i p.behind r.folds r.text le free))
 
+  inlays_within : Every (λ i. i.offset ≤ length r.text) r.inlays
+  inlays_within =
+      Every-mono (IsInlayOf r.text) (λ i. i.offset ≤ length r.text) r.inlays (λ i h. h.boundary.0)
+      (Every-from_All (IsInlayOf r.text) r.inlays is.source.inlays.each)
+
   inlay_out : (i : Inlay) (rest : List Inlay) → PutIn i rest r.inlays →
       KeepsLines (rows_of r.text i.offset i.offset) (λ p. p) r (with_inlays r rest)
   inlay_out i rest p =
       let row = row_of r.text i.offset in
-      let all = subst (Every (λ i. i.offset ≤ length r.text)) p.new_is (Every-from_All (λ i. i.offset ≤ length r.text) r.inlays is.inlays_within) in
+      let all = subst (Every (λ i. i.offset ≤ length r.text)) p.new_is inlays_within in
       let own = Every-right (λ i. i.offset ≤ length r.text) p.before (i ∷ p.behind) all in
       lines_kept (λ t. t) (λ p. p) pieces_stay r (with_inlays r rest) row row row
       (both (CountedInlays row) (sym p.new_is) (sym p.old_is) (inlay_removed p.before i p.behind r.folds r.text own.0 free))
@@ -96,7 +105,7 @@ module _ (r : Record) (is : IsLawful r) where
     go : (o : Option Inlay) → find (λ i. i.id == id) r.inlays ≡ o → KeepsLines (rows_of_inlay r.text o) (λ p. p) r (operated (RemoveInlay id) r)
     go None e =
         lines_kept-none r (operated (RemoveInlay id) r) (ap (λ (l : List Inlay). display_lines r.text l r.folds) (none_found (λ i. i.id == id) r.inlays e))
-    go (Some i) e = inlay_out i (without_inlay id r.inlays) (found (λ i. i.id == id) r.inlays i (is.inlays_distinct id) e)
+    go (Some i) e = inlay_out i (without_inlay id r.inlays) (found (λ i. i.id == id) r.inlays i (is.source.inlays.distinct id) e)
 
   -- ---- a fold more or less
 
@@ -130,21 +139,21 @@ module _ (r : Record) (is : IsLawful r) where
     go : (o : Option Fold) → find (λ f. f.id == id) r.folds ≡ o → KeepsLines (rows_of_fold r.text o) (λ p. p) r (operated (RemoveFold id) r)
     go None e =
         lines_kept-none r (operated (RemoveFold id) r) (ap (λ (l : List Fold). display_lines r.text r.inlays l) (none_found (λ f. f.id == id) r.folds e))
-    go (Some f) e = fold_out f (without_fold id r.folds) (found (λ f. f.id == id) r.folds f (is.folds_distinct id) e)
+    go (Some f) e = fold_out f (without_fold id r.folds) (found (λ f. f.id == id) r.folds f (is.source.folds.distinct id) e)
 
-  -- each operation that fits keeps the lines that it doesn't touch
-  pub keeps_lines : (operation : Operation) → Fits operation r → KeepsLines (touched operation r) (operated_piece operation) r (operated operation r)
-  keeps_lines (Replace a b s) fits = replacement a b s fits.0 fits.1
-  keeps_lines (AddInlay i) fits = inlay_in i (operated (AddInlay i) r).inlays fits (put_in inlay_le i r.inlays)
-  keeps_lines (RemoveInlay id) fits = inlay_off id
-  keeps_lines (AddFold f) fits = fold_in f (operated (AddFold f) r).folds fits.0 fits.1 (put_in fold_le f r.folds)
-  keeps_lines (RemoveFold id) fits = fold_off id
-  keeps_lines (AddBlock row id side lines) fits = lines_kept-none r (operated (AddBlock row id side lines) r) refl
-  keeps_lines (RemoveBlock id) fits = lines_kept-none r (operated (RemoveBlock id) r) refl
-  keeps_lines (SetTab tab) fits = lines_kept-each r (operated (SetTab tab) r) refl
-  keeps_lines (SetWidth width) fits = lines_kept-none r (operated (SetWidth width) r) refl
+  -- each operation that is allowed keeps the lines that it doesn't touch
+  pub keeps_lines : (operation : Operation) → IsAllowed operation r → KeepsLines (touched operation r) (operated_piece operation) r (operated operation r)
+  keeps_lines (Replace a b s) ok = replacement a b s ok.2 ok.1.0
+  keeps_lines (AddInlay i) ok = inlay_in i (operated (AddInlay i) r).inlays ok.0.boundary.0 (put_in inlay_le i r.inlays)
+  keeps_lines (RemoveInlay id) ok = inlay_off id
+  keeps_lines (AddFold f) ok = fold_in f (operated (AddFold f) r).folds ok.0.some ok.0.end.0 (put_in fold_le f r.folds)
+  keeps_lines (RemoveFold id) ok = fold_off id
+  keeps_lines (AddBlock row id side lines) ok = lines_kept-none r (operated (AddBlock row id side lines) r) refl
+  keeps_lines (RemoveBlock id) ok = lines_kept-none r (operated (RemoveBlock id) r) refl
+  keeps_lines (SetTab tab) ok = lines_kept-each r (operated (SetTab tab) r) refl
+  keeps_lines (SetWidth width) ok = lines_kept-none r (operated (SetWidth width) r) refl
 
-  pub keeps_count : (operation : Operation) → Fits operation r → KeepsCount (touched operation r) r (operated operation r)
-  keeps_count operation fits =
-      let k = keeps_lines operation fits in
+  pub keeps_count : (operation : Operation) → IsAllowed operation r → KeepsCount (touched operation r) r (operated operation r)
+  keeps_count operation ok =
+      let k = keeps_lines operation ok in
       ap length k.pieces ∙ length-map (untouched (touched_before (touched operation r) r) (lines_of r)) (map (operated_piece operation))

@@ -138,7 +138,7 @@ line_of_offset text o le = (from (row_of text o) refl, to) where
 
 -- ---- it is well formed
 
-no_entries : {X : Type 0} (le : X → X → Bool) (id_of : X → ℕ) (Fits : X → Type 0) → AreEntries le id_of Fits []
+pub no_entries : {X : Type 0} (le : X → X → Bool) (id_of : X → ℕ) (Fits : X → Type 0) → AreEntries le id_of Fits []
 no_entries le id_of Fits = record { in_order = refl; distinct = λ id. omega arith; few = omega arith; each = All-nil Fits }
 
 pub plain_well_formed : (text : List ℕ) → IsText text → IsWellFormed (plain_source text)

@@ -10,19 +10,13 @@ use Rattle.cell_units.specs.Cutting.{onto_line, cut_lines}
 use Rattle.cell_units.specs.Record.{Inlay, Fold, line_count}
 use Rattle.cell_units.specs.Inlaid.{Token, Byte, InlayByte, Hidden, bytes_of, is_break, inlays_at, show_each}
 use Rattle.cell_units.specs.Folded.{inside, covered, shown, folded, folded_before, folded_to, display_lines}
-use Rattle.cell_units.specs.Pieces.{pieces_of, piece_before, is_one_piece}
+use Rattle.cell_units.specs.Pieces.{before_break, pieces_of, piece_before, is_one_piece}
 use Rattle.cell_units.specs.BufferLines.{buffer_lines}
 use Rattle.cell_units.specs.Lawful.{IsWellFormed}
 use Rattle.cell_units.specs.Layers.{Source, shown_lines, shown_text}
 use Rattle.cell_units.proofs.BufferLines.{length-buffer_lines}
 
 -- ---- the bytes of a line
-
--- a line without its break
-abbrev pub before_break : List Token → List Token
-before_break [] = []
-before_break (t ∷ []) = []
-before_break (t ∷ u ∷ us) = t ∷ before_break (u ∷ us)
 
 abbrev pub tokens_bytes : List Token → List ℕ
 tokens_bytes ts = flat_map bytes_of ts

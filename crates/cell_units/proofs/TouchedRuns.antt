@@ -11,7 +11,8 @@ use Rattle.cell_units.specs.Folded.{inside, covered, shown, folded_before, line_
 use Rattle.cell_units.specs.Cutting.{cut_lines}
 use Rattle.cell_units.specs.Pieces.{pieces_of}
 use Rattle.cell_units.specs.Touched.{is_touched, one_run}
-use Rattle.cell_units.specs.LineCounts.{IsLawful, RowsAreOneRun}
+use Rattle.cell_units.specs.Lawful.{HasLawfulEntries}
+use Rattle.cell_units.specs.LineCounts.{RowsAreOneRun}
 use Rattle.cell_units.proofs.OperatedLines.{end_is_free}
 use Rattle.cell_units.proofs.CutLists.{Every, ended, Split, split}
 use Rattle.cell_units.proofs.CutRuns.{Touching, touching}
@@ -280,7 +281,7 @@ module _ (inlays : List Inlay) (folds : List Fold) (text : List ℕ) (a b : ℕ)
         back_is : length run.back ≡ length (display_lines text inlays folds) - (last + 1)
         back_is = omega (arith, long, to_is)
 
-pub rows_are_one_run : (r : Record) → IsLawful r → (a b : ℕ) → a ≤ b → b ≤ length r.text → RowsAreOneRun r a b
+pub rows_are_one_run : (r : Record) → HasLawfulEntries r → (a b : ℕ) → a ≤ b → b ≤ length r.text → RowsAreOneRun r a b
 rows_are_one_run r is a b ab bt =
     let free = end_is_free r is in
     let count = length-map (display_lines r.text r.inlays r.folds) pieces_of in

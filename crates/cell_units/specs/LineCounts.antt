@@ -12,27 +12,6 @@ use Rattle.cell_units.specs.Folded.{line_of}
 use Rattle.cell_units.specs.Pieces.{folded_lines}
 use Rattle.cell_units.specs.Touched.{Touched, row_range, touched_lines, touched_before, touched_after, untouched, one_run}
 
--- a record whose inlays stand in order, no id twice, and whose inlays and folds lie within the text
-pub record IsLawful (r : Record) : Type 0 where
-  pub inlays_sorted : sort_by inlay_le r.inlays ≡ r.inlays
-  pub inlays_distinct : (id : ℕ) → count_by (λ i. i.id == id) r.inlays ≤ 1
-  pub inlays_within : All (λ i. i.offset ≤ length r.text) r.inlays
-  pub folds_distinct : (id : ℕ) → count_by (λ f. f.id == id) r.folds ≤ 1
-  pub folds_within : All (λ f. (f.start < f.end) × (f.end ≤ length r.text)) r.folds
-
--- the operation lies within the record's text
-abbrev pub Fits : Operation → Record → Type 0
-Fits (Replace a b s) r = (a ≤ b) × (b ≤ length r.text)
-Fits (AddInlay i) r = i.offset ≤ length r.text
-Fits (AddFold f) r = (f.start < f.end) × (f.end ≤ length r.text)
-Fits _ r = Unit {0}
-
--- the id of what the operation adds is not in use
-abbrev pub IsFresh : Operation → Record → Type 0
-IsFresh (AddInlay i) r = count_by (λ j. j.id == i.id) r.inlays ≡ 0
-IsFresh (AddFold f) r = count_by (λ g. g.id == f.id) r.folds ≡ 0
-IsFresh _ r = Unit {0}
-
 abbrev pub move_piece : ℕ → ℕ → ℕ → Piece → Piece
 move_piece a b n p = record { kind = p.kind; text = p.text; start = move p.start Right a b n; end = move p.end Right a b n }
 

@@ -1,5 +1,6 @@
 -- The pieces of a display line.
-use Rattle.std.specs.Prelude.{ℕ, ◌==◌, Bool, true, false, if◌then◌else◌, List, [], ◌∷◌, ◌++◌, map}
+use Rattle.std.specs.Prelude.{ℕ, ◌≡◌, ◌<◌, ◌==◌, Bool, true, false, if◌then◌else◌, List, [], ◌∷◌, ◌++◌, flat_map, length, map, slice_get, take, Some, None}
+use Rattle.std.specs.List.{All, last_or}
 use Rattle.cell_units.specs.declared.piece.Piece.{Piece}
 use Rattle.cell_units.specs.declared.piece.PieceKind.{PieceKind}
 use Rattle.cell_units.specs.declared.piece.PieceKind.TheVariants.{Buffer, Inlay, Placeholder}
@@ -36,3 +37,34 @@ pieces_of (t ∷ u ∷ us) = piece_before (is_one_piece t u) t (offset_of u) (pi
 -- the folded lines: of each display line its pieces
 abbrev pub folded_lines : List ℕ → List records.Inlay → List records.Fold → List (List Piece)
 folded_lines text inlays folds = map pieces_of (display_lines text inlays folds)
+
+-- ---- what pieces are, in other words
+
+-- neighbours are related
+abbrev pub AreNeighbours : {X : Type 0} → (X → X → Type 0) → List X → Type 0
+AreNeighbours Related [] = Unit {0}
+AreNeighbours Related (x ∷ []) = Unit {0}
+AreNeighbours Related (x ∷ y ∷ ys) = Related x y × AreNeighbours Related (y ∷ ys)
+
+-- tokens of one piece: some, and each two neighbours are
+abbrev pub IsRun : List Token → Type 0
+IsRun run = (0 < length run) × AreNeighbours (λ t u. is_one_piece t u ≡ true) run
+
+-- the last token of a run and the first of the next aren't of one piece: not both of the buffer, nor both of one inlay
+abbrev pub IsSeam : List Token → List Token → Type 0
+IsSeam run next = (t u : Token) → last_or None run ≡ Some t → slice_get next 0 ≡ Some u → is_one_piece t u ≡ false
+
+-- the pieces are those of the tokens: these are cut into runs as long as can be, and a piece has its run's kind and bytes
+pub record ArePiecesOf (tokens : List Token) (pieces : List Piece) : Type 0 where
+  pub runs : List (List Token)
+  pub tokens_are : flat_map (λ run. run) runs ≡ tokens
+  pub each : All IsRun runs
+  pub apart : AreNeighbours IsSeam runs
+  pub texts : map (λ p. p.text) pieces ≡ map (flat_map bytes_of) runs
+  pub kinds : map (λ p. p.kind ∷ []) pieces ≡ map (λ run. map kind_of (take 1 run)) runs
+
+-- a line without its break
+abbrev pub before_break : List Token → List Token
+before_break [] = []
+before_break (t ∷ []) = []
+before_break (t ∷ u ∷ us) = t ∷ before_break (u ∷ us)

@@ -2,6 +2,7 @@
 use Rattle.std.specs.Prelude.{ℕ, List, [], length, map, filter, flat_map, not}
 use Rattle.std.specs.List.{range_with_len}
 use Rattle.cell_units.specs.declared.place.Bias.{Bias}
+use Rattle.cell_units.specs.declared.place.Point.{Point}
 use Rattle.cell_units.specs.declared.place.Side.{Side}
 use Rattle.cell_units.specs.declared.piece.Piece.{Piece}
 use Rattle.cell_units.specs.declared.piece.PieceKind.TheVariants.{Buffer, Inlay, Placeholder}
@@ -57,3 +58,6 @@ inlay_piece text offset = record { kind = Inlay; text = text; start = offset; en
 
 abbrev pub placeholder_piece : ℕ → ℕ → Piece
 placeholder_piece start end = record { kind = Placeholder; text = placeholder; start = start; end = end }
+
+abbrev pub point : ℕ → ℕ → Point
+point row column = record { row = row; column = column }

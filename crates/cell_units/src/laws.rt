@@ -4,14 +4,18 @@ ghost use Rattle.std.specs.List.{All};
 ghost use Rattle.std.specs.Str.{IsUtf8};
 ghost use Rattle.cell_units.specs.declared.place.Bias.{Bias};
 ghost use Rattle.cell_units.specs.declared.place.Bias.TheVariants.{Left, Right};
+ghost use Rattle.cell_units.specs.declared.place.Point.{Point};
 ghost use Rattle.cell_units.specs.Text.{IsBoundary, IsText, clean, is_feed, row_of};
-ghost use Rattle.cell_units.specs.Record.{Fold, Inlay, Record};
+ghost use Rattle.cell_units.specs.Record.{Fold, Inlay, Record, opened};
 ghost use Rattle.cell_units.specs.Operation.{Operation, operated};
 ghost use Rattle.cell_units.specs.Touched.{touched};
-ghost use Rattle.cell_units.specs.LineCounts.{Fits, IsFresh, IsLawful, KeepsCount, KeepsPieces, RowsAreOneRun, TouchesOneRun, operated_piece};
-ghost use Rattle.cell_units.specs.Folded.{covered, display_lines, folded, line_of, place_in_line};
+ghost use Rattle.cell_units.specs.LineCounts.{KeepsCount, KeepsPieces, RowsAreOneRun, TouchesOneRun, operated_piece};
+ghost use Rattle.cell_units.specs.Inlaid.{Token, bytes_of, inlaid_place};
+ghost use Rattle.cell_units.specs.Folded.{covered, display_lines, folded, folded_place, line_of, place_in_line};
+ghost use Rattle.cell_units.specs.Pieces.{ArePiecesOf, before_break, pieces_of};
+ghost use Rattle.cell_units.specs.Points.{IsAtPoint, offset_at};
 ghost use Rattle.cell_units.specs.Joined.{IsJoined, ShowsOnePlaceholder, ShowsPlaceholder};
-ghost use Rattle.cell_units.specs.Lawful.{IsWellFormed};
+ghost use Rattle.cell_units.specs.Lawful.{HasLawfulEntries, IsAllowed, IsLawful, IsWellFormed};
 ghost use Rattle.cell_units.specs.Layers.{Source, inlay_source, place_of, plain_source, point_of, shown_lines, shown_text, span_of, unfolded};
 ghost use Rattle.cell_units.specs.Folding.{folded_token, inlaid_token};
 ghost use Rattle.cell_units.specs.Laws.{AreUncovered, HasNoFeed, HasNoReturn, HasRow, IsCopied, IsInOneRow, inlaid_bytes, ShowPlaceholder, ShowsAsInlaid, TellsBoundaries};
@@ -22,6 +26,16 @@ pub fn text_laws()
     ensures same { (bytes : List ℕ) → HasNoReturn bytes → clean bytes ≡ bytes }
     ensures again { (bytes : List ℕ) → clean (clean bytes) ≡ clean bytes }
     ensures boundaries { (text : List ℕ) → IsUtf8 text → TellsBoundaries text }
+    ensures clean_utf8 { (bytes : List ℕ) → IsUtf8 bytes → IsUtf8 (clean bytes) }
+    ensures points { (text : List ℕ) (point : Point) (bias : Bias) → IsUtf8 text → IsAtPoint text point bias (offset_at text point bias) }
+{}
+
+/// Laws of every display line: its pieces are its longest runs of the buffer, of one inlay or of one placeholder. None is
+/// empty, and together they are the line's bytes. It does nothing.
+pub fn piece_laws()
+    ensures runs { (line : List Token) → ArePiecesOf (before_break line) (pieces_of line) }
+    ensures some { (line : List Token) → All (λ piece. 0 < length piece.text) (pieces_of line) }
+    ensures bytes { (line : List Token) → flat_map (λ piece. piece.text) (pieces_of line) ≡ flat_map bytes_of (before_break line) }
 {}
 
 /// Laws of every list of folds: placeholders are the joined folds, and the rest is shown as without folds. It does nothing.
@@ -59,6 +73,7 @@ pub fn inlay_laws()
         place_of (inlay_source text inlays) o Left ≡ o + inlaid_bytes (λ i. nat_lt i.offset o) inlays }
     ensures right { (text : List ℕ) (inlays : List Inlay) (o : ℕ) → o ≤ length text →
         place_of (inlay_source text inlays) o Right ≡ o + inlaid_bytes (λ i. nat_le i.offset o) inlays }
+    ensures place { (text : List ℕ) (inlays : List Inlay) (o : ℕ) (bias : Bias) → inlaid_place text inlays o bias ≡ folded_place text inlays [] o bias }
     ensures one_row { (text : List ℕ) (inlays : List Inlay) → All (IsInOneRow text) (display_lines text inlays []) }
 {}
 
@@ -74,12 +89,13 @@ pub fn folding_laws()
         (place_of source o Left ≡ place_of source start Right) × (place_of source o Right ≡ place_of source start Right + 3) }
 {}
 
-/// What every operation that fits a lawful record leaves of the display lines: one run of them is touched before and one
-/// after, and the others are the same, moved. It does nothing.
+/// What every operation that is allowed leaves of a record with lawful entries: such a record, of whose display lines one run
+/// is touched before and one after, and the others are the same, moved. It does nothing.
 pub fn operation_laws()
-    ensures lawful { (operation : Operation) (r : Record) → IsLawful r → Fits operation r → IsFresh operation r → IsLawful (operated operation r) }
-    ensures one_run { (operation : Operation) (r : Record) → IsLawful r → Fits operation r → TouchesOneRun (touched operation r) r (operated operation r) }
-    ensures as_many { (operation : Operation) (r : Record) → IsLawful r → Fits operation r → KeepsCount (touched operation r) r (operated operation r) }
-    ensures same_pieces { (operation : Operation) (r : Record) → IsLawful r → Fits operation r → KeepsPieces (touched operation r) (operated_piece operation) r (operated operation r) }
-    ensures rows { (r : Record) (a b : ℕ) → IsLawful r → a ≤ b → b ≤ length r.text → RowsAreOneRun r a b }
+    ensures opened { (text : List ℕ) → IsText text → IsLawful (opened text) }
+    ensures lawful { (operation : Operation) (r : Record) → HasLawfulEntries r → IsAllowed operation r → HasLawfulEntries (operated operation r) }
+    ensures one_run { (operation : Operation) (r : Record) → HasLawfulEntries r → IsAllowed operation r → TouchesOneRun (touched operation r) r (operated operation r) }
+    ensures as_many { (operation : Operation) (r : Record) → HasLawfulEntries r → IsAllowed operation r → KeepsCount (touched operation r) r (operated operation r) }
+    ensures same_pieces { (operation : Operation) (r : Record) → HasLawfulEntries r → IsAllowed operation r → KeepsPieces (touched operation r) (operated_piece operation) r (operated operation r) }
+    ensures rows { (r : Record) (a b : ℕ) → HasLawfulEntries r → a ≤ b → b ≤ length r.text → RowsAreOneRun r a b }
 {}

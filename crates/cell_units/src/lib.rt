@@ -19,7 +19,9 @@ pub mod worked;
 
 pub use cleaning::{cleaned, push_clean};
 pub use fault::{Fault, NoMemory, Refusal, TextFault};
-pub use laws::{fold_laws, folding_laws, inlay_laws, layer_laws, operation_laws, text_laws};
+pub use laws::{
+    fold_laws, folding_laws, inlay_laws, layer_laws, operation_laws, piece_laws, text_laws,
+};
 pub use layer::Layer;
 pub use piece::{Piece, PieceKind};
 pub use place::{Bias, Motion, Point, Shift, Side, Spot};

@@ -1,4 +1,5 @@
 //! Places in a text and on the display.
+ghost use Rattle.std.specs.Prelude.{◌≤◌};
 
 /// To which side of what is inserted at its place an anchor stays.
 #[derive(Clone, Copy, Debug, PartialEq, Eq)]
@@ -39,10 +40,25 @@ pub enum Motion {
     End,
 }
 
-/// One replacement, as anchors see it: `count` bytes take the place of those from `start` to `end`.
+/// One replacement, of bytes, places, lines or rows: `count` of them take the place of those from `start` to `end`.
 #[derive(Clone, Copy, Debug, PartialEq, Eq)]
 pub struct Shift {
     pub start: u32,
     pub end: u32,
     pub count: u32,
+    ghost ordered: { start ≤ end },
+}
+
+impl Shift {
+    ghost use Rattle.std.specs.Prelude.{◌≡◌};
+
+    /// The replacement of what stands from `start` to `end`.
+    pub fn new(start: u32, end: u32, count: u32) -> Shift
+        requires { start ≤ end }
+        ensures start { result.start ≡ start }
+        ensures end { result.end ≡ end }
+        ensures count { result.count ≡ count }
+    {
+        Shift { start, end, count }
+    }
 }

@@ -11,7 +11,8 @@ ghost use Rattle.cell_units.specs.Inlaid.{bytes_of, inlaid, inlaid_place, placeh
 ghost use Rattle.cell_units.specs.Folded.{display_lines, folded_place, line_of, place_in_line, span_end, span_start};
 ghost use Rattle.cell_units.specs.Pieces.{folded_lines};
 ghost use Rattle.cell_units.specs.Touched.{EachLine, NoLine, touched, touched_after, touched_before};
-ghost use Rattle.cell_units.specs.Worked.{block, buffer_piece, fold, folded_record, inlay, inlay_piece, line_texts, mark, placeholder_piece};
+ghost use Rattle.cell_units.specs.Points.{offset_at};
+ghost use Rattle.cell_units.specs.Worked.{block, buffer_piece, fold, folded_record, inlay, inlay_piece, line_texts, mark, placeholder_piece, point};
 
 /// Texts whose clean form, rows, row ends and boundaries are known. It does nothing.
 pub fn worked_texts()
@@ -26,6 +27,10 @@ pub fn worked_texts()
     ensures row_starts { let text = codes "abc" ++ 10 ∷ 100 ∷ [] in map (row_start text) (range_with_len 0 6) ≡ 0 ∷ 0 ∷ 0 ∷ 0 ∷ 4 ∷ 4 ∷ [] }
     ensures row_ends { let text = codes "abc" ++ 10 ∷ 100 ∷ [] in map (row_end text) (range_with_len 0 6) ≡ 3 ∷ 3 ∷ 3 ∷ 3 ∷ 5 ∷ 5 ∷ [] }
     ensures combining_mark { map (is_boundary (0x65 ∷ 0xCC ∷ 0x81 ∷ 0x78 ∷ [])) (range_with_len 0 6) ≡ true ∷ true ∷ false ∷ true ∷ true ∷ false ∷ [] }
+    ensures point_in_character { let text = 97 ∷ 10 ∷ 98 ∷ 0xC3 ∷ 0xA9 ∷ 99 ∷ 10 ∷ [] in
+        (offset_at text (point 1 2) Left ≡ 3) × (offset_at text (point 1 2) Right ≡ 5) × (offset_at text (point 1 3) Left ≡ 5) }
+    ensures point_past_ends { let text = 97 ∷ 10 ∷ 98 ∷ 0xC3 ∷ 0xA9 ∷ 99 ∷ 10 ∷ [] in
+        (offset_at text (point 0 9) Left ≡ 1) × (offset_at text (point 2 1) Right ≡ 7) × (offset_at text (point 3 0) Left ≡ 7) }
 {}
 
 /// Operations whose outcome is known; a batch goes from its last range to its first. It does nothing.

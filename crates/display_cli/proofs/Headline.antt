@@ -3,9 +3,10 @@ use Rattle.std.proofs.Common.{◌≡◌, ℕ, ◌<◌, ◌≤◌, ◌⊎◌, inl
 use Rattle.std.specs.Prelude.{◌↔◌, ◌≢◌, IfSome}
 use Rattle.std.specs.Str.{IsUtf8}
 use Rattle.std.specs.Str.Lossy.{utf8_valid_len}
+use Rattle.cell_units.specs.Refusal.{IsAccepted}
+use Rattle.cell_units.specs.declared.limits.TheConstants.{TEXT_LIMIT}
 use Rattle.cell_units.specs.Text.{clean}
 use Rattle.display_map.specs.Events.{Event}
-use Rattle.display_map.specs.Changes.{text_limit}
 use Rattle.display_map.specs.Replay.{History}
 use Rattle.display_cli.specs.declared.words.Plan.{Plan}
 use Rattle.display_cli.specs.declared.stop.Stop.{Stop}
@@ -13,7 +14,7 @@ use Rattle.display_cli.specs.declared.stop.Stop.TheVariants as stops
 use Rattle.display_cli.specs.declared.ended.Note.{Note}
 use Rattle.display_cli.specs.declared.ended.Note.TheVariants.{Fine, Usage, ReadText, ReadScript, Write, TextNotUtf8, TextTooLong, ScriptTooLong, JournalFull, Memory}
 use Rattle.display_cli.specs.Outside.{Faults, HasRisen, AreTold}
-use Rattle.display_cli.specs.Ended.{IsAccepted, Run, IsNothing, IsRunOf, IsCaused, IsOwed, IsComplete, script_limit}
+use Rattle.display_cli.specs.Ended.{Run, IsNothing, IsRunOf, IsCaused, IsOwed, IsComplete, script_limit}
 use Rattle.display_cli.specs.Going.{Course, IsPlayed, IsCut, IsWhy, HasEnded, course_of}
 use Rattle.display_cli.specs.Opening.{IsOpenedOn, IsTextRefused, IsScript, IsScriptRefused, history_of, HasRun, note_of}
 
@@ -192,18 +193,18 @@ module _ (told : List ℕ → Option (List ℕ)) (plan : Plan) (old new : Faults
 
   -- what a note says of a text that is told
   text-note : (note : Note) (bytes : List ℕ) → IsRunWell note → told plan.text ≡ Some bytes → (HasRisen old.text new.text → ⊥)
-      → (note ≡ Memory) ⊎ (((note ≡ TextTooLong) × (text_limit < length bytes))
-      ⊎ (((note ≡ TextNotUtf8 (utf8_valid_len bytes)) × (length bytes ≤ text_limit) × (IsUtf8 bytes → ⊥)) ⊎ IsAccepted bytes))
+      → (note ≡ Memory) ⊎ (((note ≡ TextTooLong) × (TEXT_LIMIT < length bytes))
+      ⊎ (((note ≡ TextNotUtf8 (utf8_valid_len bytes)) × (length bytes ≤ TEXT_LIMIT) × (IsUtf8 bytes → ⊥)) ⊎ IsAccepted bytes))
   text-note Fine bytes well is unrisen = let it = well.meaning in let read = it.read in inr (inr (inr (told-accepted it.bytes bytes is read.text_told read.text_accepted)))
   text-note Usage bytes well is unrisen = absurd (well.read refl)
   text-note ReadText bytes well is unrisen = absurd (unrisen well.caused)
   text-note ReadScript bytes well is unrisen = let it = well.caused in inr (inr (inr (told-accepted it.1.0 bytes is it.1.1 it.1.2)))
   text-note Write bytes well is unrisen = let it = well.meaning in let read = it.read in inr (inr (inr (told-accepted it.bytes bytes is read.text_told read.text_accepted)))
   text-note (TextNotUtf8 at) bytes well is unrisen =
-      let P : Option (List ℕ) → Type 0 = λ o. IfSome o (λ bytes. (length bytes ≤ text_limit) × (IsUtf8 bytes → ⊥) × (at ≡ utf8_valid_len bytes)) in
+      let P : Option (List ℕ) → Type 0 = λ o. IfSome o (λ bytes. (length bytes ≤ TEXT_LIMIT) × (IsUtf8 bytes → ⊥) × (at ≡ utf8_valid_len bytes)) in
       let it = subst P is well.caused in inr (inr (inl (ap (λ n. TextNotUtf8 n) it.2, it.0, it.1)))
   text-note TextTooLong bytes well is unrisen =
-      let P : Option (List ℕ) → Type 0 = λ o. IfSome o (λ bytes. text_limit < length bytes) in inr (inl (refl, subst P is well.caused))
+      let P : Option (List ℕ) → Type 0 = λ o. IfSome o (λ bytes. TEXT_LIMIT < length bytes) in inr (inl (refl, subst P is well.caused))
   text-note ScriptTooLong bytes well is unrisen = let it = well.caused in inr (inr (inr (told-accepted it.0.0 bytes is it.0.1 it.0.2)))
   text-note JournalFull bytes well is unrisen = let it = well.meaning in let read = it.read in inr (inr (inr (told-accepted it.bytes bytes is read.text_told read.text_accepted)))
   text-note Memory bytes well is unrisen = inl refl
@@ -221,10 +222,10 @@ module _ (told : List ℕ → Option (List ℕ)) (plan : Plan) (old new : Faults
   script-note Write bytes script well is is' unrisen unrisen' accepted =
       let it = well.meaning in let read = it.read in inr (inr (told-fits it.script script is' read.script_told read.script_fits, inr (inr well.caused)))
   script-note (TextNotUtf8 at) bytes script well is is' unrisen unrisen' accepted =
-      let P : Option (List ℕ) → Type 0 = λ o. IfSome o (λ bytes. (length bytes ≤ text_limit) × (IsUtf8 bytes → ⊥) × (at ≡ utf8_valid_len bytes)) in
+      let P : Option (List ℕ) → Type 0 = λ o. IfSome o (λ bytes. (length bytes ≤ TEXT_LIMIT) × (IsUtf8 bytes → ⊥) × (at ≡ utf8_valid_len bytes)) in
       let it = subst P is well.caused in absurd (it.1 accepted.1)
   script-note TextTooLong bytes script well is is' unrisen unrisen' accepted =
-      let P : Option (List ℕ) → Type 0 = λ o. IfSome o (λ bytes. text_limit < length bytes) in
+      let P : Option (List ℕ) → Type 0 = λ o. IfSome o (λ bytes. TEXT_LIMIT < length bytes) in
       let long = subst P is well.caused in let fits = accepted.0 in absurd (omega arith)
   script-note ScriptTooLong bytes script well is is' unrisen unrisen' accepted =
       let P : Option (List ℕ) → Type 0 = λ o. IfSome o (λ script. script_limit < length script) in

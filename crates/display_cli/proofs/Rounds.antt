@@ -7,10 +7,11 @@ use Rattle.std.proofs.lemmas.Bool.{eqb-true, eq-eqb, leb-true, le-leb, eqb-false
 use Rattle.std.proofs.lemmas.List.{take-append-drop, length-map, length-drop}
 use Rattle.std.proofs.lemmas.List.Sums.{prefix_len-le-length, prefix_len_stops, fold-append, sum_by-cons}
 use Rattle.std.proofs.Math.Seq.{drop-cons}
+use Rattle.cell_units.specs.declared.limits.TheConstants.{RUN_LIMIT}
 use Rattle.cell_line.specs.declared.lines.Run.{Run}
 use Rattle.cell_units.specs.Record.{Mark, Record}
 use Rattle.display_map.specs.Events.{Event, Sent, Landed}
-use Rattle.display_map.specs.Replay.{SentJob, State, History, begun, happens, replayed, state_of, appended, waits, is_held, holds, stamps_of, wrapped_at, landed_on, landed_if, with_landed, job_numbered, run_limit, run_from, first_waiting, next_run, is_settled}
+use Rattle.display_map.specs.Replay.{SentJob, State, History, begun, happens, replayed, state_of, appended, waits, is_held, holds, stamps_of, wrapped_at, landed_on, landed_if, with_landed, job_numbered, run_from, first_waiting, next_run, is_settled}
 use Rattle.display_cli.specs.Legal.{IsSend, outstanding}
 use Rattle.display_cli.specs.Going.{is_over, AreOver, round}
 
@@ -65,7 +66,7 @@ pub record IsNextRun (s : State) (run : Run) : Type 0 where
   pub from : drop run.first s.present.marks ≡ mark ∷ rest
   pub waiting : waits s mark ≡ true
   pub within : run.first < length s.present.marks
-  pub count : run.count ≡ min run_limit (prefix_len (waits s) (drop run.first s.present.marks))
+  pub count : run.count ≡ min RUN_LIMIT (prefix_len (waits s) (drop run.first s.present.marks))
 
 pub next-run-is : (s : State) (run : Run) → next_run s ≡ Some run → IsNextRun s run
 unfolding next_run
@@ -79,14 +80,14 @@ next-run-is s run e =
     let within : first < length marks = omega arith in
     let it : run_from s first ≡ run = cases.1 in
     let firsts : first ≡ run.first = ap (λ r. r.first) it in
-    let counts : min run_limit (prefix_len (waits s) (drop first marks)) ≡ run.count = ap (λ r. r.count) it in
+    let counts : min RUN_LIMIT (prefix_len (waits s) (drop first marks)) ≡ run.count = ap (λ r. r.count) it in
     record {
       mark = get_or marks first d;
       rest = drop (suc first) marks;
       from = ap (λ k. drop k marks) (sym firsts) ∙ drop-cons marks first d within;
       waiting = not-false (waits s (get_or marks first d)) (prefix_len_stops (λ m. not (waits s m)) marks d within);
       within = let P : ℕ → Type 0 = λ k. k < length marks in subst P firsts within;
-      count = sym counts ∙ ap (λ k. min run_limit (prefix_len (waits s) (drop k marks))) firsts;
+      count = sym counts ∙ ap (λ k. min RUN_LIMIT (prefix_len (waits s) (drop k marks))) firsts;
     }
 
 prefix-some : {X : Type 0} (p : X → Bool) (x : X) (xs : List X) → p x ≡ true → 1 ≤ prefix_len p (x ∷ xs)

@@ -2,9 +2,11 @@
 use Rattle.std.specs.Prelude.{ℕ, ◌≡◌, ◌≢◌, ◌+◌, ◌<◌, ◌≤◌, ◌⊎◌, ◌↔◌, ◌++◌, true, List, [], length, Option, Some, None, IfSome}
 use Rattle.std.specs.Str.{IsUtf8}
 use Rattle.std.specs.Str.Lossy.{utf8_valid_len}
+use Rattle.cell_units.specs.Refusal.{IsAccepted}
+use Rattle.cell_units.specs.declared.limits.TheConstants.{TEXT_LIMIT}
 use Rattle.cell_units.specs.Text.{clean}
 use Rattle.display_map.specs.Events.{Event}
-use Rattle.display_map.specs.Changes.{entries_in, text_limit}
+use Rattle.display_map.specs.Changes.{entries_in}
 use Rattle.display_map.specs.Faults.{event_limit}
 use Rattle.edit_script.specs.Commands.{Command, Apply, command_of}
 use Rattle.display_cli.specs.declared.words.Plan.{Plan}
@@ -31,10 +33,6 @@ HasStatus TextTooLong status = status ≡ 5
 HasStatus ScriptTooLong status = status ≡ 5
 HasStatus JournalFull status = status ≡ 7
 HasStatus Memory status = status ≡ 6
-
--- bytes that a display may be opened on
-abbrev pub IsAccepted : List ℕ → Type 0
-IsAccepted bytes = (length bytes ≤ text_limit) × IsUtf8 bytes
 
 -- a run, as it is seen: what the inputs tell of each name, what the sink told that it took before and after, the status and
 -- the history
@@ -115,9 +113,9 @@ IsCaused told plan old new sink_old sink_new history ReadScript =
     HasRisen old.script new.script × ((bytes : List ℕ) × AreTold (told plan.text) bytes × IsAccepted bytes)
 IsCaused told plan old new sink_old sink_new history Write = HasRisen sink_old sink_new
 IsCaused told plan old new sink_old sink_new history TextTooLong =
-    IfSome (told plan.text) (λ bytes. text_limit < length bytes)
+    IfSome (told plan.text) (λ bytes. TEXT_LIMIT < length bytes)
 IsCaused told plan old new sink_old sink_new history (TextNotUtf8 at) =
-    IfSome (told plan.text) (λ bytes. (length bytes ≤ text_limit) × (IsUtf8 bytes → ⊥) × (at ≡ utf8_valid_len bytes))
+    IfSome (told plan.text) (λ bytes. (length bytes ≤ TEXT_LIMIT) × (IsUtf8 bytes → ⊥) × (at ≡ utf8_valid_len bytes))
 IsCaused told plan old new sink_old sink_new history ScriptTooLong =
     ((bytes : List ℕ) × AreTold (told plan.text) bytes × IsAccepted bytes)
     × IfSome (told plan.script) (λ script. script_limit < length script)
@@ -127,9 +125,9 @@ IsCaused told plan old new sink_old sink_new history _ = Unit {0}
 
 -- the answers that are owed where the text is told and no read of it failed: want of memory alone may come in their place
 pub record IsOwed (told : List ℕ → Option (List ℕ)) (plan : Plan) (old new : Faults) (note : Note) : Type 0 where
-  pub too_long : (bytes : List ℕ) → told plan.text ≡ Some bytes → (HasRisen old.text new.text → ⊥) → text_limit < length bytes
+  pub too_long : (bytes : List ℕ) → told plan.text ≡ Some bytes → (HasRisen old.text new.text → ⊥) → TEXT_LIMIT < length bytes
       → (note ≡ TextTooLong) ⊎ (note ≡ Memory)
-  pub not_utf8 : (bytes : List ℕ) → told plan.text ≡ Some bytes → (HasRisen old.text new.text → ⊥) → length bytes ≤ text_limit → (IsUtf8 bytes → ⊥)
+  pub not_utf8 : (bytes : List ℕ) → told plan.text ≡ Some bytes → (HasRisen old.text new.text → ⊥) → length bytes ≤ TEXT_LIMIT → (IsUtf8 bytes → ⊥)
       → (note ≡ TextNotUtf8 (utf8_valid_len bytes)) ⊎ (note ≡ Memory)
   pub script_too_long : (bytes script : List ℕ) → told plan.text ≡ Some bytes → told plan.script ≡ Some script
       → (HasRisen old.text new.text → ⊥) → (HasRisen old.script new.script → ⊥) → IsAccepted bytes → script_limit < length script

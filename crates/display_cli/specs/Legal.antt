@@ -2,12 +2,13 @@
 use Rattle.std.specs.Prelude.{ℕ, ◌≡◌, ◌+◌, ◌*◌, ◌<◌, ◌≤◌, ◌⊎◌, not, Bool, true, false, List, [], ◌∷◌, ◌++◌, length, map, filter, take, drop, count_by, slice_get, Option, Some, None}
 use Rattle.std.specs.List.{enumerate_from, last_or, list_any, list_all}
 use Rattle.std.specs.Option.{option_map}
+use Rattle.cell_units.specs.declared.limits.TheConstants.{RUN_LIMIT}
 use Rattle.cell_units.specs.Text.{is_feed}
 use Rattle.cell_units.specs.Cutting.{cut_lines}
 use Rattle.cell_units.specs.Operation.{Operation}
 use Rattle.display_map.specs.Events.{Event, Line, Did, Sent, Landed, Published}
 use Rattle.display_map.specs.Changes.{ChangeParts, operations_in}
-use Rattle.display_map.specs.Replay.{State, begun, replayed, waits, run_limit, is_settled, job_numbered}
+use Rattle.display_map.specs.Replay.{State, begun, replayed, waits, is_settled, job_numbered}
 use Rattle.edit_script.specs.Commands.{Apply, Rows}
 use Rattle.edit_script.specs.Verdict.{Verdict, Accepted, is_blank, verdict}
 
@@ -93,7 +94,7 @@ pub record PublishesLandings (text script : List ℕ) (past : List Event) (e : E
 pub record IsSend (workers : ℕ) (s : State) (job first count : ℕ) : Type 0 where
   pub number : job ≡ length s.jobs + 1
   pub some : 1 ≤ count
-  pub few : count ≤ run_limit
+  pub few : count ≤ RUN_LIMIT
   pub within : first + count ≤ length s.present.marks
   pub all_wait : list_all (waits s) (take count (drop first s.present.marks)) ≡ true
   pub room : outstanding s < 2 * workers

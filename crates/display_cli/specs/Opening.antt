@@ -2,16 +2,17 @@
 use Rattle.std.specs.Prelude.{ℕ, ◌≡◌, ◌<◌, ◌≤◌, ◌⊎◌, ◌↔◌, Bool, true, List, [], length, Option, IfSome}
 use Rattle.std.specs.Str.{IsUtf8}
 use Rattle.std.specs.Str.Lossy.{utf8_valid_len}
+use Rattle.cell_units.specs.Refusal.{IsAccepted}
+use Rattle.cell_units.specs.declared.limits.TheConstants.{TEXT_LIMIT}
 use Rattle.cell_units.specs.Text.{clean}
 use Rattle.display_map.specs.Events.{Event}
-use Rattle.display_map.specs.Changes.{text_limit}
 use Rattle.display_map.specs.Replay.{History}
 use Rattle.display_cli.specs.declared.ended.Note.{Note}
 use Rattle.display_cli.specs.declared.ended.Note.TheVariants.{Fine, ReadText, ReadScript, Write, TextNotUtf8, TextTooLong, ScriptTooLong, JournalFull, Memory}
 use Rattle.display_cli.specs.declared.stop.Stop.{Stop}
 use Rattle.display_cli.specs.declared.stop.Stop.TheVariants as stops
 use Rattle.display_cli.specs.Outside.{HasRisen, AreTold}
-use Rattle.display_cli.specs.Ended.{IsAccepted, IsFull, script_limit}
+use Rattle.display_cli.specs.Ended.{IsFull, script_limit}
 use Rattle.display_cli.specs.Going.{Course, IsPlayed, IsCut, IsUnbegun}
 
 -- a display was started on accepted bytes, which are those that are told
@@ -22,9 +23,9 @@ IsOpenedOn told display =
 -- why a text wasn't opened: the counts are those of the faults of its reads, before and after
 abbrev pub IsTextRefused : Option (List ℕ) → ℕ → ℕ → Note → Type 0
 IsTextRefused told old new ReadText = HasRisen old new
-IsTextRefused told old new TextTooLong = IfSome told (λ bytes. text_limit < length bytes)
+IsTextRefused told old new TextTooLong = IfSome told (λ bytes. TEXT_LIMIT < length bytes)
 IsTextRefused told old new (TextNotUtf8 at) =
-    IfSome told (λ bytes. (length bytes ≤ text_limit) × (IsUtf8 bytes → ⊥) × (at ≡ utf8_valid_len bytes))
+    IfSome told (λ bytes. (length bytes ≤ TEXT_LIMIT) × (IsUtf8 bytes → ⊥) × (at ≡ utf8_valid_len bytes))
 IsTextRefused told old new Memory = Unit {0}
 IsTextRefused told old new _ = ⊥
 

@@ -13,12 +13,10 @@ use crate::read::{Unread, read_whole};
 use crate::script::play;
 use crate::stop::Stop;
 use crate::words::{Plan, read_words};
-use cell_units::{NoMemory, Steps};
-use display_map::{Display, Journal, TextFault};
+use cell_units::limits::TEXT_LIMIT;
+use cell_units::{NoMemory, Steps, TextFault};
+use display_map::{Display, Journal};
 use std::alloc::Global;
-
-/// The greatest length of a text, in bytes.
-const TEXT_LIMIT: usize = 33_554_432;
 
 /// The greatest length of a script, in bytes.
 const SCRIPT_LIMIT: usize = 16_777_216;

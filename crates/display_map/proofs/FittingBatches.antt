@@ -1,8 +1,13 @@
 -- The operations of an edit that is accepted fit, one after another.
-use Rattle.std.proofs.Common.{◌≡◌, ℕ, ◌≤◌, cond, not, Bool, true, false, List, [], ◌∷◌, ◌++◌, length, map, take, refl, sym, ap, ◌∙◌, subst, arith, length-append}
+use Rattle.std.proofs.Common.{◌≡◌, ℕ, ◌≤◌, leb, ◌&&◌, cond, not, Bool, true, false, List, [], ◌∷◌, ◌++◌, length, map, take, refl, sym, ap, ◌∙◌, subst, arith, length-append}
 use Rattle.std.specs.Prelude.{Option, Some, None}
-use Rattle.std.proofs.lemmas.List.{length-take-le, map-append}
-use Rattle.cell_units.specs.Text.{clean}
+use Rattle.std.specs.Str.{IsUtf8}
+use Rattle.std.proofs.lemmas.Bool.{and_parts}
+use Rattle.std.proofs.lemmas.List.{length-take-le, map-append, take-append-le, take-take}
+use Rattle.cell_units.specs.Text.{IsBoundary, IsText, clean, is_boundary}
+use Rattle.cell_units.proofs.CutLists.{Every}
+use Rattle.cell_units.proofs.FoundEntries.{Every-from_All}
+use Rattle.cell_units.proofs.TextLaws.{tells_boundaries}
 use Rattle.cell_units.specs.Operation.{replaced_text}
 use Rattle.display_map.specs.declared.change.Splice.{Splice}
 use Rattle.cell_units.specs.Operation.{Operation}
@@ -13,7 +18,7 @@ use Rattle.display_map.specs.Events.{Event, Did}
 use Rattle.display_map.specs.Changes.{is_operation, batch, are_ranges, edit_refusal}
 use Rattle.display_map.specs.LineStep.{line_step}
 use Rattle.display_map.specs.Replay.{State, happens, replayed}
-use Rattle.display_map.specs.LawfulStates.{EventsFit}
+use Rattle.display_map.specs.LawfulStates.{EventsFit, InsertUtf8}
 use Rattle.display_map.proofs.Batches.{AreOrdered, are_ordered, backwards, backwards-text, batch-cons, ordered-le, spliced}
 use Rattle.display_map.proofs.BatchMarks.{does, replayed-batch}
 use Rattle.display_map.proofs.Replays.{replayed-cons, replayed-none}
@@ -38,34 +43,49 @@ texts s (x ∷ splices) = go (is_operation x) (texts s splices) where
   go true e = text_does (backwards does s splices) x ∙ ap (λ (t : List ℕ). replaced_text t x.start x.end (clean x.text)) e
   go false e = e
 
--- what stands before the splices is still there
-reach : (s : State) (from : ℕ) (splices : List Splice) → AreOrdered (length s.present.text) from splices →
-    from ≤ length (replayed s (map Did (batch splices))).present.text
-reach s from splices h =
-    omega (
-      arith,
-      ap (λ (t : State). length t.present.text) (replayed-batch s splices),
-      ap length (texts s splices ∙ backwards-text s.present.text from splices h),
-      length-append (take from s.present.text) (spliced s.present.text from splices),
-      length-take-le from s.present.text (ordered-le (length s.present.text) from splices h),
-    )
+abbrev AreAtBoundaries : List ℕ → List Splice → Type 0
+AreAtBoundaries text splices = Every (λ x. IsBoundary text x.start × IsBoundary text x.end) splices
 
-fit_all : (s : State) (from : ℕ) (splices : List Splice) → AreOrdered (length s.present.text) from splices →
+at_boundaries : (text : List ℕ) (from : ℕ) (splices : List Splice) → IsUtf8 text → are_ranges text from splices ≡ true → AreAtBoundaries text splices
+at_boundaries text from [] utf8 h = tt
+at_boundaries text from (x ∷ splices) utf8 h =
+    let rest = are_ranges text x.end splices in
+    let all = and_parts (leb from x.start && leb x.start x.end && is_boundary text x.start && is_boundary text x.end) rest h in
+    let three = and_parts (leb from x.start && leb x.start x.end && is_boundary text x.start) (is_boundary text x.end) all.0 in
+    let two = and_parts (leb from x.start && leb x.start x.end) (is_boundary text x.start) three.0 in
+    (((tells_boundaries text utf8 x.start).0 two.1, (tells_boundaries text utf8 x.end).0 three.1), at_boundaries text x.end splices utf8 all.1)
+
+-- a boundary before the splices is one of the text after them
+boundary_before : (s : State) (from p : ℕ) (splices : List Splice) → AreOrdered (length s.present.text) from splices → p ≤ from → IsBoundary s.present.text p →
+    IsBoundary (replayed s (map Did (batch splices))).present.text p
+boundary_before s from p splices h le at =
+    let text = s.present.text in
+    let tail = spliced text from splices in
+    let within = ordered-le (length text) from splices h in
+    let long = length-take-le from text within in
+    let is : (replayed s (map Did (batch splices))).present.text ≡ take from text ++ tail =
+    ap (λ (t : State). t.present.text) (replayed-batch s splices) ∙ texts s splices ∙ backwards-text text from splices h in
+    let front : take p (take from text ++ tail) ≡ take p text = take-append-le p (take from text) tail (omega (arith, long, le)) ∙ take-take p from text le in
+    subst (λ (t : List ℕ). IsBoundary t p) (sym is)
+    (omega (arith, le, long, length-append (take from text) tail), subst IsUtf8 (sym front) at.1)
+
+fit_all : (s : State) (from : ℕ) (splices : List Splice) → AreOrdered (length s.present.text) from splices → AreAtBoundaries s.present.text splices → Every (λ x. IsUtf8 x.text) splices →
     EventsFit s (map Did (batch splices))
-fit_all s from [] h = tt
-fit_all s from (x ∷ splices) h =
+fit_all s from [] h at utf8 = tt
+fit_all s from (x ∷ splices) h at utf8 =
     subst (EventsFit s) (sym (ap (map Did) (batch-cons x splices) ∙ map-append Did (batch splices) (cond (is_operation x) (replacement x ∷ []) [])))
-    (EventsFit-append s (map Did (batch splices)) (map (λ op. Did op) (cond (is_operation x) (replacement x ∷ []) [])) (fit_all s x.end splices h.2) (go (is_operation x))) where
+    (EventsFit-append s (map Did (batch splices)) (map (λ op. Did op) (cond (is_operation x) (replacement x ∷ []) [])) (fit_all s x.end splices h.2 at.1 utf8.1) (go (is_operation x))) where
       go : (b : Bool) → EventsFit (replayed s (map Did (batch splices))) (map (λ op. Did op) (cond b (replacement x ∷ []) []))
-      go true = (((h.1, reach s x.end splices h.2), tt), tt)
+      go true = ((boundary_before s x.end x.start splices h.2 h.1 at.0.0, boundary_before s x.end x.end splices h.2 (omega arith) at.0.1, h.1, utf8.0), tt)
       go false = tt
 
 ranges_of : (r : Option Refusal) (b : Bool) → cond (not b) (Some BadRange) r ≡ None → b ≡ true
 ranges_of r true e = refl
 ranges_of r false e = absurd (cc e)
 
--- the operations of an edit that is not refused fit
-pub fitting_edit : (s : State) (splices : List Splice) → edit_refusal s.present splices ≡ None → EventsFit s (map Did (batch splices))
-fitting_edit s splices e =
-    let ok = ranges_of _ (are_ranges s.present.text 0 splices) e in
-    fit_all s 0 splices (are_ordered s.present.text 0 splices (omega arith) ok)
+-- the operations of an edit that is not refused are allowed
+pub fitting_edit : (s : State) (splices : List Splice) → IsText s.present.text → InsertUtf8 splices → edit_refusal s.present splices ≡ None → EventsFit s (map Did (batch splices))
+fitting_edit s splices is utf8 e =
+    let text = s.present.text in
+    let ok = ranges_of _ (are_ranges text 0 splices) e in
+    fit_all s 0 splices (are_ordered text 0 splices (omega arith) ok) (at_boundaries text 0 splices is.0 ok) (Every-from_All (λ (x : Splice). IsUtf8 x.text) splices utf8)

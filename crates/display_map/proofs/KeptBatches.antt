@@ -2,6 +2,7 @@
 use Rattle.std.proofs.Common.{◌≡◌, ℕ, ◌+◌, ◌-◌, ◌<◌, ◌≤◌, eqb, not, cond, true, List, [], ◌∷◌, ◌++◌, length, map, replicate, slice_range, Some, None, refl, sym, ap, subst, ◌∙◌, inl, arith, length-append}
 use Rattle.std.specs.List.{count_by}
 use Rattle.std.proofs.lemmas.List.Sums.{sum_by-append}
+use Rattle.cell_units.specs.declared.limits.TheConstants.{TEXT_LIMIT}
 use Rattle.cell_units.specs.declared.fault.Refusal.TheVariants.{TooLong}
 use Rattle.cell_units.specs.Text.{clean, is_feed, row_of}
 use Rattle.cell_units.specs.Record.{Record}
@@ -10,7 +11,7 @@ use Rattle.display_map.specs.declared.change.Splice.{Splice}
 use Rattle.cell_units.specs.Operation.{Operation}
 use Rattle.display_map.specs.Events.{Event, Did}
 use Rattle.display_map.specs.declared.wrap.Wrap.{Wrap}
-use Rattle.display_map.specs.Changes.{are_ranges, batch, edit_refusal, is_operation, text_limit}
+use Rattle.display_map.specs.Changes.{are_ranges, batch, edit_refusal, is_operation}
 use Rattle.display_map.specs.Kept.{AreWrapped, IsStamped, IsWrapped, Keeps, KeepsHistory}
 use Rattle.display_map.specs.Replay.{State, History, state_of, present_of, appended, waits, versions_of, is_published, replayed}
 use Rattle.display_map.specs.Splicing.{did_events, fresh_wrap, spliced_text, spliced_wraps}
@@ -110,7 +111,7 @@ module _ (h : History) (splices : List Splice) (text : List ℕ) (tab width : �
         k.versions_are,
       )
 
-  pub kept-batch : length (spliced_text text 0 splices) ≤ text_limit →
+  pub kept-batch : length (spliced_text text 0 splices) ≤ TEXT_LIMIT →
       KeepsHistory (appended h (did_events splices)) (spliced_text text 0 splices) tab width (spliced_wraps fresh text wraps 0 splices) versions jobs 0
   kept-batch short = record {
     record_is = subst (λ (t : State). Keeps t.present (spliced_text text 0 splices) tab (spliced_wraps fresh text wraps 0 splices)) (sym is) (record {
@@ -141,8 +142,8 @@ module _ (h : History) (splices : List Splice) (text : List ℕ) (tab width : �
   short_is : length (spliced_text text 0 splices) ≡ length (spliced r.text 0 splices)
   short_is = ap length (same_text text 0 splices) ∙ ap (λ (t : List ℕ). length (spliced t 0 splices)) (sym k.record_is.text_is)
 
-  pub not_refused : length (spliced_text text 0 splices) ≤ text_limit → edit_refusal (present_of h) splices ≡ None
+  pub not_refused : length (spliced_text text 0 splices) ≤ TEXT_LIMIT → edit_refusal (present_of h) splices ≡ None
   not_refused short = accepted r splices ranges (omega (arith, short, short_is))
 
-  pub too_long : text_limit < length (spliced_text text 0 splices) → edit_refusal (present_of h) splices ≡ Some TooLong
+  pub too_long : TEXT_LIMIT < length (spliced_text text 0 splices) → edit_refusal (present_of h) splices ≡ Some TooLong
   too_long long = refused_length r splices ranges (omega (arith, long, short_is))

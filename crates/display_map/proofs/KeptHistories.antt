@@ -2,11 +2,11 @@
 use Rattle.std.proofs.Common.{◌≡◌, ℕ, ◌+◌, eqb, Bool, true, cond, ◌&&◌, List, [], ◌∷◌, ◌++◌, length, map, get_or, drop, Option, Some, None, refl, ap, sym, subst, ◌∙◌, arith, ◌≤◌, length-append, zero, suc, replicate, inr}
 use Rattle.std.specs.List.{list_all, last_or}
 use Rattle.std.proofs.lemmas.List.Sums.{sum_by-append}
+use Rattle.cell_units.specs.declared.limits.TheConstants.{TEXT_LIMIT}
 use Rattle.cell_units.specs.Record.{Mark, opened, plain_marks, line_count}
 use Rattle.cell_units.specs.BufferLines.{buffer_lines}
 use Rattle.cell_units.proofs.BufferLines.{length-buffer_lines}
 use Rattle.display_map.specs.Events.{Event, Line, Published}
-use Rattle.display_map.specs.Changes.{text_limit}
 use Rattle.display_map.specs.declared.wrap.Wrap.{Wrap}
 use Rattle.display_map.specs.Kept.{AreWrapped, IsStamped, Keeps, KeepsHistory, plain_wrap}
 use Rattle.display_map.specs.Replay.{State, History, begun, state_of, present_of, appended, versions_of, is_published, ends, is_last, is_settled, waits}
@@ -97,7 +97,7 @@ widths-plain : (stamp n : ℕ) → map (λ m. m.width) (plain_marks stamp n) ≡
 widths-plain stamp zero = refl
 widths-plain stamp (suc n) = ap (λ (l : List ℕ). 0 ∷ l) (widths-plain (stamp + 1) n)
 
-keeps-opened : (text : List ℕ) → length text ≤ text_limit → Keeps (opened text) text 4 (replicate (line_count text) plain_wrap)
+keeps-opened : (text : List ℕ) → length text ≤ TEXT_LIMIT → Keeps (opened text) text 4 (replicate (line_count text) plain_wrap)
 keeps-opened text short = record {
   text_is = refl;
   text_short = short;
@@ -115,7 +115,7 @@ all_wait : (text : List ℕ) (stamp n : ℕ) → map (waits (begun text)) (plain
 all_wait text stamp zero = refl
 all_wait text stamp (suc n) = ap (λ (l : List Bool). true ∷ l) (all_wait text (stamp + 1) n)
 
-kept-begun : (text : List ℕ) → length text ≤ text_limit → KeepsHistory (record { opening = text; events = [] }) text 4 80 (replicate (line_count text) plain_wrap) 0 0 0
+kept-begun : (text : List ℕ) → length text ≤ TEXT_LIMIT → KeepsHistory (record { opening = text; events = [] }) text 4 80 (replicate (line_count text) plain_wrap) 0 0 0
 kept-begun text short =
     let h : History = record { opening = text; events = [] } in
     let wraps = replicate (line_count text) plain_wrap in
@@ -134,7 +134,7 @@ kept-begun text short =
     }
 
 pub kept-opened : (opening text : List ℕ) (events : List Event) (wraps : List Wrap) → text ≡ opening → events ≡ [] → wraps ≡ replicate (line_count opening) plain_wrap →
-    length opening ≤ text_limit → KeepsHistory (record { opening = opening; events = events }) text 4 80 wraps 0 0 0
+    length opening ≤ TEXT_LIMIT → KeepsHistory (record { opening = opening; events = events }) text 4 80 wraps 0 0 0
 kept-opened opening text events wraps same none plain short =
     subst (λ (l : List ℕ). KeepsHistory (record { opening = opening; events = events }) l 4 80 wraps 0 0 0) (sym same)
     (subst (λ (es : List Event). KeepsHistory (record { opening = opening; events = es }) opening 4 80 wraps 0 0 0) (sym none)

@@ -4,13 +4,14 @@ use Rattle.std.specs.List.{All}
 use Rattle.std.proofs.lemmas.Bool.{eq-eqb}
 use Rattle.std.proofs.lemmas.List.{length-map, map-append, take-map, drop-map, length-take-le, get_or-map}
 use Rattle.std.proofs.lemmas.List.Elements.{All-from_get_or, All-take, All-drop, All-map, All-weaker}
+use Rattle.cell_units.specs.declared.limits.TheConstants.{TEXT_LIMIT}
 use Rattle.cell_line.specs.declared.element.Element.{Element}
-use Rattle.cell_line.specs.Wrapping.{IsWidth, cuts_of}
+use Rattle.cell_units.specs.Lawful.{IsWidth}
+use Rattle.cell_line.specs.Wrapping.{cuts_of}
 use Rattle.cell_units.specs.Record.{Record, Mark}
 use Rattle.cell_units.specs.BufferLines.{buffer_lines}
 use Rattle.cell_units.proofs.BufferLines.{length-buffer_lines}
 use Rattle.wrap_workers.specs.Jobs.{JobParts, wraps_of}
-use Rattle.display_map.specs.Changes.{text_limit}
 use Rattle.display_map.specs.Events.{Landed}
 use Rattle.display_map.specs.declared.wrap.Wrap.{Wrap}
 use Rattle.display_map.specs.Kept.{AreWrapped, IsStamped, Keeps, KeepsHistory, NoneWaits, landed_wraps, no_wrap, over_run, text_elements}
@@ -231,7 +232,7 @@ kept-landed h job text tab width wraps versions jobs from k o le = record {
   waiting = map_over (λ (w : Wrap). w.waits) first count (landed_wraps width places) wraps (waits_landed_wraps width places run long)
 
 -- the cuts of a line are few
-pub places_short : (tab width first count : ℕ) (text : List ℕ) → length text ≤ text_limit →
+pub places_short : (tab width first count : ℕ) (text : List ℕ) → length text ≤ TEXT_LIMIT →
     All (λ places. length places < 2 ^ 31) (cuts_at tab width (take count (drop first (buffer_lines text))))
 places_short tab width first count text short =
     let lines = buffer_lines text in

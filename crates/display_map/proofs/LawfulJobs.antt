@@ -4,15 +4,15 @@ use Rattle.std.specs.List.{All, prefix_len}
 use Rattle.std.proofs.lemmas.List.{length-map, get_or-map, length-take-le}
 use Rattle.std.proofs.lemmas.List.Elements.{All-from_get_or}
 use Rattle.std.proofs.lemmas.List.Sums.{prefix_len-le-length}
+use Rattle.cell_units.specs.declared.limits.TheConstants.{TEXT_LIMIT}
 use Rattle.cell_line.specs.declared.lines.Run.{Run}
 use Rattle.cell_line.specs.Lines.{LineFitsU32}
-use Rattle.cell_line.specs.Wrapping.{IsWidth}
+use Rattle.cell_units.specs.Lawful.{IsWidth}
 use Rattle.cell_units.specs.Record.{Record, line_count}
 use Rattle.cell_units.specs.BufferLines.{buffer_lines, line_start, line_end}
 use Rattle.cell_units.proofs.BufferLines.{length-buffer_lines, get_or-buffer_lines, line_bounds}
 use Rattle.plain_rows.specs.Rows.{line_elements}
 use Rattle.wrap_workers.specs.Jobs.{IsLawful}
-use Rattle.display_map.specs.Changes.{text_limit}
 use Rattle.display_map.specs.declared.wrap.Wrap.{Wrap}
 use Rattle.display_map.specs.Kept.{Keeps, IsNextRun, first_waiting_in, text_elements}
 use Rattle.display_map.proofs.PlainLines.{line_elements-plain}
@@ -37,7 +37,7 @@ line-le text line lt =
       b.1,
     )
 
-lines_fit : (text : List ℕ) (tab : ℕ) → tab ≤ 16 → length text ≤ text_limit → All LineFitsU32 (map (text_elements tab) (buffer_lines text))
+lines_fit : (text : List ℕ) (tab : ℕ) → tab ≤ 16 → length text ≤ TEXT_LIMIT → All LineFitsU32 (map (text_elements tab) (buffer_lines text))
 lines_fit text tab le size = All-from_get_or LineFitsU32 (map (text_elements tab) (buffer_lines text)) [] (λ k lt.
     let within : k < length (buffer_lines text) = omega (arith, lt, length-map (buffer_lines text) (text_elements tab)) in
     let line = get_or (buffer_lines text) k [] in
@@ -45,7 +45,7 @@ lines_fit text tab le size = All-from_get_or LineFitsU32 (map (text_elements tab
     subst LineFitsU32 (sym (get_or-map (text_elements tab) (buffer_lines text) k [] [] within))
     (omega (arith, length_of_text tab line, short), omega (arith, cells_of_text tab line le, short)))
 
-pub lawful_job : (text : List ℕ) (tab : ℕ) (run : Run) (width : ℕ) → tab ≤ 16 → length text ≤ text_limit → line_count text ≤ length text + 1 → 1 ≤ run.count → run.count ≤ 128 →
+pub lawful_job : (text : List ℕ) (tab : ℕ) (run : Run) (width : ℕ) → tab ≤ 16 → length text ≤ TEXT_LIMIT → line_count text ≤ length text + 1 → 1 ≤ run.count → run.count ≤ 128 →
     run.first + run.count ≤ line_count text → IsWidth width → IsLawful (map (text_elements tab) (buffer_lines text)) run width
 lawful_job text tab run width le size few some most within lawful =
     let long = length-map (buffer_lines text) (text_elements tab) in

@@ -6,7 +6,6 @@ pub mod LawfulJobs
 pub mod SentRuns
 pub mod AlteredLines
 pub mod WaitingLines
-pub mod CleanRest
 pub mod KeptHistories
 pub mod WrappedRows
 pub mod RowBounds

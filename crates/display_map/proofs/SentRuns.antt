@@ -3,14 +3,16 @@ use Rattle.std.proofs.Common.{◌≡◌, ℕ, ◌+◌, ◌-◌, ◌<◌, ◌≤�
 use Rattle.std.specs.List.{prefix_len}
 use Rattle.std.proofs.lemmas.Bool.{cases_lt}
 use Rattle.std.proofs.lemmas.List.{length-map, map-append, take-map, drop-map, take-append-drop, drop-drop, length-take-le, length_push, get_or-map, get_or-append_right, get_or_append_left}
+use Rattle.cell_units.specs.declared.limits.TheConstants.{RUN_LIMIT}
 use Rattle.cell_line.specs.declared.lines.Run.{Run}
-use Rattle.cell_line.specs.Wrapping.{IsWidth, cuts_of}
+use Rattle.cell_units.specs.Lawful.{IsWidth}
+use Rattle.cell_line.specs.Wrapping.{cuts_of}
 use Rattle.cell_units.specs.Record.{Record, Mark}
 use Rattle.cell_units.specs.BufferLines.{buffer_lines}
 use Rattle.display_map.specs.Events.{Event, Sent}
 use Rattle.display_map.specs.declared.wrap.Wrap.{Wrap}
 use Rattle.display_map.specs.Kept.{AreWrapped, IsStamped, Keeps, KeepsHistory, NoneWaits, first_waiting_in, no_wrap, over_run, sent_wrap, text_elements}
-use Rattle.display_map.specs.Replay.{State, History, state_of, appended, happens, waits, run_limit, first_waiting, next_run, stamps_of}
+use Rattle.display_map.specs.Replay.{State, History, state_of, appended, happens, waits, first_waiting, next_run, stamps_of}
 use Rattle.display_map.proofs.Stamps.{stamps, times}
 use Rattle.display_map.proofs.Replays.{IsSound-after, state_of-one_more}
 use Rattle.display_map.proofs.Jobs.{same_prefix, next_run-none, next_run-some}
@@ -190,10 +192,10 @@ module _ (h : History) (text : List ℕ) (tab width : ℕ) (wraps : List Wrap) (
   no_run e = next_run-none (state_of h) (same_first ∙ e ∙ sym (same_length (state_of h) wraps k.waits_are))
 
   pub some_run : (run : Run) → run.first ≡ first_waiting_in wraps → run.first < length wraps →
-      run.count ≡ min run_limit (prefix_len (λ w. w.waits) (drop run.first wraps)) → next_run (state_of h) ≡ Some run
+      run.count ≡ min RUN_LIMIT (prefix_len (λ w. w.waits) (drop run.first wraps)) → next_run (state_of h) ≡ Some run
   some_run run first lt count =
       let s = state_of h in
       next_run-some s run.first (same_first ∙ sym first) (omega (arith, same_length s wraps k.waits_are))
-      ∙ ap (λ (n : ℕ). Some (record { first = run.first; count = min run_limit n }))
+      ∙ ap (λ (n : ℕ). Some (record { first = run.first; count = min RUN_LIMIT n }))
       (same_prefix (waits s) (λ (w : Wrap). w.waits) s.present.marks wraps run.first k.waits_are)
       ∙ ap (λ (n : ℕ). Some (record { first = run.first; count = n })) (sym count)

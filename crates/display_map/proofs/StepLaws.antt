@@ -1,6 +1,7 @@
 -- Every mark is handed on.
-use Rattle.std.proofs.Common.{◌≡◌, ℕ, ◌+◌, not, Bool, true, false, List, [], ◌∷◌, ◌++◌, length, map, take, drop, replicate, refl, sym, ap, ◌∙◌, arith, append_assoc, length-append, length-drop}
-use Rattle.std.specs.List.{count_by}
+use Rattle.std.proofs.Common.{◌≡◌, ℕ, ◌+◌, not, Bool, true, false, List, [], ◌∷◌, ◌++◌, length, map, take, drop, replicate, refl, sym, ap, ◌∙◌, subst, arith, append_assoc, length-append, length-drop}
+use Rattle.std.specs.List.{All, count_by}
+use Rattle.std.proofs.lemmas.List.Elements.{All-append, All-drop, All-take}
 use Rattle.std.proofs.lemmas.List.{length-take-le, length-map, length-replicate, take_at, drop_at}
 use Rattle.std.proofs.lemmas.List.FromFn.{length-range_with_len}
 use Rattle.std.specs.List.{range_with_len}
@@ -8,10 +9,13 @@ use Rattle.cell_units.specs.Record.{Record, Mark, plain_mark, plain_marks}
 use Rattle.cell_units.specs.Operation.{Operation, operated}
 use Rattle.cell_units.specs.Folded.{display_lines}
 use Rattle.cell_units.specs.Touched.{Touched, NoLine, EachLine, Rows, touched, touched_before, touched_after, is_touched, untouched, one_run}
-use Rattle.cell_units.specs.LineCounts.{IsLawful, Fits, TouchesOneRun, lines_of}
+use Rattle.cell_units.specs.Lawful.{IsAllowed, IsLawful, IsMarked, IsWidth}
+use Rattle.cell_units.specs.LineCounts.{TouchesOneRun, lines_of}
 use Rattle.cell_units.specs.Pieces.{pieces_of}
+use Rattle.cell_units.proofs.FoundEntries.{All-from_Every}
+use Rattle.cell_units.proofs.LawfulOperations.{lawful-operated, plain_widths}
 use Rattle.cell_units.proofs.OperatedLines.{keeps_lines}
-use Rattle.display_map.specs.LineStep.{line_step, IsMarked, KeepsMarks, GivesFreshMarks}
+use Rattle.display_map.specs.LineStep.{line_step, KeepsMarks, GivesFreshMarks}
 use Rattle.display_map.proofs.StepRuns.{count_true, kept_marks, stepped_run}
 
 pub length-run : (front middle back : ℕ) → length (one_run front middle back) ≡ front + (middle + back)
@@ -46,9 +50,9 @@ middle_of [] [] (m ∷ back) = middle_of [] [] back
 middle_of [] (m ∷ middle) back = ap (λ (l : List Mark). m ∷ l) (middle_of [] middle back)
 middle_of (m ∷ front) middle back = middle_of front middle back
 
-module _ (operation : Operation) (r : Record) (is : IsLawful r) (fits : Fits operation r) (marked : IsMarked r) where
+module _ (operation : Operation) (r : Record) (is : IsLawful r) (ok : IsAllowed operation r) where
   run : TouchesOneRun (touched operation r) r (operated operation r)
-  run = let k = keeps_lines r is operation fits in k.run
+  run = let k = keeps_lines r is.entries operation ok in k.run
 
   abbrev front : List Mark
   front = take run.front r.marks
@@ -60,7 +64,7 @@ module _ (operation : Operation) (r : Record) (is : IsLawful r) (fits : Fits ope
   back = drop (run.front + run.before) r.marks
 
   long : length r.marks ≡ run.front + (run.before + run.back)
-  long = omega (arith, marked, length-before (touched operation r) r, ap length run.before_are, length-run run.front run.before run.back)
+  long = omega (arith, is.marked, length-before (touched operation r) r, ap length run.before_are, length-run run.front run.before run.back)
 
   long_front : length front ≡ run.front
   long_front = length-take-le run.front r.marks (omega (arith, long))
@@ -78,8 +82,8 @@ module _ (operation : Operation) (r : Record) (is : IsLawful r) (fits : Fits ope
   marks_are : (line_step operation r).marks ≡ front ++ (fresh ++ back)
   marks_are = ap (λ (s : Record). s.marks) step_is
 
-  pub IsMarked-step : IsMarked (line_step operation r)
-  IsMarked-step =
+  marked_step : IsMarked (line_step operation r)
+  marked_step =
       omega (
         arith,
         ap length marks_are,
@@ -93,6 +97,23 @@ module _ (operation : Operation) (r : Record) (is : IsLawful r) (fits : Fits ope
         length-run run.front run.after run.back,
         ap (λ (s : Record). length (display_lines s.text s.inlays s.folds)) step_is,
       )
+
+  widths_step : All (λ m. IsWidth m.width) (line_step operation r).marks
+  widths_step =
+      let P : Mark → Type 0 = λ m. IsWidth m.width in
+      subst (All P) (sym marks_are)
+      (All-append P front (fresh ++ back) (All-take P run.front r.marks is.widths)
+      (All-append P fresh back (All-from_Every P fresh (plain_widths r.next_stamp run.after)) (All-drop P (run.front + run.before) r.marks is.widths)))
+
+  pub IsLawful-step : IsLawful (line_step operation r)
+  unfolding line_step
+  IsLawful-step =
+      let after = lawful-operated r is.entries operation ok in
+      record {
+        entries = record { source = after.source; blocks = after.blocks; tab = after.tab; width = after.width };
+        marked = marked_step;
+        widths = widths_step;
+      }
 
   pub keeps_marks : KeepsMarks operation r
   keeps_marks =

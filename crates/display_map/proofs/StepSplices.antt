@@ -4,11 +4,12 @@ use Rattle.std.specs.List.{count_by, prefix_len}
 use Rattle.cell_units.specs.Record.{Record, plain_marks}
 use Rattle.cell_units.specs.Operation.{Operation, operated}
 use Rattle.cell_units.specs.Touched.{Touched, Rows, row_range, touched, touched_before, touched_after, one_run}
-use Rattle.cell_units.specs.LineCounts.{IsLawful, Fits, IsFresh, lines_of, line_of_row_start, line_of_row_end}
+use Rattle.cell_units.specs.Lawful.{IsAllowed, IsLawful}
+use Rattle.cell_units.specs.LineCounts.{lines_of, line_of_row_start, line_of_row_end}
 use Rattle.cell_units.proofs.OperatedLines.{keeps_lines}
-use Rattle.cell_units.proofs.LawfulOperations.{IsLawful-operated}
+use Rattle.cell_units.proofs.LawfulOperations.{lawful-operated}
 use Rattle.cell_units.proofs.TouchedRuns.{rows_are_one_run}
-use Rattle.display_map.specs.LineStep.{flags_before, flags_after, line_step, IsMarked, SplicesMarks}
+use Rattle.display_map.specs.LineStep.{flags_before, flags_after, line_step, SplicesMarks}
 use Rattle.display_map.proofs.StepRuns.{count_true, stepped_run}
 use Rattle.display_map.proofs.StepLaws.{length-run, length-marked}
 
@@ -33,16 +34,16 @@ same_run f n k f' n' k' some e =
       back = omega (arith, length-run f n k, length-run f' n' k', ap length e, m, g);
     }
 
-pub splices_marks : (operation : Operation) (r : Record) → IsLawful r → Fits operation r → IsFresh operation r → IsMarked r →
+pub splices_marks : (operation : Operation) (r : Record) → IsLawful r → IsAllowed operation r →
     (a b a' b' : ℕ) → touched operation r ≡ Rows (row_range r.text a b) (row_range (operated operation r).text a' b') →
     a ≤ b → b ≤ length r.text → a' ≤ b' → b' ≤ length (operated operation r).text → SplicesMarks operation r a b a' b'
 unfolding line_step
-splices_marks operation r is fits fresh marked a b a' b' e ab bt ab' bt' =
+splices_marks operation r is ok a b a' b' e ab bt ab' bt' =
     let after = operated operation r in
-    let k = keeps_lines r is operation fits in
+    let k = keeps_lines r is.entries operation ok in
     let run = k.run in
-    let x = rows_are_one_run r is a b ab bt in
-    let y = rows_are_one_run after (IsLawful-operated r is operation fits fresh) a' b' ab' bt' in
+    let x = rows_are_one_run r is.entries a b ab bt in
+    let y = rows_are_one_run after (lawful-operated r is.entries operation ok) a' b' ab' bt' in
     let f = line_of_row_start r a in
     let l = line_of_row_end r b in
     let f' = line_of_row_start after a' in
@@ -56,6 +57,6 @@ splices_marks operation r is fits fresh marked a b a' b' e ab bt ab' bt' =
       ap (λ (r' : Record). r'.marks)
           (stepped_run operation r after f (l + 1 - f) (l' + 1 - f') (length (lines_of r) - (l + 1)) before_are
           (after_are ∙ (λ i. one_run ((s'.front ∙ sym s.front) i) (l' + 1 - f') ((s'.back ∙ sym s.back) i)))
-          (omega (arith, marked, length-marked r, x.0, x.1)))
+          (omega (arith, is.marked, length-marked r, x.0, x.1)))
           ∙ ap (λ (n : ℕ). take f r.marks ++ (plain_marks r.next_stamp (l' + 1 - f') ++ drop n r.marks)) upto,
     )

@@ -16,12 +16,6 @@ use Rattle.display_map.specs.declared.change.Op.TheVariants.{Block, Fold, Inlay,
 use Rattle.display_map.specs.declared.change.Change as declared
 use Rattle.display_map.specs.declared.change.Change.TheVariants as changes
 
--- ---- limits
-
--- the greatest length of a text, in bytes
-abbrev pub text_limit : ℕ
-text_limit = TEXT_LIMIT
-
 -- ---- what a change asks
 
 abbrev pub inlay_of : ℕ → ℕ → Bias → List ℕ → records.Inlay
@@ -100,7 +94,7 @@ first_of (p ∷ ps) = if p.0 then Some p.1 else first_of ps
 abbrev pub edit_refusal : Record → List Splice → Option Refusal
 edit_refusal r splices = first_of (
     (not (are_ranges r.text 0 splices), BadRange)
-    ∷ (nat_lt text_limit (length (operated_all (batch splices) r).text), TooLong)
+    ∷ (nat_lt TEXT_LIMIT (length (operated_all (batch splices) r).text), TooLong)
     ∷ [])
 
 abbrev pub has_inlay : ℕ → Record → Bool

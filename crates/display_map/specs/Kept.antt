@@ -5,15 +5,16 @@ use Rattle.std.specs.declared.sync.Arc.{Arc}
 use Rattle.std.specs.declared.vec.Vec.{Vec}
 use Rattle.std.specs.Arc.{arc_value}
 use Rattle.unicode_segmentation.specs.Grapheme.{graphemes}
+use Rattle.cell_units.specs.declared.limits.TheConstants.{RUN_LIMIT, TEXT_LIMIT}
 use Rattle.cell_units.specs.Record.{Record}
 use Rattle.cell_units.specs.BufferLines.{buffer_lines}
 use Rattle.cell_line.specs.declared.element.Element.{Element}
 use Rattle.cell_line.specs.declared.lines.Run.{Run}
 use Rattle.cell_line.specs.Elements.{placed}
-use Rattle.cell_line.specs.Wrapping.{IsWidth, cuts_of}
+use Rattle.cell_units.specs.Lawful.{IsWidth}
+use Rattle.cell_line.specs.Wrapping.{cuts_of}
 use Rattle.plain_rows.specs.Rows.{Row, text_rows}
-use Rattle.display_map.specs.Replay.{State, History, state_of, present_of, versions_of, waits, run_limit}
-use Rattle.display_map.specs.Changes.{text_limit}
+use Rattle.display_map.specs.Replay.{State, History, state_of, present_of, versions_of, waits}
 use Rattle.display_map.specs.declared.event.Event as declared
 use Rattle.display_map.specs.Events.{Event, events_of}
 use Rattle.display_map.specs.declared.wrap.Wrap.{Wrap}
@@ -46,7 +47,7 @@ wrapped_rows tab lines wraps = map (λ p. text_rows (text_elements tab p.0) p.1.
 -- the record is that of the text alone, and its lines stand wrapped so
 pub record Keeps (r : Record) (text : List ℕ) (tab : ℕ) (wraps : List Wrap) : Type 0 where
   pub text_is : r.text ≡ text
-  pub text_short : length text ≤ text_limit
+  pub text_short : length text ≤ TEXT_LIMIT
   pub no_inlays : r.inlays ≡ []
   pub no_folds : r.folds ≡ []
   pub no_blocks : r.blocks ≡ []
@@ -89,7 +90,7 @@ IsNextRun wraps None = first_waiting_in wraps ≡ length wraps
 IsNextRun wraps (Some run) =
     (run.first ≡ first_waiting_in wraps)
     × (run.first < length wraps)
-    × (run.count ≡ min run_limit (prefix_len (λ w. w.waits) (drop run.first wraps)))
+    × (run.count ≡ min RUN_LIMIT (prefix_len (λ w. w.waits) (drop run.first wraps)))
     × NoneWaits wraps run.first
 
 -- a line that was sent

@@ -5,7 +5,6 @@ pub mod Replay
 pub mod Shown
 pub mod Faults
 pub mod Kept
-pub mod LineEnds
 pub mod Sending
 pub mod Splicing
 pub mod LawfulStates

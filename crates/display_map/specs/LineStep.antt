@@ -1,13 +1,12 @@
 -- Which display lines keep their marks over an operation.
-use Rattle.std.specs.Prelude.{ℕ, ◌≡◌, ◌+◌, ◌-◌, not, Bool, true, false, List, [], ◌∷◌, ◌++◌, length, map, take, drop, count_by}
+use Rattle.std.specs.Prelude.{ℕ, ◌≡◌, ◌+◌, ◌-◌, not, Bool, true, false, List, [], ◌∷◌, ◌++◌, map, take, drop, count_by}
 use Rattle.cell_units.specs.Record.{Mark, Record, plain_mark, plain_marks}
 use Rattle.cell_units.specs.Operation.{Operation, operated}
-use Rattle.cell_units.specs.Folded.{display_lines}
 use Rattle.cell_units.specs.LineCounts.{line_of_row_start, line_of_row_end}
 use Rattle.cell_units.specs.Touched.{touched, touched_before, touched_after, untouched}
 
 -- each touched line gets a fresh stamp and no width; the k-th untouched line takes the k-th of the marks that are kept.
--- They are used up exactly: there are as many untouched lines after as before
+-- Of a lawful record they are used up exactly, by the law of `step_laws`
 abbrev pub handed_on : List Bool → List Mark → ℕ → List Mark
 handed_on [] kept fresh = []
 handed_on (true ∷ lines) kept fresh = plain_mark fresh ∷ handed_on lines kept (fresh + 1)
@@ -33,10 +32,6 @@ stepped operation before after =
 -- the record after an operation, with its marks
 unfoldable pub line_step : Operation → Record → Record
 line_step operation r = stepped operation r (operated operation r)
-
--- there is one mark for each display line
-abbrev pub IsMarked : Record → Type 0
-IsMarked r = length r.marks ≡ length (display_lines r.text r.inlays r.folds)
 
 -- the k-th untouched line after the operation has the mark of the k-th before
 abbrev pub KeepsMarks : Operation → Record → Type 0

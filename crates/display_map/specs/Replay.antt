@@ -1,6 +1,7 @@
 -- What a journal makes of an opening text.
 use Rattle.std.specs.Prelude.{ℕ, ◌==◌, ◌&&◌, not, min, Bool, true, false, if◌then◌else◌, List, [], ◌∷◌, ◌++◌, length, map, take, drop, fold, find, count_by, Option, Some, None}
 use Rattle.std.specs.List.{list_any, list_all, prefix_len, last_or}
+use Rattle.cell_units.specs.declared.limits.TheConstants.{RUN_LIMIT}
 use Rattle.cell_line.specs.declared.lines.Run.{Run}
 use Rattle.cell_units.specs.Record.{Mark, Record, opened}
 use Rattle.display_map.specs.Events.{Event, Line, Did, Sent, Landed, Published}
@@ -88,13 +89,10 @@ is_held s stamp =
 abbrev pub waits : State → Mark → Bool
 waits s mark = not (mark.width == s.present.width) && not (is_held s mark.stamp)
 
-abbrev pub run_limit : ℕ
-run_limit = 128
-
 -- the run from a line on: the lines from there that wait, at most 128
 abbrev pub run_from : State → ℕ → Run
 run_from s first =
-    record { first = first; count = min run_limit (prefix_len (waits s) (drop first s.present.marks)) }
+    record { first = first; count = min RUN_LIMIT (prefix_len (waits s) (drop first s.present.marks)) }
 
 -- the first line that waits
 abbrev pub first_waiting : State → ℕ

@@ -1,9 +1,9 @@
 //! A text with the places where its lines start.
 ghost use Rattle.std.specs.Prelude.{◌≡◌, ◌<◌, ◌≤◌, [], length, slice_index_or, IfOk, string_bytes};
+ghost use Rattle.cell_units.specs.declared.limits.TheConstants.{TEXT_LIMIT};
 ghost use Rattle.cell_units.specs.Record.{line_count};
 ghost use Rattle.cell_units.specs.Text.{row_of};
 ghost use Rattle.cell_units.specs.BufferLines.{buffer_lines, line_starts, line_end};
-ghost use Rattle.display_map.specs.Changes.{text_limit};
 
 use cell_units::NoMemory;
 use std::alloc::Global;
@@ -17,22 +17,22 @@ pub(crate) struct Buffer {
 }
 
 impl Model for Buffer {
+    ghost use Rattle.cell_units.specs.declared.limits.TheConstants.{TEXT_LIMIT};
     ghost use Rattle.std.specs.Prelude.{ℕ, List, string_bytes};
 
     ghost Value = { List ℕ };
 
     ghost use Rattle.std.specs.Prelude.{◌≡◌, ◌≤◌, length};
     ghost use Rattle.cell_units.specs.BufferLines.{line_starts};
-    ghost use Rattle.display_map.specs.Changes.{text_limit};
 
     ghost view = { λ b. string_bytes b.text };
 
-    ghost invariant = { λ b. (b.starts.items ≡ line_starts (string_bytes b.text)) × (length (string_bytes b.text) ≤ text_limit) };
+    ghost invariant = { λ b. (b.starts.items ≡ line_starts (string_bytes b.text)) × (length (string_bytes b.text) ≤ TEXT_LIMIT) };
 }
 
 /// The offsets at which the lines of a text start.
 fn line_starts(alloc: Global, text: &[u8]) -> Result<Vec<u32>, NoMemory>
-    requires { length text.now ≤ text_limit }
+    requires { length text.now ≤ TEXT_LIMIT }
     ensures { IfOk result (λ starts. starts.items ≡ line_starts text.now) }
 {
     let mut starts = Vec::new(alloc);
@@ -71,7 +71,7 @@ fn line_in<'a>(text: &'a str, starts: &[u32], line: usize) -> &'a str
 
 impl Buffer {
     pub(crate) fn new(alloc: Global, text: String) -> Result<Buffer, NoMemory>
-        requires { length (string_bytes text) ≤ text_limit }
+        requires { length (string_bytes text) ≤ TEXT_LIMIT }
         ensures { IfOk result (λ buffer. buffer ≡ string_bytes text) }
     {
         let starts = line_starts(alloc, text.as_bytes())?;
@@ -81,7 +81,7 @@ impl Buffer {
     /// How many lines the text has.
     pub(crate) fn lines(&self) -> u32
         ensures count { result ≡ line_count self.now }
-        ensures size { length self.now ≤ text_limit }
+        ensures size { length self.now ≤ TEXT_LIMIT }
     {
         self.starts.len() as u32
     }
@@ -90,7 +90,7 @@ impl Buffer {
     pub(crate) fn line(&self, line: usize) -> &str
         requires { line < line_count self.now }
         ensures line { result.now ≡ slice_index_or (buffer_lines self.now) line [] }
-        ensures size { length result.now ≤ text_limit }
+        ensures size { length result.now ≤ TEXT_LIMIT }
     {
         line_in(self.text.as_str(), &self.starts, line)
     }
@@ -106,7 +106,7 @@ impl Buffer {
     /// The whole text.
     pub(crate) fn as_str(&self) -> &str
         ensures text { result.now ≡ self.now }
-        ensures size { length self.now ≤ text_limit }
+        ensures size { length self.now ≤ TEXT_LIMIT }
     {
         self.text.as_str()
     }

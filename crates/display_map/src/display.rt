@@ -1,11 +1,12 @@
 //! The display.
 ghost use Rattle.std.specs.Prelude.{◌≡◌, ◌+◌, ◌==◌, ◌^◌, ◌<◌, ◌≤◌, [], ◌∷◌, length, map, replicate, OnOk, OnErr, IfOk, IfErr, MatchResult};
 ghost use Rattle.std.specs.Arc.{arc_value};
-ghost use Rattle.std.specs.Str.{IsUtf8};
+ghost use Rattle.cell_units.specs.declared.limits.TheConstants.{TEXT_LIMIT};
+ghost use Rattle.cell_units.specs.Refusal.{IsAccepted, IsTextRefused};
 ghost use Rattle.cell_units.specs.Text.{clean};
 ghost use Rattle.display_map.specs.Events.{Did, Landed, Line, Published};
-ghost use Rattle.display_map.specs.Changes.{text_limit, ops_of, change_refusal, batch, edit_refusal};
-ghost use Rattle.display_map.specs.Faults.{event_limit, IsOpenRefused, IsRefusedAs};
+ghost use Rattle.display_map.specs.Changes.{ops_of, change_refusal, batch, edit_refusal};
+ghost use Rattle.display_map.specs.Faults.{event_limit, IsRefusedAs};
 ghost use Rattle.display_map.specs.Kept.{plain_wrap};
 ghost use Rattle.display_map.specs.Sending.{IsOutstanding, IsRunTaken};
 ghost use Rattle.display_map.specs.Replay.{present_of, appended, is_settled};
@@ -13,22 +14,19 @@ ghost use Rattle.display_map.specs.Replay.{present_of, appended, is_settled};
 use crate::buffer::Buffer;
 use crate::change::{Change, Op, Splice};
 use crate::event::Event;
-use crate::fault::TextFault;
 use crate::held::{self, Held};
 use crate::journal::Journal;
+use crate::splicing;
 use crate::version::Version;
 use crate::view::View;
 use crate::wrap::{self, Wrap};
-use crate::{cleaning, splicing};
-use cell_units::{Fault, NoMemory, Refusal, Steps};
+use cell_units::limits::TEXT_LIMIT;
+use cell_units::{Fault, NoMemory, Refusal, Steps, TextFault, cleaned, read_text};
 use std::alloc::Global;
 use std::marker::Model;
 use std::slice;
 use std::sync::Arc;
 use wrap_workers::{Done, Job};
-
-/// The greatest length of a text, in bytes.
-const TEXT_LIMIT: usize = 33_554_432;
 
 /// The tab size and the width of a text that was just opened.
 const OPENING_TAB: u32 = 4;
@@ -74,12 +72,10 @@ fn shared<T: Drop>(alloc: Global, value: T) -> Result<Arc<T>, NoMemory>
 
 /// A display of a text.
 fn opened(alloc: Global, text: &str) -> Result<Display, NoMemory>
-    requires { length text.now ≤ text_limit }
+    requires { length text.now ≤ TEXT_LIMIT }
     ensures { IfOk result (λ display. display ≡ record { opening = clean text.now; events = [] }) }
 {
-    let mut clean = String::new(alloc);
-    cleaning::push_clean(&mut clean, text)?;
-    let opening = Arc::new(alloc, Buffer::new(alloc, clean)?)?;
+    let opening = Arc::new(alloc, Buffer::new(alloc, cleaned(alloc, text)?)?)?;
     let wraps = Arc::new(alloc, wrap::plain(alloc, opening.lines())?)?;
     Ok(Display {
         text: Arc::try_clone(&opening)?,
@@ -97,18 +93,10 @@ fn opened(alloc: Global, text: &str) -> Result<Display, NoMemory>
 impl Display {
     /// A display of the bytes, in which each CR LF and then each lone CR is a LF, with an empty journal.
     pub fn start(alloc: Global, bytes: &[u8], _steps: &mut Steps) -> Result<Display, TextFault>
-        ensures started { MatchResult result (λ display. display ≡ record { opening = clean bytes.now; events = [] }) (IsOpenRefused bytes.now) }
-        ensures accepted { OnOk result ((length bytes.now ≤ text_limit) × IsUtf8 bytes.now) }
+        ensures started { MatchResult result (λ display. display ≡ record { opening = clean bytes.now; events = [] }) (IsTextRefused bytes.now) }
+        ensures accepted { OnOk result (IsAccepted bytes.now) }
     {
-        if bytes.len() > TEXT_LIMIT {
-            return Err(TextFault::TooLong);
-        }
-        match str::from_utf8(bytes) {
-            Ok(text) => Ok(opened(alloc, text)?),
-            Err(error) => Err(TextFault::NotUtf8 {
-                at: error.valid_up_to() as u64,
-            }),
-        }
+        Ok(opened(alloc, read_text(bytes)?)?)
     }
 
     /// How many events the journal may still take.

@@ -1,7 +1,8 @@
 //! The lines that a job holds.
 ghost use Rattle.std.specs.Prelude.{◌≡◌, length, slice_index_or, [], IfOk};
 ghost use Rattle.cell_line.specs.Lines.{line_at, LineFitsU32};
-ghost use Rattle.cell_line.specs.Wrapping.{IsWidth, cuts_of};
+ghost use Rattle.cell_units.specs.Lawful.{IsWidth};
+ghost use Rattle.cell_line.specs.Wrapping.{cuts_of};
 ghost use Rattle.wrap_workers.specs.Jobs.{IsLawful};
 
 use crate::buffer::Buffer;

@@ -6,10 +6,8 @@
 
 mod buffer;
 pub mod change;
-mod cleaning;
 pub mod display;
 pub mod event;
-pub mod fault;
 pub mod held;
 pub mod journal;
 pub mod laws;
@@ -23,7 +21,6 @@ mod wrap;
 pub use change::{Change, Op, Splice};
 pub use display::Display;
 pub use event::Event;
-pub use fault::TextFault;
 pub use held::Held;
 pub use journal::Journal;
 pub use laws::{job_laws, replay_laws, step_laws};

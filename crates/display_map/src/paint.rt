@@ -1,10 +1,11 @@
 //! The elements of a line, and the text of its rows.
 ghost use Rattle.std.specs.Prelude.{◌≡◌, ℕ, ◌*◌, ◌+◌, ◌^◌, ◌<◌, ◌≤◌, ◌∷◌, ◌++◌, length, replicate, slice_get, slice_index, slice_index_or, slice_range, string_bytes, IfOk, OnOk};
+ghost use Rattle.cell_units.specs.declared.limits.TheConstants.{TEXT_LIMIT};
 ghost use Rattle.cell_line.specs.Elements.{total_cells};
 ghost use Rattle.cell_line.specs.RowTexts.{later_text, shown_element, shown_elements};
-ghost use Rattle.cell_line.specs.Wrapping.{IsWidth, cuts_of};
+ghost use Rattle.cell_units.specs.Lawful.{IsWidth};
+ghost use Rattle.cell_line.specs.Wrapping.{cuts_of};
 ghost use Rattle.plain_rows.specs.Rows.{head_row, more_row, text_rows};
-ghost use Rattle.display_map.specs.Changes.{text_limit};
 ghost use Rattle.display_map.specs.Kept.{text_elements};
 ghost use Rattle.display_map.specs.Shown.{shown_row};
 
@@ -16,7 +17,7 @@ use std::alloc::Global;
 /// The elements of a line of text.
 pub(crate) fn text_elements(alloc: Global, line: &str, tab: u32) -> Result<Vec<Element>, NoMemory>
     requires tab { (1 ≤ tab) × (tab ≤ 16) }
-    requires size { length line.now ≤ text_limit }
+    requires size { length line.now ≤ TEXT_LIMIT }
     ensures { IfOk result (λ elements. elements.items ≡ text_elements tab line.now) }
 {
     let piece = Piece {
@@ -31,7 +32,7 @@ pub(crate) fn text_elements(alloc: Global, line: &str, tab: u32) -> Result<Vec<E
 /// Where a line of text is cut at a width.
 pub(crate) fn text_cuts(alloc: Global, line: &str, tab: u32, width: u32) -> Result<Cuts, NoMemory>
     requires tab { (1 ≤ tab) × (tab ≤ 16) }
-    requires size { length line.now ≤ text_limit }
+    requires size { length line.now ≤ TEXT_LIMIT }
     requires lawful { IsWidth width }
     ensures { IfOk result (λ cuts. cuts.items ≡ cuts_of (text_elements tab line.now) width) }
 {

@@ -7,11 +7,10 @@ ghost use Rattle.display_map.specs.Splicing.{did_events, is_range, spliced_text,
 
 use crate::buffer::Buffer;
 use crate::change::{Op, Splice};
-use crate::cleaning;
 use crate::event::Event;
 use crate::journal::Journal;
 use crate::wrap::Wrap;
-use cell_units::NoMemory;
+use cell_units::{NoMemory, push_clean};
 use std::alloc::Global;
 
 /// Whether a splice is an operation: it doesn't replace nothing by nothing.
@@ -65,7 +64,7 @@ pub(crate) fn spliced_text(
     let mut from = 0;
     for splice in splices {
         spliced.push_str(&text[from..splice.start as usize])?;
-        cleaning::push_clean(&mut spliced, splice.text.as_str())?;
+        push_clean(&mut spliced, splice.text.as_str())?;
         from = splice.end as usize;
     }
     spliced.push_str(&text[from..])?;
@@ -77,7 +76,7 @@ fn feeds(alloc: Global, piece: &str) -> Result<usize, NoMemory>
     ensures { IfOk result (λ feeds. (feeds ≡ count_by is_feed (clean piece.now)) × (feeds < 2 ^ 63)) }
 {
     let mut clean = String::new(alloc);
-    cleaning::push_clean(&mut clean, piece)?;
+    push_clean(&mut clean, piece)?;
     Ok(count_feeds(clean.as_bytes()))
 }
 

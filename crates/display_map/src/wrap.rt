@@ -3,17 +3,15 @@ ghost use Rattle.std.specs.Prelude.{◌≡◌, ◌+◌, ◌==◌, ◌^◌, ◌<�
 ghost use Rattle.std.specs.Arc.{arc_value};
 ghost use Rattle.std.specs.List.{list_all, prefix_len};
 ghost use Rattle.wrap_workers.specs.Jobs.{places_of};
+ghost use Rattle.cell_units.specs.declared.limits.TheConstants.{RUN_LIMIT};
 ghost use Rattle.display_map.specs.Kept.{IsNextRun, IsRowPlace, NoneWaits, landed_wraps, over_run, plain_wrap, rows_in, sent_wrap};
-ghost use Rattle.display_map.specs.Replay.{run_limit};
 ghost use Rattle.display_map.specs.Splicing.{fresh_wrap};
 
 use cell_line::{Cuts, Run};
 use cell_units::NoMemory;
+use cell_units::limits::RUN_LIMIT;
 use std::alloc::Global;
 use std::sync::Arc;
-
-/// How many lines a run may have.
-const RUN_LIMIT: usize = 128;
 
 /// How a display line stands wrapped. Its cuts aren't kept: whoever reads one of its rows makes the line's elements,
 /// and cutting them is one more scan.
@@ -104,7 +102,7 @@ fn waiting(wraps: &[Wrap]) -> usize
 /// How many lines from this one on wait, at most 128.
 pub(crate) fn run_length(wraps: &[Wrap], first: usize) -> usize
     requires { first ≤ length wraps.now }
-    ensures { result ≡ min run_limit (prefix_len (λ w. w.waits) (drop first wraps.now)) }
+    ensures { result ≡ min RUN_LIMIT (prefix_len (λ w. w.waits) (drop first wraps.now)) }
 {
     let end = wraps.len().min(first + RUN_LIMIT);
     waiting(&wraps[first..end])

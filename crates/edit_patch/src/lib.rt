@@ -16,4 +16,3 @@ pub mod patch;
 
 pub use edit::Edit;
 pub use patch::Patch;
-

@@ -1,9 +1,9 @@
 //! Texts of which the bytes are known.
-use cell_units::{Bias, Fault, Layer, NoMemory, PieceKind, Point, Refusal, Steps};
+use cell_units::{Bias, Fault, Layer, NoMemory, PieceKind, Point, Refusal, Steps, TextFault};
 use edit_patch::Edit;
 use std::alloc::Global;
 use std::test::Fail;
-use text_rope::{Rope, TextFault};
+use text_rope::Rope;
 
 /// Whether the range is one and has this text.
 fn shows(

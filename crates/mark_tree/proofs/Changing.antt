@@ -29,7 +29,7 @@ zero-of true e = absurd (cc)
 zero-of false e = omega arith
 
 abbrev pub no_shift : Shift
-no_shift = record { start = 0; end = 0; count = 0 }
+no_shift = record { start = 0; end = 0; count = 0; ordered = omega arith }
 
 module _ {X : Type 0} (le : X → X → Bool) where
   every-filter : (P : X → Type 0) (p : X → Bool) (xs : List X) → Every P xs → Every P (filter p xs)

@@ -5,7 +5,7 @@ use Rattle.std.specs.Str.{IsUtf8}
 use Rattle.cell_units.specs.Text.{IsBoundary, IsText}
 use Rattle.cell_units.specs.Record.{Block, Fold, Inlay, Mark, Record, block_le, fold_le, inlay_le}
 use Rattle.cell_units.specs.Folded.{display_lines}
-use Rattle.cell_line.specs.Wrapping.{IsWidth}
+use Rattle.cell_units.specs.Lawful.{IsWidth}
 
 -- in order: each comes at or before those behind it
 abbrev pub IsInOrder : {X : Type 0} → (X → X → Bool) → List X → Type 0

@@ -14,7 +14,8 @@ use Rattle.plain_rows.specs.Laws.{IsValidSpot}
 use Rattle.plain_rows.proofs.Lists.{IsFirst, all-contained, contains-cases, contains-filtered, contains-first, contains-later, contains-mapped, contains-none, contains-unfiltered, first_by-first}
 use Rattle.plain_rows.proofs.Clips.{clip-own, clip-valid, spot_le-antisym}
 use Rattle.plain_rows.proofs.NearestAfter.{clip-rises}
-use Rattle.row_laws.proofs.ShowRises.{ComesFirst, IsMarked, show-open_rises}
+use Rattle.cell_units.specs.Lawful.{IsMarked}
+use Rattle.row_laws.proofs.ShowRises.{ComesFirst, show-open_rises}
 
 -- what a map gives comes from one of the list
 pub contains-unmapped : {X Y : Type 0} (f : X → Y) (xs : List X) (y : Y) → Contains (map f xs) y → (x : X) × Contains xs x × (f x ≡ y)

@@ -10,7 +10,7 @@ use Rattle.cell_units.specs.Record.{Record}
 use Rattle.cell_units.specs.Inlaid.{Byte, Hidden, Token}
 use Rattle.cell_units.specs.Folded.{inside}
 use Rattle.cell_line.specs.declared.element.Element.{Element}
-use Rattle.row_laws.specs.Lawful.{IsLawful}
+use Rattle.cell_units.specs.Lawful.{IsLawful}
 use Rattle.plain_rows.specs.Spots.{elements_at, elements_before, is_open, positions, show}
 use Rattle.row_laws.proofs.ElementPlaces.{elements_before-open}
 use Rattle.row_laws.proofs.ElementSides.{HaveBytes, end_of-before, start_of-before}

@@ -9,7 +9,7 @@ use Rattle.cell_units.specs.Record.{Fold, Inlay, Record}
 use Rattle.cell_units.specs.Inlaid.{Token, inlay_bytes, inlays_at}
 use Rattle.cell_units.specs.Folded.{covered, display_lines}
 use Rattle.cell_units.proofs.TextLaws.{tells_boundaries}
-use Rattle.row_laws.specs.Lawful.{IsLawful}
+use Rattle.cell_units.specs.Lawful.{IsLawful}
 use Rattle.row_laws.proofs.PieceTexts.{AreUtf8, texts}
 use Rattle.row_laws.proofs.LineTexts.{AreGoodLines}
 use Rattle.row_laws.proofs.FoldedUnits.{AreStill, FoldsAreStill, IsStill, good-display_lines, still-from}
@@ -40,7 +40,7 @@ not_both k n b l g h = go (goes_on b) g h where
 
 module _ (r : Record) (lawful : IsLawful r) where
   pub utf8 : IsUtf8 r.text
-  utf8 = lawful.text.0
+  utf8 = lawful.entries.source.text.0
 
   -- a byte that goes on stands at no boundary
   pub no_boundary : (k j : ℕ) → k < length r.text → goes_on (get_or r.text k 0) ≡ true → IsBoundary r.text j → j ≢ k
@@ -48,15 +48,15 @@ module _ (r : Record) (lawful : IsLawful r) where
 
   pub still_at : (k : ℕ) → k < length r.text → goes_on (get_or r.text k 0) ≡ true → IsStill r.inlays r.folds k
   still_at k l g = (
-    inlays-none r.inlays k (λ j d m. no_boundary k (get_or r.inlays j d).offset l g (lawful.inlays_at_boundaries j d m)),
-    folds-still r.folds k (λ j d m. let b = lawful.folds_at_boundaries j d m in (no_boundary k (get_or r.folds j d).start l g b.0, no_boundary k (get_or r.folds j d).end l g b.1)),
+    inlays-none r.inlays k (λ j d m. no_boundary k (get_or r.inlays j d).offset l g (lawful.entries.source.inlays.each j d m).boundary),
+    folds-still r.folds k (λ j d m. let b = lawful.entries.source.folds.each j d m in (no_boundary k (get_or r.folds j d).start l g b.start, no_boundary k (get_or r.folds j d).end l g b.end)),
   )
 
   still : AreStill r.inlays r.folds 0 r.text
   still = still-from r.inlays r.folds 0 r.text (λ i l g. let at : 0 + i ≡ i = omega arith in subst (IsStill r.inlays r.folds) (sym at) (still_at i l g))
 
   pub end-shown : covered r.folds (length r.text) ≡ false
-  end-shown = covered-past r.folds (length r.text) (λ j d m. (lawful.folds_at_boundaries j d m).1.0)
+  end-shown = covered-past r.folds (length r.text) (λ j d m. (lawful.entries.source.folds.each j d m).end.0)
 
   good-at : (lines : List (List Token)) → AreGoodLines lines → (k : ℕ) → k < length lines → AreUtf8 (texts (get_or lines k []))
   good-at [] h k l = absurd (omega (arith, l))
@@ -65,4 +65,4 @@ module _ (r : Record) (lawful : IsLawful r) where
 
   pub line-texts : (k : ℕ) → k < length (display_lines r.text r.inlays r.folds) → AreUtf8 (texts (get_or (display_lines r.text r.inlays r.folds) k []))
   line-texts k l =
-      good-at (display_lines r.text r.inlays r.folds) (good-display_lines r.inlays r.folds lawful.inlays_utf8 r.text utf8 still end-shown) k l
+      good-at (display_lines r.text r.inlays r.folds) (good-display_lines r.inlays r.folds (λ j d m. (lawful.entries.source.inlays.each j d m).utf8) r.text utf8 still end-shown) k l

@@ -9,7 +9,6 @@ pub mod ElementSides
 pub mod ClusterSeams
 pub mod PieceTexts
 pub mod LineTexts
-pub mod Characters
 pub mod FoldedUnits
 pub mod LineAt
 pub mod LawfulLines
@@ -18,6 +17,4 @@ pub mod Around
 pub mod Walks
 pub mod HasBack
 pub mod RecordLaws
-pub mod Orders
-pub mod LawfulReplaced
 pub mod LawfulExample

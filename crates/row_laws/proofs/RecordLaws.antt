@@ -1,20 +1,12 @@
 -- The laws of lawful records, as they are promised.
 use Rattle.std.proofs.Common.{◌≡◌, ℕ, ◌+◌, ◌<◌, ◌≤◌, true, List, length, refl, sym, ◌∙◌, subst, inl, inr, arith}
-use Rattle.std.specs.List.{All, range_with_len}
-use Rattle.std.proofs.lemmas.List.{length-map}
-use Rattle.std.proofs.lemmas.List.FromFn.{length-range_with_len, get_or-map-range_with_len}
 use Rattle.cell_units.specs.declared.place.Bias.{Bias}
 use Rattle.cell_units.specs.declared.place.Bias.TheVariants.{Left, Right}
 use Rattle.cell_units.specs.declared.place.Spot.{Spot}
-use Rattle.cell_units.specs.Text.{IsBoundary, IsText}
-use Rattle.cell_units.specs.Record.{Mark, Record, line_count, opened, plain_mark, plain_marks}
+use Rattle.cell_units.specs.Text.{IsBoundary}
+use Rattle.cell_units.specs.Record.{Record}
 use Rattle.cell_units.proofs.TextLaws.{tells_boundaries}
-use Rattle.cell_units.proofs.Unfolded.{length-display_lines}
-use Rattle.cell_line.specs.Wrapping.{IsWidth}
-use Rattle.row_laws.specs.Lawful.{AreMarksOf, IsLawful}
-use Rattle.row_laws.proofs.LawfulReplaced.{lawful-replaced}
-use Rattle.cell_units.specs.Operation.{Replace, operated}
-use Rattle.std.specs.Str.{IsUtf8}
+use Rattle.cell_units.specs.Lawful.{IsLawful}
 use Rattle.row_laws.specs.Laws.{IsGreatestAt, IsLeastAt, IsOpenAt, IsUpTo}
 use Rattle.plain_rows.specs.Spots.{back, clip, is_open, offsets_at, show, spot_le}
 use Rattle.plain_rows.proofs.Clips.{clip-valid}
@@ -22,47 +14,23 @@ use Rattle.row_laws.proofs.ShowRises.{show-open_rises, show-rises, show-sides}
 use Rattle.row_laws.proofs.BackRises.{IsShownAt, back-own, back-picked, back-rises, contained-shown, left-picked, picked, right-picked, shown-contained}
 use Rattle.row_laws.proofs.HasBack.{has-back}
 
-marks-plain : (stamp n : ℕ) → All (λ (m : Mark). IsWidth m.width) (plain_marks stamp n)
-marks-plain stamp n k d lt =
-    let l : k < n = omega (arith, lt, length-map (range_with_len stamp n) plain_mark, length-range_with_len stamp n) in
-    subst (λ (m : Mark). IsWidth m.width) (sym (get_or-map-range_with_len plain_mark stamp n k (stamp + k) d l refl)) (inl refl)
-
--- the record of a text that was just opened is lawful
-pub opened-lawful : (text : List ℕ) → IsText text → IsLawful (opened text)
-opened-lawful text is = record {
-  text = is;
-  inlays_in_order = λ i j d x y. absurd (omega (arith, y));
-  inlays_distinct = λ i j d x y. absurd (omega (arith, y));
-  inlays_at_boundaries = λ k d y. absurd (omega (arith, y));
-  inlays_utf8 = λ k d y. absurd (omega (arith, y));
-  folds_in_order = λ i j d x y. absurd (omega (arith, y));
-  folds_distinct = λ i j d x y. absurd (omega (arith, y));
-  folds_at_boundaries = λ k d y. absurd (omega (arith, y));
-  blocks_in_order = λ i j d x y. absurd (omega (arith, y));
-  blocks_distinct = λ i j d x y. absurd (omega (arith, y));
-  blocks_at_boundaries = λ k d y. absurd (omega (arith, y));
-  tab = (omega arith, omega arith);
-  width = inr (omega arith, omega arith);
-  marks = (marks-plain 0 (line_count text), length-map (range_with_len 0 (line_count text)) plain_mark ∙ length-range_with_len 0 (line_count text) ∙ sym (length-display_lines text));
-}
-
 pub rises : (r : Record) (o p : ℕ) (bias : Bias) → IsLawful r → o ≤ p → p ≤ length r.text → spot_le (show r o bias) (show r p bias) ≡ true
-rises r o p bias lawful le within = show-rises r lawful.marks.1 o p bias le within
+rises r o p bias lawful le within = show-rises r lawful.marked o p bias le within
 
 pub sides : (r : Record) (o : ℕ) → IsLawful r → o ≤ length r.text → spot_le (show r o Left) (show r o Right) ≡ true
-sides r o lawful within = show-sides r lawful.marks.1 o within
+sides r o lawful within = show-sides r lawful.marked o within
 
 pub open-rises : (r : Record) (o : ℕ) (b : Bias) (p : ℕ) (c : Bias) → IsLawful r → is_open r o b ≡ true → is_open r p c ≡ true → IsUpTo o b p c → p ≤ length r.text → spot_le (show r o b) (show r p c) ≡ true
-open-rises r o Left p Left lawful x y h within = show-open_rises r lawful.marks.1 o Left p Left x y h within
-open-rises r o Left p Right lawful x y h within = show-open_rises r lawful.marks.1 o Left p Right x y h within
-open-rises r o Right p Left lawful x y h within = show-open_rises r lawful.marks.1 o Right p Left x y h within
-open-rises r o Right p Right lawful x y h within = show-open_rises r lawful.marks.1 o Right p Right x y h within
+open-rises r o Left p Left lawful x y h within = show-open_rises r lawful.marked o Left p Left x y h within
+open-rises r o Left p Right lawful x y h within = show-open_rises r lawful.marked o Left p Right x y h within
+open-rises r o Right p Left lawful x y h within = show-open_rises r lawful.marked o Right p Left x y h within
+open-rises r o Right p Right lawful x y h within = show-open_rises r lawful.marked o Right p Right x y h within
 
 open-shown : (r : Record) (s : Spot) (o : ℕ) → IsLawful r → IsOpenAt r s o → IsShownAt r s o
-open-shown r s o lawful h = record { bias = h.0; boundary = (tells_boundaries r.text lawful.text.0 o).1 h.1; opened = h.2; is = h.3 }
+open-shown r s o lawful h = record { bias = h.0; boundary = (tells_boundaries r.text lawful.entries.source.text.0 o).1 h.1; opened = h.2; is = h.3 }
 
 shown-open_at : (r : Record) (s : Spot) (o : ℕ) → IsLawful r → IsShownAt r s o → IsOpenAt r s o
-shown-open_at r s o lawful h = (h.bias, (tells_boundaries r.text lawful.text.0 o).0 h.boundary, h.opened, h.is)
+shown-open_at r s o lawful h = (h.bias, (tells_boundaries r.text lawful.entries.source.text.0 o).0 h.boundary, h.opened, h.is)
 
 pub least-at : (r : Record) (d : Spot) → IsLawful r → IsLeastAt r (clip r d Left) (back r d Left)
 least-at r d lawful =
@@ -83,11 +51,7 @@ greatest-at r d lawful =
     )
 
 pub backs-rise : (r : Record) (d e : Spot) (bias : Bias) → IsLawful r → spot_le d e ≡ true → back r d bias ≤ back r e bias
-backs-rise r d e bias lawful h = back-rises r lawful.marks.1 (has-back r lawful) d e bias h
+backs-rise r d e bias lawful h = back-rises r lawful.marked (has-back r lawful) d e bias h
 
 pub back-of_shown : (r : Record) (o : ℕ) (b : Bias) → IsLawful r → IsBoundary r.text o → is_open r o b ≡ true → (back r (show r o b) Left ≤ o) × (o ≤ back r (show r o b) Right)
-back-of_shown r o b lawful boundary opened = back-own r o b ((tells_boundaries r.text lawful.text.0 o).1 boundary) opened
-
-pub replaced-lawful : (r : Record) (a b : ℕ) (s : List ℕ) (marks : List Mark) (stamp : ℕ) → IsLawful r → IsBoundary r.text a → IsBoundary r.text b → a ≤ b → IsUtf8 s →
-    AreMarksOf (operated (Replace a b s) r) marks → IsLawful (record (operated (Replace a b s) r) { marks = marks; next_stamp = stamp })
-replaced-lawful r a b s marks stamp lawful from to le utf8 m = lawful-replaced r a b s marks stamp lawful from to le utf8 m.0 m.1
+back-of_shown r o b lawful boundary opened = back-own r o b ((tells_boundaries r.text lawful.entries.source.text.0 o).1 boundary) opened

@@ -12,7 +12,7 @@ use Rattle.cell_units.specs.Inlaid.{Byte, Hidden, Token, bytes_of, inlays_at, is
 use Rattle.cell_units.specs.Folded.{display_lines, folded, folded_before, shown}
 use Rattle.cell_units.specs.Pieces.{folded_lines, is_one_piece, pieces_of}
 use Rattle.cell_line.specs.Elements.{elements_of}
-use Rattle.row_laws.specs.Lawful.{IsLawful}
+use Rattle.cell_units.specs.Lawful.{IsLawful}
 use Rattle.plain_rows.specs.Spots.{elements_at, is_within}
 use Rattle.row_laws.proofs.Fronts.{after_last-break, after_last-other}
 use Rattle.row_laws.proofs.ElementSides.{HaveBytes, zero_apart}

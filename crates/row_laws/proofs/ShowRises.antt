@@ -10,6 +10,7 @@ use Rattle.cell_units.specs.declared.place.Spot.{Spot}
 use Rattle.cell_units.specs.declared.piece.Piece.{Piece}
 use Rattle.cell_units.specs.Record.{Record}
 use Rattle.cell_units.specs.Inlaid.{Token, bytes_of, is_break}
+use Rattle.cell_units.specs.Lawful.{IsMarked}
 use Rattle.cell_units.specs.Folded.{display_lines, folded, inside, line_of, place_in_line}
 use Rattle.cell_units.specs.Pieces.{folded_lines, pieces_of}
 use Rattle.cell_line.specs.Elements.{elements_of}
@@ -21,10 +22,6 @@ use Rattle.row_laws.proofs.ElementPlaces.{elements_before-open, elements_before-
 use Rattle.row_laws.proofs.LineSpots.{spot_in_line-rises, spot_in_line-row}
 use Rattle.row_laws.proofs.FoldedFronts.{to-across, to-folded, to-rises, to-sides, tokens_to}
 use Rattle.row_laws.proofs.RowsInOrder.{lines-breaks, rows_before-later}
-
--- there is a mark for each display line
-abbrev pub IsMarked : Record → Type 0
-IsMarked r = length r.marks ≡ length (display_lines r.text r.inlays r.folds)
 
 abbrev pub line_in : List Token → ℕ
 line_in tokens = count_by is_break tokens

@@ -9,7 +9,7 @@ use Rattle.cell_units.specs.Record.{Record}
 use Rattle.cell_units.specs.Inlaid.{Byte, Hidden, Token, bytes_of, is_break}
 use Rattle.cell_units.specs.Folded.{covered, inside}
 use Rattle.cell_line.specs.declared.element.Element.{Element}
-use Rattle.row_laws.specs.Lawful.{IsLawful}
+use Rattle.cell_units.specs.Lawful.{IsLawful}
 use Rattle.plain_rows.specs.Spots.{elements_at, is_within}
 use Rattle.row_laws.proofs.Fronts.{after_last-other}
 use Rattle.row_laws.proofs.ElementSides.{end_of, end_of-last, end_of-next, start_of, start_of-first, start_of-next}

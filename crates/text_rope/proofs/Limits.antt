@@ -8,7 +8,7 @@ use Rattle.text_rope.specs.Ropes.{IsRope}
 use Rattle.text_rope.specs.Sizes.{SizeFits, total_size}
 use Rattle.text_rope.proofs.Chunks.{feeds_within, no_more_chunks, total_bytes, total_chunks, total_feeds}
 use Rattle.text_rope.proofs.Fullness.{AreFilled, filled_full, full_few}
-use Rattle.text_rope.proofs.Returns.{clean-not_longer}
+use Rattle.cell_units.proofs.Returns.{clean-not_longer}
 
 -- the chunks of bytes that were cleaned are those of a rope
 pub cleaned_rope : (chunks : List (List ℕ)) (bytes : List ℕ) → AreChunks chunks → AreFilled chunks (length (clean bytes)) → concat chunks ≡ clean bytes → length bytes ≤ 33554432 → IsRope chunks

@@ -6,8 +6,9 @@ use Rattle.cell_units.specs.Text.{is_feed, row_of}
 use Rattle.cell_units.proofs.BufferLines.{feeds-append}
 use Rattle.text_rope.specs.Chunks.{AreChunks}
 use Rattle.text_rope.specs.Finds.{IsBefore}
-use Rattle.text_rope.specs.Points.{IsFirstBoundary, IsLastBoundary}
-use Rattle.text_rope.specs.Ropes.{IsRope, limit}
+use Rattle.cell_units.specs.Points.{IsFirstBoundary, IsLastBoundary}
+use Rattle.cell_units.specs.declared.limits.TheConstants.{TEXT_LIMIT}
+use Rattle.text_rope.specs.Ropes.{IsRope}
 use Rattle.text_rope.specs.declared.chunk.TextSize.{TextSize}
 use Rattle.text_rope.proofs.Chunks.{feeds_within, total_feeds}
 use Rattle.text_rope.proofs.Places.{boundary_into, boundary_out, take_found, within_chunk}
@@ -48,5 +49,5 @@ row_here chunks offset r front found e =
     )
 
 -- no row is past the limit of a text
-pub row_small : (chunks : List (List ℕ)) (offset : ℕ) → IsRope chunks → row_of (concat chunks) offset ≤ limit
+pub row_small : (chunks : List (List ℕ)) (offset : ℕ) → IsRope chunks → row_of (concat chunks) offset ≤ TEXT_LIMIT
 row_small chunks offset rope = omega (arith, feeds_within (take offset (concat chunks)), length-take offset (concat chunks), rope.small)

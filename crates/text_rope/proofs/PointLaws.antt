@@ -8,7 +8,7 @@ use Rattle.cell_units.specs.declared.place.Bias.{Bias}
 use Rattle.cell_units.specs.declared.place.Bias.TheVariants.{Left, Right}
 use Rattle.cell_units.specs.declared.place.Point.{Point}
 use Rattle.cell_units.specs.Layers.{point_of}
-use Rattle.text_rope.specs.Points.{IsAtPoint, IsNearBoundary}
+use Rattle.cell_units.specs.Points.{IsAtPoint, IsNearBoundary}
 use Rattle.cell_units.proofs.PlainLayers.{line_of_offset}
 use Rattle.cell_units.proofs.ReplacedRows.{row_of-lt}
 use Rattle.text_rope.proofs.RowStarts.{row_start_is}

@@ -10,7 +10,8 @@ use Rattle.cell_units.specs.Operation.{replaced_text}
 use Rattle.text_rope.specs.Chunks.{AreChunks, AreFull, IsChunk, least}
 use Rattle.text_rope.specs.Edits.{IsNeighbourBefore, IsNeighbourBehind, IsPartBefore, IsPartBehind, IsRange, IsRenewed}
 use Rattle.text_rope.specs.Finds.{IsBefore}
-use Rattle.text_rope.specs.Ropes.{IsRope, limit}
+use Rattle.cell_units.specs.declared.limits.TheConstants.{TEXT_LIMIT}
+use Rattle.text_rope.specs.Ropes.{IsRope}
 use Rattle.text_rope.specs.declared.chunk.TextSize.{TextSize}
 use Rattle.text_rope.proofs.Fullness.{AreFilled, filled_full, full_few, renewed_full}
 use Rattle.text_rope.proofs.Parts.{in_two}
@@ -157,7 +158,7 @@ renewed_within chunks start end s r front back chunk rope range found from withi
 
 -- and they make the chunks of a rope, where the new text is within the limit
 pub renewed_rope : (chunks : List (List ℕ)) (start end : ℕ) (s : List ℕ) (from to : ℕ) (made : List (List ℕ)) → IsRope chunks → IsRenewed chunks start end s from to made →
-    All (λ b. b ≢ carriage_return) s → length (replaced_text (concat chunks) start end s) ≤ limit → IsRope (take from chunks ++ made ++ drop to chunks)
+    All (λ b. b ≢ carriage_return) s → length (replaced_text (concat chunks) start end s) ≤ TEXT_LIMIT → IsRope (take from chunks ++ made ++ drop to chunks)
 renewed_rope chunks start end s from to made rope new clean small =
     let text = concat chunks in
     let none : All (λ b. b ≢ carriage_return) (take start text ++ (s ++ drop end text)) =

@@ -9,7 +9,7 @@ use Rattle.cell_units.specs.declared.fault.Refusal.TheVariants.{BadRange, TooLon
 use Rattle.edit_patch.specs.declared.edit.Edit.{Edit}
 use Rattle.edit_patch.specs.Fits.{replacement}
 use Rattle.text_rope.specs.Chunks.{AreChunks, AreFull, least}
-use Rattle.text_rope.specs.Ropes.{limit}
+use Rattle.cell_units.specs.declared.limits.TheConstants.{TEXT_LIMIT}
 
 -- a range of the text, from a boundary to one that isn't before it
 abbrev pub IsRange : List ℕ → ℕ → ℕ → Type 0
@@ -18,7 +18,7 @@ IsRange text start end = (start ≤ end) × IsBoundary text start × IsBoundary 
 -- the range was replaced by the clean text s, of which the patch tells
 pub record IsReplaced (old : List ℕ) (start end : ℕ) (s new : List ℕ) (patch : List Edit) : Type 0 where
   pub range : IsRange old start end
-  pub small : length new ≤ limit
+  pub small : length new ≤ TEXT_LIMIT
   pub text : new ≡ replaced_text old start end s
   pub patch_is : patch ≡ replacement start end (length s)
 
@@ -26,7 +26,7 @@ pub record IsReplaced (old : List ℕ) (start end : ℕ) (s new : List ℕ) (pat
 -- which there may be no memory.
 abbrev pub IsReplaceFault : List ℕ → ℕ → ℕ → List ℕ → Fault → Type 0
 IsReplaceFault text start end s (Refused BadRange) = ¬ IsRange text start end
-IsReplaceFault text start end s (Refused TooLong) = IsRange text start end × (limit < length (replaced_text text start end s))
+IsReplaceFault text start end s (Refused TooLong) = IsRange text start end × (TEXT_LIMIT < length (replaced_text text start end s))
 IsReplaceFault text start end s (Refused _) = ⊥
 IsReplaceFault text start end s NoMemory = IsRange text start end
 

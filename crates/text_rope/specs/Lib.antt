@@ -4,5 +4,4 @@ pub mod Ropes
 pub mod Orders
 pub mod RowSizes
 pub mod Finds
-pub mod Points
 pub mod Edits

@@ -3,7 +3,7 @@ ghost use Rattle.std.specs.Prelude.{◌≡◌, ◌+◌, ◌*◌, ◌/◌, ◌≤
 ghost use Rattle.std.specs.List.{concat};
 ghost use Rattle.cell_units.specs.Text.{IsBoundary, is_feed, row_of};
 ghost use Rattle.text_rope.specs.Finds.{IsBefore};
-ghost use Rattle.text_rope.specs.Points.{IsNearBoundary};
+ghost use Rattle.cell_units.specs.Points.{IsNearBoundary};
 ghost use Rattle.text_rope.specs.Ropes.{HasHeight, IsFront, IsRope};
 
 use crate::chunk::{Chunk, TextSize, count_feeds};

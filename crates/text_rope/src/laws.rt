@@ -4,7 +4,7 @@ ghost use Rattle.cell_units.specs.Text.{IsBoundary};
 ghost use Rattle.cell_units.specs.declared.place.Bias.{Bias};
 ghost use Rattle.cell_units.specs.declared.place.Point.{Point};
 ghost use Rattle.cell_units.specs.Layers.{point_of};
-ghost use Rattle.text_rope.specs.Points.{IsAtPoint};
+ghost use Rattle.cell_units.specs.Points.{IsAtPoint};
 
 /// Laws of every text: a point has one offset, and the point of a boundary has that boundary for either bias. It does
 /// nothing.

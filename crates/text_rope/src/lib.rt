@@ -6,9 +6,7 @@
 #![tactic(auto)]
 
 mod chunk;
-mod cleaning;
 mod edit;
-mod fault;
 mod find;
 mod laws;
 mod layer;
@@ -16,8 +14,6 @@ mod rope;
 mod rows;
 
 pub use chunk::{Chunk, TextSize};
-pub use fault::TextFault;
 pub use laws::point_laws;
-pub use rope::{LIMIT, Rope};
+pub use rope::Rope;
 pub use rows::RowSize;
-

@@ -7,23 +7,22 @@ ghost use Rattle.cell_units.specs.Operation.{replaced_text};
 ghost use Rattle.cell_units.specs.Record.{line_count};
 ghost use Rattle.cell_units.specs.Text.{IsBoundary, IsText, clean};
 ghost use Rattle.text_rope.specs.Edits.{IsReplaceFault, IsReplaced};
-ghost use Rattle.text_rope.specs.Points.{IsAtPoint};
-ghost use Rattle.text_rope.specs.Ropes.{HasHeight, IsMadeOf, IsRefusal, limit};
+ghost use Rattle.cell_units.specs.Points.{offset_at};
+ghost use Rattle.cell_units.specs.Refusal.{IsAccepted, IsTextRefused};
+ghost use Rattle.text_rope.specs.Ropes.{HasHeight};
 
 use crate::chunk::{Chunk, chunks_of};
-use crate::cleaning::cleaned;
 use crate::edit::{is_range, patch_of, renewal_of};
-use crate::fault::TextFault;
 use crate::find::{before, gather, is_boundary, near_boundary, row_at};
 use crate::rows::{end_of_row, start_of_row};
-use cell_units::{Bias, Fault, NoMemory, Point, Refusal, Steps, Text};
+use cell_units::limits::TEXT_LIMIT;
+use cell_units::{
+    Bias, Fault, NoMemory, Point, Refusal, Steps, Text, TextFault, cleaned, read_text,
+};
 use edit_patch::Patch;
 use std::alloc::Global;
 use std::marker::Model;
 use sum_tree::SumTree;
-
-/// The most bytes in a text.
-pub const LIMIT: usize = 33_554_432;
 
 /// A text. Ropes share what they have in common, and no later change of the one is seen by another.
 ///
@@ -50,21 +49,10 @@ impl Rope {
     /// The text of these bytes, with each CR LF and then each lone CR turned into LF. `TooLong` where there are more than
     /// 33,554,432 bytes, and else `NotUtf8` where they aren't UTF-8, with the length of the longest prefix that is.
     pub fn from_bytes(alloc: Global, bytes: &[u8], steps: &mut Steps) -> Result<Rope, TextFault>
-        ensures cases { MatchResult result (λ r. (r ≡ clean bytes.now) × IsMadeOf bytes.now) (IsRefusal bytes.now) }
+        ensures cases { MatchResult result (λ r. (r ≡ clean bytes.now) × IsAccepted bytes.now) (IsTextRefused bytes.now) }
         ensures steps { steps.new ≤ steps.old + 8 * (length bytes.now / 64 + 1) }
     {
-        if bytes.len() > LIMIT {
-            return Err(TextFault::TooLong);
-        }
-        let text = match str::from_utf8(bytes) {
-            Ok(text) => text,
-            Err(error) => {
-                return Err(TextFault::NotUtf8 {
-                    at: error.valid_up_to() as u64,
-                });
-            }
-        };
-        let text = cleaned(alloc, text)?;
+        let text = cleaned(alloc, read_text(bytes)?)?;
         let chunks = SumTree::from_vec(alloc, chunks_of(alloc, text.as_str())?, steps)?;
         Ok(Rope { chunks })
     }
@@ -81,7 +69,7 @@ impl Rope {
     /// The number of bytes, which is at most 33,554,432. They are UTF-8 without carriage returns.
     pub fn len(&self) -> u32
         ensures value { result ≡ length self.now }
-        ensures within { result ≤ limit }
+        ensures within { result ≤ TEXT_LIMIT }
         ensures text { IsText self.now }
     {
         self.chunks.sum().bytes
@@ -116,7 +104,7 @@ impl Rope {
         }
         let text = cleaned(alloc, text)?;
         let kept = (self.chunks.sum().bytes - (end - start)) as usize;
-        if text.len() > LIMIT - kept {
+        if text.len() > TEXT_LIMIT - kept {
             return Err(Fault::Refused(Refusal::TooLong));
         }
         let patch = patch_of(alloc, start, end, text.len() as u32)?;
@@ -163,7 +151,7 @@ impl Rope {
     /// The offset of a point: past the last row the text's end, past a row's end that end, and inside a character its start
     /// (Left) or its end (Right).
     pub fn offset_of(&self, point: Point, bias: Bias, steps: &mut Steps) -> u32
-        ensures offset { IsAtPoint self.now point bias result }
+        ensures offset { result ≡ offset_at self.now point bias }
         ensures boundary { IsBoundary self.now result }
         ensures steps { (h : ℕ) → HasHeight h self.now → steps.new ≤ steps.old + 384 * (h + 1) }
     {

@@ -1,9 +1,9 @@
 //! What is timed of ropes.
 
 use crate::numbers::Numbers;
-use cell_units::{Bias, Fault, NoMemory, Point, Steps};
+use cell_units::{Bias, Fault, NoMemory, Point, Steps, TextFault};
 use std::alloc::Global;
-use text_rope::{Rope, TextFault};
+use text_rope::Rope;
 
 /// The bytes of a line of the timed text, with its feed.
 const LINE: u32 = 64;

@@ -4,7 +4,9 @@ use Rattle.smallvec.specs.SmallVec.{SmallVec}
 use Rattle.cell_line.specs.declared.element.Element.{Element}
 use Rattle.cell_line.specs.declared.lines.Run.{Run}
 use Rattle.cell_line.specs.Lines.{FitsU32}
-use Rattle.cell_line.specs.Wrapping.{IsWidth, cuts_of}
+use Rattle.cell_units.specs.declared.limits.TheConstants.{RUN_LIMIT}
+use Rattle.cell_units.specs.Lawful.{IsWidth}
+use Rattle.cell_line.specs.Wrapping.{cuts_of}
 
 -- what a contract sees of a job
 pub record JobParts (N : Type 0) : Type 0 where
@@ -18,9 +20,9 @@ pub record DoneParts (N : Type 0) : Type 0 where
   pub job : JobParts N
   pub wraps : List (List ℕ)
 
--- the run has 1 to 128 lines, and lies in so many
+-- the run has a line at least and no more than the limit, and lies in so many
 abbrev pub IsRunIn : ℕ → Run → Type 0
-IsRunIn lines run = (1 ≤ run.count) × (run.count ≤ 128) × (run.first + run.count ≤ lines)
+IsRunIn lines run = (1 ≤ run.count) × (run.count ≤ RUN_LIMIT) × (run.first + run.count ≤ lines)
 
 -- lines whose sizes fit u32, a run in them and a lawful width
 abbrev pub IsLawful : List (List Element) → Run → ℕ → Type 0

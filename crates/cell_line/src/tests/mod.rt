@@ -1,7 +1,7 @@
 //! Lines whose elements and cuts are known.
 ghost use Rattle.std.specs.Prelude.{◌≡◌, ◌<◌, length, IfOk};
 ghost use Rattle.cell_line.specs.Elements.{bytes_in};
-ghost use Rattle.cell_line.specs.Wrapping.{IsWidth};
+ghost use Rattle.cell_units.specs.Lawful.{IsWidth};
 
 use crate::element::Element;
 use crate::laws::{line_laws, worked_rows};

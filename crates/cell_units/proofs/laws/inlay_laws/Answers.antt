@@ -1,5 +1,5 @@
 use Rattle.cell_units.proofs.Folding.{folded-inlaid}
-use Rattle.cell_units.proofs.InlaidPlaces.{left-is, right-is}
+use Rattle.cell_units.proofs.InlaidPlaces.{inlaid-unfolded, left-is, right-is}
 use Rattle.cell_units.proofs.OneRow.{lines-in_one_row}
 use Rattle.cell_units.proofs.laws.inlay_laws.Goals as goal
 
@@ -14,3 +14,6 @@ returns-clause-right c = right-is
 
 pub returns-clause-one_row : goal.returns-clause-one_row
 returns-clause-one_row c = lines-in_one_row
+
+pub returns-clause-place : goal.returns-clause-place
+returns-clause-place c = inlaid-unfolded

@@ -3,19 +3,13 @@ use Rattle.std.specs.Arc.{arc_value}
 use Rattle.cell_units.specs.Text.{clean}
 use Rattle.cell_units.specs.Record.{line_count}
 use Rattle.display_map.specs.Kept.{plain_wrap}
-use Rattle.display_map.proofs.CleanRest.{length-clean}
+use Rattle.cell_units.proofs.Returns.{clean-not_longer}
 use Rattle.display_map.proofs.KeptHistories.{kept-opened}
 use Rattle.display_map.proofs.display.opened.Goals as goal
 
 pub new-requires : goal.new-requires
 new-requires c =
-    let text = c.args.text.now in
-    omega (
-      arith,
-      ap length (c.in_ok-push_clean.ensures ∙ ap (λ (l : List ℕ). l ++ clean text) c.new-clean.ensures.bytes),
-      length-clean text,
-      c.requires,
-    )
+    omega (arith, ap length c.in_ok-cleaned.ensures, clean-not_longer c.args.text.now, c.requires)
 
 pub invariant_of-result : goal.invariant_of-result
 invariant_of-result c =

@@ -1,9 +1,9 @@
 use Rattle.display_map.proofs.StepSplices.{splices_marks}
-use Rattle.display_map.proofs.StepLaws.{IsMarked-step, gives_fresh_marks, keeps_marks}
+use Rattle.display_map.proofs.StepLaws.{IsLawful-step, gives_fresh_marks, keeps_marks}
 use Rattle.display_map.proofs.laws.step_laws.Goals as goal
 
-pub returns-clause-one_each : goal.returns-clause-one_each
-returns-clause-one_each c = IsMarked-step
+pub returns-clause-lawful : goal.returns-clause-lawful
+returns-clause-lawful c = IsLawful-step
 
 pub returns-clause-handed_on : goal.returns-clause-handed_on
 returns-clause-handed_on c = keeps_marks

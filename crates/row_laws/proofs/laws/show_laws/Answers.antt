@@ -1,9 +1,5 @@
-use Rattle.row_laws.proofs.LawfulExample.{example-lawful}
-use Rattle.row_laws.proofs.RecordLaws.{back-of_shown, backs-rise, greatest-at, least-at, open-rises, opened-lawful, replaced-lawful, rises, sides}
+use Rattle.row_laws.proofs.RecordLaws.{back-of_shown, backs-rise, greatest-at, least-at, open-rises, rises, sides}
 use Rattle.row_laws.proofs.laws.show_laws.Goals as goal
-
-pub returns-clause-opened_is_lawful : goal.returns-clause-opened_is_lawful
-returns-clause-opened_is_lawful c = opened-lawful
 
 pub returns-clause-show_rises : goal.returns-clause-show_rises
 returns-clause-show_rises c = rises
@@ -25,9 +21,3 @@ returns-clause-back_rises c = backs-rise
 
 pub returns-clause-back_of_shown : goal.returns-clause-back_of_shown
 returns-clause-back_of_shown c = back-of_shown
-
-pub returns-clause-replaced_is_lawful : goal.returns-clause-replaced_is_lawful
-returns-clause-replaced_is_lawful c = replaced-lawful
-
-pub returns-clause-worked_is_lawful : goal.returns-clause-worked_is_lawful
-returns-clause-worked_is_lawful c = example-lawful

@@ -1,7 +1,7 @@
 use Rattle.std.proofs.Common.{◌+◌, ℕ, sym, subst}
 use Rattle.std.specs.List.{concat}
 use Rattle.cell_units.specs.declared.place.Bias.{Bias}
-use Rattle.text_rope.specs.Points.{IsFirstBoundary, IsLastBoundary, IsNearBoundary}
+use Rattle.cell_units.specs.Points.{IsFirstBoundary, IsLastBoundary, IsNearBoundary}
 use Rattle.text_rope.proofs.Nearest.{near_left, near_right}
 use Rattle.text_rope.proofs.find.near_boundary.Goals as goal
 use Rattle.text_rope.proofs.find.near_boundary.Goals.{in-Left, in-Right}

@@ -1,11 +1,12 @@
 use Rattle.std.proofs.Common.{◌≡◌, ◌<◌, ◌≤◌, ℕ, List, length, true, ap, sym, subst, ◌∙◌, arith, Some, None}
 use Rattle.std.specs.Arc.{arc_value}
 use Rattle.std.specs.String.{string_bytes}
+use Rattle.cell_units.specs.declared.limits.TheConstants.{TEXT_LIMIT}
 use Rattle.cell_units.specs.declared.fault.Refusal.TheVariants.{TooLong}
 use Rattle.cell_units.specs.Record.{line_count}
 use Rattle.display_map.specs.Events.{Event}
 use Rattle.display_map.specs.declared.wrap.Wrap.{Wrap}
-use Rattle.display_map.specs.Changes.{are_ranges, edit_refusal, text_limit}
+use Rattle.display_map.specs.Changes.{are_ranges, edit_refusal}
 use Rattle.display_map.specs.Kept.{KeepsHistory}
 use Rattle.display_map.specs.Replay.{History, present_of, appended}
 use Rattle.display_map.specs.Splicing.{did_events, fresh_wrap, spliced_text, spliced_wraps}
@@ -23,7 +24,7 @@ returns-then-len-gt-TEXT_LIMIT-clause-refused c =
     ap (λ (t : List ℕ). are_ranges t 0 splices) (sym (c.as_str.ensures.text ∙ c.deref.ensures)) ∙ sym c.if-not-are_ranges.ensures in
     let is : string_bytes c.in_ok-text.text ≡ spliced_text text 0 splices =
     c.in_ok-text.ensures ∙ ap (λ (t : List ℕ). spliced_text t 0 splices) (c.as_str-2.ensures.text ∙ c.deref-2.ensures) in
-    let long : text_limit < length (spliced_text text 0 splices) = omega (arith, ap length is, c.len.ensures, c.if-len-gt-TEXT_LIMIT.true) in
+    let long : TEXT_LIMIT < length (spliced_text text 0 splices) = omega (arith, ap length is, c.len.ensures, c.if-len-gt-TEXT_LIMIT.true) in
     subst (λ (h : History). edit_refusal (present_of h) splices ≡ Some TooLong) c.self.view_is
     (too_long h splices text d.tab d.width (arc_value d.wraps).items d.versions d.jobs d.first c.self.invariant ok long)
 
@@ -49,7 +50,7 @@ invariant_of-self-2 c =
     ap (λ (t : List ℕ). are_ranges t 0 splices) (sym (c.as_str.ensures.text ∙ c.deref.ensures)) ∙ sym c.if-not-are_ranges.ensures in
     let is : string_bytes c.in_ok-text.text ≡ spliced_text text 0 splices =
     c.in_ok-text.ensures ∙ ap (λ (t : List ℕ). spliced_text t 0 splices) (c.as_str-2.ensures.text ∙ c.deref-2.ensures) in
-    let short : length (spliced_text text 0 splices) ≤ text_limit = omega (arith, ap length is, c.len.ensures, c.if-len-gt-TEXT_LIMIT.false) in
+    let short : length (spliced_text text 0 splices) ≤ TEXT_LIMIT = omega (arith, ap length is, c.len.ensures, c.if-len-gt-TEXT_LIMIT.false) in
     let own = c.deref-5.ensures.value ∙ ap (λ w. w.items) c.deref-4.ensures in
     let lines : (arc_value c.in_ok-wraps-2.wraps).items ≡ spliced_wraps (fresh_wrap d.width) text wraps 0 splices =
     ap (λ w. w.items) c.in_ok-wraps-2.ensures
@@ -72,6 +73,6 @@ returns-clause-accepted c =
     ap (λ (t : List ℕ). are_ranges t 0 splices) (sym (c.as_str.ensures.text ∙ c.deref.ensures)) ∙ sym c.if-not-are_ranges.ensures in
     let is : string_bytes c.in_ok-text.text ≡ spliced_text text 0 splices =
     c.in_ok-text.ensures ∙ ap (λ (t : List ℕ). spliced_text t 0 splices) (c.as_str-2.ensures.text ∙ c.deref-2.ensures) in
-    let short : length (spliced_text text 0 splices) ≤ text_limit = omega (arith, ap length is, c.len.ensures, c.if-len-gt-TEXT_LIMIT.false) in
+    let short : length (spliced_text text 0 splices) ≤ TEXT_LIMIT = omega (arith, ap length is, c.len.ensures, c.if-len-gt-TEXT_LIMIT.false) in
     subst (λ (h : History). edit_refusal (present_of h) splices ≡ None) c.self.view_is
     (not_refused h splices text d.tab d.width (arc_value d.wraps).items d.versions d.jobs d.first c.self.invariant ok short)

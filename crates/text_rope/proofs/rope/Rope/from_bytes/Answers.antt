@@ -9,15 +9,15 @@ use Rattle.text_rope.proofs.rope.Rope.from_bytes.Goals.{In_ok-chunks_of}
 
 -- the chunks are those of the clean bytes
 text_is : (c : In_ok-chunks_of) → concat c.in_ok-chunks_of.field-0.items ≡ clean c.args.bytes.now
-text_is c = c.in_ok-chunks_of.ensures.text ∙ c.as_str.ensures.value ∙ c.in_ok-text.ensures ∙ ap clean c.in-Ok.ensures.cases.0
+text_is c = c.in_ok-chunks_of.ensures.text ∙ c.as_str.ensures.value ∙ c.in_ok-text.ensures ∙ ap clean c.in_ok-read_text.ensures.0
 
 made : (c : In_ok-chunks_of) → IsRope c.in_ok-chunks_of.field-0.items
 made c =
     let chunks = c.in_ok-chunks_of in
     let bytes = c.args.bytes.now in
-    let text : c.as_str.result.now ≡ clean bytes = c.as_str.ensures.value ∙ c.in_ok-text.ensures ∙ ap clean c.in-Ok.ensures.cases.0 in
+    let text : c.as_str.result.now ≡ clean bytes = c.as_str.ensures.value ∙ c.in_ok-text.ensures ∙ ap clean c.in_ok-read_text.ensures.0 in
     let filled = subst (λ (t : List ℕ). AreFilled chunks.field-0.items (length t)) text chunks.ensures.filled in
-    cleaned_rope chunks.field-0.items bytes chunks.ensures.chunks filled (text_is c) (omega (arith, c.if-bytes-gt-LIMIT.false))
+    cleaned_rope chunks.field-0.items bytes chunks.ensures.chunks filled (text_is c) c.in_ok-read_text.ensures.1.0
 
 few : (c : In_ok-chunks_of) (s0 s1 : ℕ) → s1 ≤ s0 + 4 * (length c.in_ok-chunks_of.field-0.items + 1) → s1 ≤ s0 + 8 * (length c.args.bytes.now / 64 + 1)
 few c s0 s1 le = omega (arith, le, chunks_of_bytes c.in_ok-chunks_of.field-0.items c.args.bytes.now (made c) (text_is c))

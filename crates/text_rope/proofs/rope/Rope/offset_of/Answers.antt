@@ -5,7 +5,8 @@ use Rattle.cell_units.proofs.BufferLines.{line_bounds}
 use Rattle.cell_units.specs.Text.{IsBoundary}
 use Rattle.cell_units.specs.declared.place.Bias.{Bias}
 use Rattle.cell_units.specs.declared.place.Bias.TheVariants.{Left, Right}
-use Rattle.text_rope.specs.Points.{IsNearBoundary}
+use Rattle.cell_units.specs.Points.{IsNearBoundary}
+use Rattle.cell_units.proofs.Points.{offset_is}
 use Rattle.text_rope.specs.declared.chunk.TextSize.{TextSize}
 use Rattle.text_rope.proofs.Chunks.{total_bytes, total_feeds}
 use Rattle.std.specs.Str.{IsUtf8}
@@ -18,11 +19,12 @@ use Rattle.text_rope.proofs.rope.Rope.offset_of.Goals.{After-end_of_row-end}
 pub returns-then-point-sum-clause-offset : goal.returns-then-point-sum-clause-offset
 returns-then-point-sum-clause-offset c =
     let lines = line_count_sum c.self.inside.chunks c.args.self.now c.sum-sum.result c.sum-sum.ensures c.self.view_is in
-    record {
+    let utf8 : IsUtf8 c.args.self.now = subst IsUtf8 c.self.view_is (chunks_utf8 c.self.inside.chunks c.self.invariant.cut) in
+    offset_is c.args.self.now utf8 c.args.point c.args.bias c.sum-sum.result.bytes (record {
       past_rows = λ _. ap (λ (s : TextSize). s.bytes) c.sum-sum.ensures ∙ total_bytes c.self.inside.chunks ∙ ap (λ (t : List ℕ). length t) c.self.view_is;
       past_end = λ le _. absurd (omega (arith, le, lines, c.if-point-sum.true));
       in_row = λ le _. absurd (omega (arith, le, lines, c.if-point-sum.true));
-    }
+    })
 
 pub start_of_row-start-requires-clause-within : goal.start_of_row-start-requires-clause-within
 start_of_row-start-requires-clause-within c = omega (arith, ap (λ (s : TextSize). s.feeds) c.sum-sum.ensures ∙ total_feeds c.self.inside.chunks, c.if-point-sum.false)
@@ -52,11 +54,12 @@ overflow_sub-end c = (bounds (goal.at.overflow_sub-end c).After-end_of_row-end).
 pub returns-then-point-end-clause-offset : goal.returns-then-point-end-clause-offset
 returns-then-point-end-clause-offset c =
     let here = (goal.at.returns-then-point-end-clause-offset c).After-end_of_row-end in
-    record {
+    let utf8 : IsUtf8 c.args.self.now = subst IsUtf8 c.self.view_is (chunks_utf8 c.self.inside.chunks c.self.invariant.cut) in
+    offset_is c.args.self.now utf8 c.args.point c.args.bias c.end_of_row-end.result (record {
       past_rows = λ past. absurd (omega (arith, past, row_within here));
       past_end = λ _ _. end_is here;
       in_row = λ _ le. absurd (omega (arith, le, start_is here, end_is here, c.if-point-end.true));
-    }
+    })
 
 pub near_boundary-requires-clause-within : goal.near_boundary-requires-clause-within
 near_boundary-requires-clause-within c = omega (arith, (bounds (goal.at.near_boundary-requires-clause-within c).After-end_of_row-end), c.if-point-end.false, ap (λ (t : List ℕ). length t) c.self.view_is)
@@ -66,12 +69,13 @@ returns-clause-offset c =
     let here = (goal.at.returns-clause-offset c).After-end_of_row-end in
     let text = c.args.self.now in
     let place : c.start_of_row-start.result + c.args.point.column ≡ line_start text c.args.point.row + c.args.point.column = ap (λ (n : ℕ). n + c.args.point.column) (start_is here) in
-    record {
+    let utf8 : IsUtf8 text = subst IsUtf8 c.self.view_is (chunks_utf8 c.self.inside.chunks c.self.invariant.cut) in
+    offset_is text utf8 c.args.point c.args.bias c.near_boundary.result (record {
       past_rows = λ past. absurd (omega (arith, past, row_within here));
       past_end = λ _ lt. absurd (omega (arith, lt, start_is here, end_is here, bounds here, c.if-point-end.false));
       in_row = λ _ _. subst (λ (o : ℕ). IsNearBoundary text o c.args.bias c.near_boundary.result) place
           (subst (λ (t : List ℕ). IsNearBoundary t (c.start_of_row-start.result + c.args.point.column) c.args.bias c.near_boundary.result) c.self.view_is c.near_boundary.ensures.near);
-    }
+    })
 
 pub returns-then-point-sum-clause-boundary : goal.returns-then-point-sum-clause-boundary
 returns-then-point-sum-clause-boundary c =

@@ -5,7 +5,8 @@ use Rattle.cell_units.specs.Text.{clean}
 use Rattle.cell_units.proofs.TextLaws.{clean-no_return}
 use Rattle.edit_patch.specs.Fits.{replacement}
 use Rattle.text_rope.specs.Edits.{IsRange, IsRenewed}
-use Rattle.text_rope.specs.Ropes.{HasHeight, IsRope, limit}
+use Rattle.cell_units.specs.declared.limits.TheConstants.{TEXT_LIMIT}
+use Rattle.text_rope.specs.Ropes.{HasHeight, IsRope}
 use Rattle.text_rope.specs.declared.chunk.TextSize.{TextSize}
 use Rattle.text_rope.proofs.Bounds.{replace_steps}
 use Rattle.text_rope.proofs.Chunks.{total_bytes}
@@ -63,7 +64,7 @@ renewed c =
 within : (c : In_ok-new) → IsRange c.args.self.now c.args.start c.args.end
 within c = subst (λ (t : List ℕ). IsRange t c.args.start c.args.end) c.self.view_is (c.is_range.ensures.test.0 c.if-not-is_range.false)
 
-small : (c : In_ok-new) → length (replaced_text c.args.self.now c.args.start c.args.end (clean c.args.text.now)) ≤ limit
+small : (c : In_ok-new) → length (replaced_text c.args.self.now c.args.start c.args.end (clean c.args.text.now)) ≤ TEXT_LIMIT
 small c =
     omega (
       arith,
@@ -79,7 +80,7 @@ small c =
 made : (c : In_ok-new) → IsRope (new_chunks c)
 made c =
     renewed_rope c.self.inside.chunks c.args.start c.args.end (clean c.args.text.now) c.in_ok-new.new.from c.in_ok-new.new.to c.in_ok-new.new.chunks.items c.self.invariant (renewed c) (clean-no_return c.args.text.now)
-    (subst (λ (t : List ℕ). length (replaced_text t c.args.start c.args.end (clean c.args.text.now)) ≤ limit) (sym c.self.view_is) (small c))
+    (subst (λ (t : List ℕ). length (replaced_text t c.args.start c.args.end (clean c.args.text.now)) ≤ TEXT_LIMIT) (sym c.self.view_is) (small c))
 
 text_is : (c : In_ok-new) → concat (new_chunks c) ≡ replaced_text c.args.self.now c.args.start c.args.end (clean c.args.text.now)
 text_is c = (renewed c).text ∙ ap (λ (t : List ℕ). replaced_text t c.args.start c.args.end (clean c.args.text.now)) c.self.view_is
