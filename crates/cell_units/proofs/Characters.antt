@@ -4,9 +4,13 @@ use lib.Utf8.{encode, scalar}
 use Rattle.std.specs.Str.{IsUtf8, all_scalars}
 use Rattle.std.proofs.lemmas.Bool.{and_from, and_parts, cases_eq, cases_lt, lt-ltb, le-ltb, le-leb}
 use Rattle.std.proofs.lemmas.Bool.Decides.{nat_tests}
-use Rattle.std.proofs.lemmas.List.{map-append}
 use Rattle.std.proofs.lemmas.Str.{IsUtf8-append, IsUtf8-nil, encode_ascii}
 use Rattle.cell_units.specs.Text.{begins_with_feed, carriage_return, clean, goes_on, line_feed, without_returns_before_feeds}
+use Rattle.cell_units.specs.Laws.{HasNoReturn}
+use Rattle.cell_units.proofs.CutLists.{Every}
+use Rattle.cell_units.proofs.FoundEntries.{All-from_Every}
+use Rattle.cell_units.proofs.Returns.{clean-front}
+use Rattle.cell_units.proofs.TextLaws.{fed}
 
 -- each of the bytes goes on
 abbrev pub GoOn : List ℕ → Type 0
@@ -37,72 +41,41 @@ goes_on-high b h = grind (arith, nat_tests, h)
 
 -- ---- a cleaned text is a text
 
-abbrev HasNoReturn : List ℕ → Type 0
-HasNoReturn [] = Unit {0}
-HasNoReturn (b ∷ bs) = (b ≢ carriage_return) × HasNoReturn bs
-
-on-no_return : (bs : List ℕ) → GoOn bs → HasNoReturn bs
-on-no_return [] h = tt
-on-no_return (b ∷ bs) h = ((λ e. let high = goes_on-high b h.0 in omega (arith, e, high)), on-no_return bs h.1)
+no_return : (bs : List ℕ) → GoOn bs → Every (λ b. b ≢ carriage_return) bs
+no_return [] h = tt
+no_return (b ∷ bs) h = ((λ e. let high = goes_on-high b h.0 in omega (arith, e, high)), no_return bs h.1)
 
 encode-no_return : (c : ℕ) → c ≢ carriage_return → HasNoReturn (encode c)
-encode-no_return c other = let s = spelled c in subst HasNoReturn (sym s.is) (first s.first s.small, on-no_return s.rest s.on) where
-  first : (b : ℕ) → ((b ≡ c) × (b < 128) × ((spelled c).rest ≡ [])) ⊎ (128 ≤ b) → b ≢ carriage_return
-  first b (inl x) = λ e. other (sym x.0 ∙ e)
-  first b (inr x) = λ e. omega (arith, x, e)
-
-abbrev fed : ℕ → ℕ
-fed b = if b == carriage_return then line_feed else b
-
-fed-same : (bs : List ℕ) → HasNoReturn bs → map fed bs ≡ bs
-fed-same [] h = refl
-fed-same (b ∷ bs) h = λ i. (cond (off i) line_feed b) ∷ fed-same bs h.1 i where
-  off : (b == carriage_return) ≡ false
-  off = grind (arith, nat_tests, h.0)
-
-without-front : (bs rest : List ℕ) → HasNoReturn bs → without_returns_before_feeds (bs ++ rest) ≡ bs ++ without_returns_before_feeds rest
-without-front [] rest h = refl
-without-front (b ∷ bs) rest h =
-    let off : (b == carriage_return) ≡ false = grind (arith, nat_tests, h.0) in
-    ap (λ (t : Bool). if t && begins_with_feed (bs ++ rest) then without_returns_before_feeds (bs ++ rest) else b ∷ without_returns_before_feeds (bs ++ rest)) off
-    ∙ ap (λ (l : List ℕ). b ∷ l) (without-front bs rest h.1)
+encode-no_return c other =
+    let s = spelled c in
+    subst HasNoReturn (sym s.is) (All-from_Every (λ b. b ≢ carriage_return) (s.first ∷ s.rest) (first s.first s.small, no_return s.rest s.on)) where
+      first : (b : ℕ) → ((b ≡ c) × (b < 128) × ((spelled c).rest ≡ [])) ⊎ (128 ≤ b) → b ≢ carriage_return
+      first b (inl x) = λ e. other (sym x.0 ∙ e)
+      first b (inr x) = λ e. omega (arith, x, e)
 
 pub one_utf8 : (c : ℕ) → scalar c ≡ true → IsUtf8 (encode c)
 one_utf8 c h = (c ∷ [], (and_from (scalar c) true h refl, append-nil (encode c)))
 
-return_utf8 : IsUtf8 (carriage_return ∷ [])
-unfolding encode
-return_utf8 = (carriage_return ∷ [], (refl, refl))
-
-pub feed_utf8 : IsUtf8 (line_feed ∷ [])
+feed_utf8 : IsUtf8 (line_feed ∷ [])
 unfolding encode
 feed_utf8 = (line_feed ∷ [], (refl, refl))
 
-without-utf8 : (cs : List ℕ) → all_scalars cs ≡ true → IsUtf8 (without_returns_before_feeds (encode_utf8_all cs))
-without-utf8 [] h = IsUtf8-nil
-without-utf8 (c ∷ cs) h = go (cases_eq c carriage_return) (without-utf8 cs (and_parts (scalar c) (all_scalars cs) h).1) where
-  rest : List ℕ
-  rest = encode_utf8_all cs
+return-utf8 : (rest : List ℕ) → IsUtf8 (clean rest) → IsUtf8 (clean (carriage_return ∷ rest))
+return-utf8 rest h = go (begins_with_feed rest) where
+  go : (b : Bool) → IsUtf8 (map fed (cond b (without_returns_before_feeds rest) (carriage_return ∷ without_returns_before_feeds rest)))
+  go true = h
+  go false = IsUtf8-append (line_feed ∷ []) (clean rest) feed_utf8 h
 
-  go : (c ≡ carriage_return) ⊎ (c ≡ carriage_return → ⊥) → IsUtf8 (without_returns_before_feeds rest) → IsUtf8 (without_returns_before_feeds (encode c ++ rest))
-  go (inr other) ih =
-      subst IsUtf8 (sym (without-front (encode c) rest (encode-no_return c other)))
-      (IsUtf8-append (encode c) (without_returns_before_feeds rest) (one_utf8 c (and_parts (scalar c) (all_scalars cs) h).0) ih)
-  go (inl e) ih = subst (λ (l : List ℕ). IsUtf8 (without_returns_before_feeds (l ++ rest))) (sym (ap encode e ∙ encode_ascii carriage_return (omega arith))) (either (begins_with_feed rest)) where
-    either : (b : Bool) → IsUtf8 (cond b (without_returns_before_feeds rest) (carriage_return ∷ without_returns_before_feeds rest))
-    either true = ih
-    either false = IsUtf8-append (carriage_return ∷ []) (without_returns_before_feeds rest) return_utf8 ih
-
-fed-utf8 : (cs : List ℕ) → all_scalars cs ≡ true → IsUtf8 (map fed (encode_utf8_all cs))
-fed-utf8 [] h = IsUtf8-nil
-fed-utf8 (c ∷ cs) h =
-    subst IsUtf8 (sym (map-append fed (encode c) (encode_utf8_all cs)))
-    (IsUtf8-append (map fed (encode c)) (map fed (encode_utf8_all cs)) (go (cases_eq c carriage_return)) (fed-utf8 cs (and_parts (scalar c) (all_scalars cs) h).1)) where
-      go : (c ≡ carriage_return) ⊎ (c ≡ carriage_return → ⊥) → IsUtf8 (map fed (encode c))
-      go (inr other) = subst IsUtf8 (sym (fed-same (encode c) (encode-no_return c other))) (one_utf8 c (and_parts (scalar c) (all_scalars cs) h).0)
-      go (inl e) = subst (λ (l : List ℕ). IsUtf8 (map fed l)) (sym (ap encode e ∙ encode_ascii carriage_return (omega arith))) feed_utf8
+cleaned-utf8 : (cs : List ℕ) → all_scalars cs ≡ true → IsUtf8 (clean (encode_utf8_all cs))
+cleaned-utf8 [] h = IsUtf8-nil
+cleaned-utf8 (c ∷ cs) h = go (cases_eq c carriage_return) (cleaned-utf8 cs (and_parts (scalar c) (all_scalars cs) h).1) where
+  go : (c ≡ carriage_return) ⊎ (c ≡ carriage_return → ⊥) → IsUtf8 (clean (encode_utf8_all cs)) → IsUtf8 (clean (encode c ++ encode_utf8_all cs))
+  go (inr other) rest =
+      subst IsUtf8 (sym (clean-front (encode c) (encode_utf8_all cs) (encode-no_return c other)))
+      (IsUtf8-append (encode c) (clean (encode_utf8_all cs)) (one_utf8 c (and_parts (scalar c) (all_scalars cs) h).0) rest)
+  go (inl e) rest =
+      subst (λ (l : List ℕ). IsUtf8 (clean (l ++ encode_utf8_all cs))) (sym (ap encode e ∙ encode_ascii carriage_return (omega arith)))
+      (return-utf8 (encode_utf8_all cs) rest)
 
 pub clean-utf8 : (bytes : List ℕ) → IsUtf8 bytes → IsUtf8 (clean bytes)
-clean-utf8 bytes u =
-    let w : IsUtf8 (without_returns_before_feeds bytes) = subst (λ (l : List ℕ). IsUtf8 (without_returns_before_feeds l)) u.1.1 (without-utf8 u.0 u.1.0) in
-    subst (λ (l : List ℕ). IsUtf8 (map fed l)) w.1.1 (fed-utf8 w.0 w.1.0)
+clean-utf8 bytes u = subst (λ (l : List ℕ). IsUtf8 (clean l)) u.1.1 (cleaned-utf8 u.0 u.1.0)

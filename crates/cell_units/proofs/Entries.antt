@@ -1,15 +1,15 @@
 -- What one kind of a record's entries keeps when one is added, when some are removed, and when all are moved.
-use Rattle.std.proofs.Common.{◌≡◌, ℕ, ◌+◌, ◌≤◌, Bool, true, false, cond, eqb, List, [], ◌∷◌, suc, length, map, refl, ap, subst, arith, inl, inr}
+use Rattle.std.proofs.Common.{◌≡◌, ◌≢◌, ℕ, ◌+◌, ◌≤◌, Bool, true, false, cond, eqb, List, [], ◌∷◌, zero, suc, length, map, refl, sym, ap, ◌∙◌, subst, arith, inl, inr}
 use mathlib.Core.Logic.{◌⊎◌}
-use Rattle.std.specs.List.{All, count_by, filter}
-use Rattle.std.proofs.lemmas.Bool.{cases_Bool, eqb-true}
+use Rattle.std.specs.List.{All, AllPairs, count_by, filter}
+use Rattle.std.proofs.lemmas.Bool.{cases_Bool, eq-eqb, eqb-true, false≢true}
 use Rattle.std.proofs.lemmas.List.{length-map}
 use Rattle.cell_units.specs.declared.limits.TheConstants.{ENTRY_LIMIT}
 use Rattle.cell_units.specs.Sorting.{insert_by, sort_by}
 use Rattle.cell_units.specs.Lawful.{AreEntries, HasRoom, IsInOrder, count_id}
 use Rattle.cell_units.proofs.CutLists.{Every}
 use Rattle.cell_units.proofs.FoundEntries.{All-from_Every, Every-from_All}
-use Rattle.cell_units.proofs.SortedLists.{IsSorted, IsSorted-sort, IsSorted-insert, IsSorted-filter, sort-sorted, Every-insert, Every-sort, Every-filter, Every-map, Every-passed, count-insert, count-sort, count-filter, count-map}
+use Rattle.cell_units.proofs.SortedLists.{IsSorted, IsSorted-sort, IsSorted-insert, IsSorted-filter, sort-sorted, Every-insert, Every-sort, Every-filter, Every-map, Every-passed, count-cons, count-insert, count-sort, count-filter, count-map}
 
 length-insert : {X : Type 0} (le : X → X → Bool) (x : X) (ys : List X) → length (insert_by le x ys) ≡ suc (length ys)
 length-insert le x [] = refl
@@ -101,3 +101,49 @@ module _ {X : Type 0} (le : X → X → Bool) (total : (x y : X) → le x y ≡ 
         few = omega (arith, length-filter p (map f xs), m.few);
         each = Every-both Q (λ x. p x ≡ true) R passed (filter p (map f xs)) (Every-filter le Q p (map f xs) m.each) (Every-passed p (map f xs));
       })
+
+  -- ---- the same by pairs
+
+  pairs : (xs : List X) → IsSorted le xs → AllPairs (λ x y. le x y ≡ true) xs
+  pairs [] h = λ i j d x y. absurd (omega (arith, y))
+  pairs (x ∷ xs) h = go (All-from_Every (λ y. le x y ≡ true) xs h.0) (pairs xs h.1) where
+    go : All (λ y. le x y ≡ true) xs → AllPairs (λ x y. le x y ≡ true) xs → AllPairs (λ x y. le x y ≡ true) (x ∷ xs)
+    go first rest zero zero d l m = absurd (omega (arith, l))
+    go first rest (suc i) zero d l m = absurd (omega (arith, l))
+    go first rest zero (suc j) d l m = first j d (omega (arith, m))
+    go first rest (suc i) (suc j) d l m = rest i j d (omega (arith, l)) (omega (arith, m))
+
+  others : (x : X) (xs : List X) → count_id id_of (id_of x) xs ≡ 0 → Every (λ y. id_of x ≢ id_of y) xs
+  others x [] e = tt
+  others x (y ∷ ys) e = go (cases_Bool (eqb (id_of y) (id_of x))) (others x ys) where
+    counted : count_by (λ z. eqb (id_of z) (id_of x)) (y ∷ ys) ≡ cond (eqb (id_of y) (id_of x)) 1 0 + count_by (λ z. eqb (id_of z) (id_of x)) ys
+    counted = count-cons (λ z. eqb (id_of z) (id_of x)) y ys
+
+    go : (eqb (id_of y) (id_of x) ≡ true) ⊎ (eqb (id_of y) (id_of x) ≡ false) → (count_id id_of (id_of x) ys ≡ 0 → Every (λ y. id_of x ≢ id_of y) ys) → Every (λ y. id_of x ≢ id_of y) (y ∷ ys)
+    go (inl t) rest = absurd (omega (arith, counted, e, ap {B = ℕ} (λ (b : Bool). cond b 1 0) t))
+    go (inr f) rest = (
+      λ same. false≢true (sym f ∙ eq-eqb (id_of y) (id_of x) (sym same)),
+      rest (omega (arith, counted, e, ap {B = ℕ} (λ (b : Bool). cond b 1 0) f)),
+    )
+
+  apart : (xs : List X) → ((id : ℕ) → count_id id_of id xs ≤ 1) → AllPairs (λ x y. id_of x ≢ id_of y) xs
+  apart [] h = λ i j d x y. absurd (omega (arith, y))
+  apart (x ∷ xs) h = go (All-from_Every (λ y. id_of x ≢ id_of y) xs (others x xs none)) (apart xs fewer) where
+    counted : (id : ℕ) → count_by (λ z. eqb (id_of z) id) (x ∷ xs) ≡ cond (eqb (id_of x) id) 1 0 + count_by (λ z. eqb (id_of z) id) xs
+    counted id = count-cons (λ z. eqb (id_of z) id) x xs
+
+    fewer : (id : ℕ) → count_id id_of id xs ≤ 1
+    fewer id = omega (arith, counted id, h id)
+
+    none : count_id id_of (id_of x) xs ≡ 0
+    none = omega (arith, counted (id_of x), h (id_of x), ap {B = ℕ} (λ (b : Bool). cond b 1 0) (eq-eqb (id_of x) (id_of x) refl))
+
+    go : All (λ y. id_of x ≢ id_of y) xs → AllPairs (λ x y. id_of x ≢ id_of y) xs → AllPairs (λ x y. id_of x ≢ id_of y) (x ∷ xs)
+    go first rest zero zero d l m = absurd (omega (arith, l))
+    go first rest (suc i) zero d l m = absurd (omega (arith, l))
+    go first rest zero (suc j) d l m = first j d (omega (arith, m))
+    go first rest (suc i) (suc j) d l m = rest i j d (omega (arith, l)) (omega (arith, m))
+
+  -- each entry comes at or before those behind it, and no two have one id
+  pub entries-pairs : (P : X → Type 0) (xs : List X) → AreEntries le id_of P xs → AllPairs (λ x y. (le x y ≡ true) × (id_of x ≢ id_of y)) xs
+  entries-pairs P xs is i j d l m = (pairs xs (sorted_entries xs is.in_order) i j d l m, apart xs is.distinct i j d l m)

@@ -6,10 +6,7 @@ use Rattle.cell_units.specs.Text.{begins_with_feed, carriage_return, clean, line
 use Rattle.std.proofs.lemmas.List.{length-map}
 use Rattle.std.proofs.lemmas.List.Elements.{All-from_get_or}
 use Rattle.cell_units.specs.Laws.{HasNoReturn}
-
--- what stands for a byte in a clean text
-abbrev pub fed : ℕ → ℕ
-fed b = if b == carriage_return then line_feed else b
+use Rattle.cell_units.proofs.TextLaws.{fed}
 
 -- a front without carriage returns is clean
 pub clean-front : (front rest : List ℕ) → HasNoReturn front → clean (front ++ rest) ≡ front ++ clean rest

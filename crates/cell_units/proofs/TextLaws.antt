@@ -9,7 +9,7 @@ use Rattle.cell_units.specs.Text.{IsBoundary, begins_with_feed, carriage_return,
 use Rattle.cell_units.specs.Laws.{HasNoReturn, TellsBoundaries}
 
 -- what stands for a byte in a clean text
-abbrev fed : ℕ → ℕ
+abbrev pub fed : ℕ → ℕ
 fed b = if b == carriage_return then line_feed else b
 
 fed-no_return : (b : ℕ) → fed b ≢ carriage_return

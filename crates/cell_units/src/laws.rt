@@ -1,12 +1,12 @@
 //! What the definitions mean in other words.
-ghost use Rattle.std.specs.Prelude.{◌≡◌, ◌≤◌, ◌<◌, ◌+◌, nat_le, nat_lt, ℕ, false, List, [], length, count_by, flat_map};
-ghost use Rattle.std.specs.List.{All};
+ghost use Rattle.std.specs.Prelude.{◌≡◌, ◌≢◌, ◌≤◌, ◌<◌, ◌+◌, IsTrue, nat_le, nat_lt, ℕ, false, List, [], length, count_by, flat_map};
+ghost use Rattle.std.specs.List.{All, AllPairs};
 ghost use Rattle.std.specs.Str.{IsUtf8};
 ghost use Rattle.cell_units.specs.declared.place.Bias.{Bias};
 ghost use Rattle.cell_units.specs.declared.place.Bias.TheVariants.{Left, Right};
 ghost use Rattle.cell_units.specs.declared.place.Point.{Point};
 ghost use Rattle.cell_units.specs.Text.{IsBoundary, IsText, clean, is_feed, row_of};
-ghost use Rattle.cell_units.specs.Record.{Fold, Inlay, Record, opened};
+ghost use Rattle.cell_units.specs.Record.{Block, Fold, Inlay, Record, block_le, fold_le, inlay_le, opened};
 ghost use Rattle.cell_units.specs.Operation.{Operation, operated};
 ghost use Rattle.cell_units.specs.Touched.{touched};
 ghost use Rattle.cell_units.specs.LineCounts.{KeepsCount, KeepsPieces, RowsAreOneRun, TouchesOneRun, operated_piece};
@@ -15,7 +15,7 @@ ghost use Rattle.cell_units.specs.Folded.{covered, display_lines, folded, folded
 ghost use Rattle.cell_units.specs.Pieces.{ArePiecesOf, before_break, pieces_of};
 ghost use Rattle.cell_units.specs.Points.{IsAtPoint, offset_at};
 ghost use Rattle.cell_units.specs.Joined.{IsJoined, ShowsOnePlaceholder, ShowsPlaceholder};
-ghost use Rattle.cell_units.specs.Lawful.{HasLawfulEntries, IsAllowed, IsLawful, IsWellFormed};
+ghost use Rattle.cell_units.specs.Lawful.{AreBlocks, AreFolds, AreInlays, HasLawfulEntries, IsAllowed, IsLawful, IsWellFormed};
 ghost use Rattle.cell_units.specs.Layers.{Source, inlay_source, place_of, plain_source, point_of, shown_lines, shown_text, span_of, unfolded};
 ghost use Rattle.cell_units.specs.Folding.{folded_token, inlaid_token};
 ghost use Rattle.cell_units.specs.Laws.{AreUncovered, HasNoFeed, HasNoReturn, HasRow, IsCopied, IsInOneRow, inlaid_bytes, ShowPlaceholder, ShowsAsInlaid, TellsBoundaries};
@@ -80,7 +80,8 @@ pub fn inlay_laws()
 /// Folds over a layer: each token is kept, hidden or stands as a placeholder; between folds places stay as far apart, and a
 /// joined fold stands in the three bytes of its placeholder. It does nothing.
 pub fn folding_laws()
-    ensures tokens { (text : List ℕ) (inlays : List Inlay) (folds : List Fold) → folded text inlays folds ≡ flat_map (folded_token folds) (folded text inlays []) }
+    ensures tokens { (text : List ℕ) (inlays : List Inlay) (folds : List Fold) →
+        folded text inlays folds ≡ flat_map (folded_token folds) (folded text inlays []) }
     ensures apart { (source : Source) (o p : ℕ) → AreUncovered source o p →
         place_of source p Left + place_of (unfolded source) o Left ≡ place_of source o Left + place_of (unfolded source) p Left }
     ensures behind { (source : Source) (start end : ℕ) → IsJoined source.folds start end → start ≤ end → end ≤ length source.text →
@@ -89,13 +90,27 @@ pub fn folding_laws()
         (place_of source o Left ≡ place_of source start Right) × (place_of source o Right ≡ place_of source start Right + 3) }
 {}
 
+/// Laws of the entries of every record: each comes at or before those behind it, and no two have one id. It does nothing.
+pub fn entry_laws()
+    ensures inlays { (text : List ℕ) (inlays : List Inlay) → AreInlays text inlays →
+        AllPairs (λ (i j : Inlay). IsTrue (inlay_le i j) × (i.id ≢ j.id)) inlays }
+    ensures folds { (text : List ℕ) (folds : List Fold) → AreFolds text folds →
+        AllPairs (λ (f g : Fold). IsTrue (fold_le f g) × (f.id ≢ g.id)) folds }
+    ensures blocks { (text : List ℕ) (blocks : List Block) → AreBlocks text blocks →
+        AllPairs (λ (k l : Block). IsTrue (block_le k l) × (k.id ≢ l.id)) blocks }
+{}
+
 /// What every operation that is allowed leaves of a record with lawful entries: such a record, of whose display lines one run
 /// is touched before and one after, and the others are the same, moved. It does nothing.
 pub fn operation_laws()
     ensures opened { (text : List ℕ) → IsText text → IsLawful (opened text) }
-    ensures lawful { (operation : Operation) (r : Record) → HasLawfulEntries r → IsAllowed operation r → HasLawfulEntries (operated operation r) }
-    ensures one_run { (operation : Operation) (r : Record) → HasLawfulEntries r → IsAllowed operation r → TouchesOneRun (touched operation r) r (operated operation r) }
-    ensures as_many { (operation : Operation) (r : Record) → HasLawfulEntries r → IsAllowed operation r → KeepsCount (touched operation r) r (operated operation r) }
-    ensures same_pieces { (operation : Operation) (r : Record) → HasLawfulEntries r → IsAllowed operation r → KeepsPieces (touched operation r) (operated_piece operation) r (operated operation r) }
+    ensures lawful { (operation : Operation) (r : Record) → HasLawfulEntries r → IsAllowed operation r →
+        HasLawfulEntries (operated operation r) }
+    ensures one_run { (operation : Operation) (r : Record) → HasLawfulEntries r → IsAllowed operation r →
+        TouchesOneRun (touched operation r) r (operated operation r) }
+    ensures as_many { (operation : Operation) (r : Record) → HasLawfulEntries r → IsAllowed operation r →
+        KeepsCount (touched operation r) r (operated operation r) }
+    ensures same_pieces { (operation : Operation) (r : Record) → HasLawfulEntries r → IsAllowed operation r →
+        KeepsPieces (touched operation r) (operated_piece operation) r (operated operation r) }
     ensures rows { (r : Record) (a b : ℕ) → HasLawfulEntries r → a ≤ b → b ≤ length r.text → RowsAreOneRun r a b }
 {}

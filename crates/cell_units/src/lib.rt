@@ -1,8 +1,9 @@
 //! The units of the display map: texts, places, pieces of a display line, refusals and a counter of steps.
 //!
-//! The crate promises little code and much meaning: `specs/` has the definitions of a text, of a record, of the
-//! operations on it, of the folded text and its display lines, and of layers, which every crate above cites. `text_laws`,
-//! `fold_laws` and `layer_laws` have what they mean in other words, and `worked` has texts of which the outcome is known.
+//! The crate promises little code and much meaning: `specs/` has the definitions of a text, of a record and when it is
+//! lawful, of the operations on it, of the folded text and its display lines, and of layers and rows, which every crate
+//! above cites. `laws` has what they mean in other words, and `worked` has texts and operations of which the outcome is
+//! known.
 #![tactic(auto)]
 
 pub mod cleaning;
@@ -20,7 +21,8 @@ pub mod worked;
 pub use cleaning::{cleaned, push_clean};
 pub use fault::{Fault, NoMemory, Refusal, TextFault};
 pub use laws::{
-    fold_laws, folding_laws, inlay_laws, layer_laws, operation_laws, piece_laws, text_laws,
+    entry_laws, fold_laws, folding_laws, inlay_laws, layer_laws, operation_laws, piece_laws,
+    text_laws,
 };
 pub use layer::Layer;
 pub use piece::{Piece, PieceKind};

@@ -47,7 +47,8 @@ pub fn worked_operations()
     ensures fold_edges { (moved_folds 1 1 1 (fold 1 3 1 ∷ []) ≡ fold 2 4 1 ∷ []) × (moved_folds 3 3 1 (fold 1 3 1 ∷ []) ≡ fold 1 3 1 ∷ [])
         × (moved_folds 2 4 1 (fold 1 3 1 ∷ []) ≡ fold 1 3 1 ∷ []) × (moved_folds 1 3 2 (fold 1 3 1 ∷ []) ≡ []) }
     ensures folds_sorted_again { moved_folds 1 3 0 (fold 1 6 1 ∷ fold 2 5 2 ∷ []) ≡ fold 1 3 2 ∷ fold 1 4 1 ∷ [] }
-    ensures inlays_sorted_again { moved_inlays 1 2 0 (inlay 1 Right 1 (codes "x") ∷ inlay 2 Left 2 (codes "y") ∷ []) ≡ inlay 1 Left 2 (codes "y") ∷ inlay 1 Right 1 (codes "x") ∷ [] }
+    ensures inlays_sorted_again { moved_inlays 1 2 0 (inlay 1 Right 1 (codes "x") ∷ inlay 2 Left 2 (codes "y") ∷ [])
+        ≡ inlay 1 Left 2 (codes "y") ∷ inlay 1 Right 1 (codes "x") ∷ [] }
     ensures block_stays_with_row { moved_blocks 0 0 2 (block 0 1 Above (codes "x" ∷ []) ∷ []) ≡ block 2 1 Above (codes "x" ∷ []) ∷ [] }
     ensures cleaned_length { let r = folded_record (codes "ab") (inlay 1 Left 1 (codes "<") ∷ []) [] in
         line_texts (operated (Replace 0 0 (13 ∷ 10 ∷ [])) r) ≡ [] ∷ codes "a<b" ∷ [] }
@@ -77,7 +78,8 @@ pub fn worked_changes()
         (line_texts (operated op r) ≡ codes "ab" ∷ codes "c>d" ∷ [])
         × (touched_before (touched op r) r ≡ true ∷ true ∷ false ∷ [])
         × (touched_after (touched op r) (operated op r) ≡ true ∷ false ∷ []) }
-    ensures inlay_put_in_order { (operated (AddInlay (inlay 2 Left 3 (codes "y"))) (folded_record (codes "abc") (inlay 1 Right 9 (codes "x") ∷ inlay 2 Right 1 (codes "z") ∷ []) [])).inlays
+    ensures inlay_put_in_order { let r = folded_record (codes "abc") (inlay 1 Right 9 (codes "x") ∷ inlay 2 Right 1 (codes "z") ∷ []) [] in
+        (operated (AddInlay (inlay 2 Left 3 (codes "y"))) r).inlays
         ≡ inlay 1 Right 9 (codes "x") ∷ inlay 2 Left 3 (codes "y") ∷ inlay 2 Right 1 (codes "z") ∷ [] }
     ensures fold_touches_its_rows { let r = folded_record (97 ∷ 10 ∷ 98 ∷ 10 ∷ 99 ∷ 10 ∷ 100 ∷ []) [] [] in
         let op = AddFold (fold 1 4 1) in
@@ -105,7 +107,8 @@ pub fn worked_lines()
     ensures empty_text { line_texts (folded_record [] [] []) ≡ [] ∷ [] }
     ensures inlaid_text { flat_map bytes_of (inlaid (codes "let x = 1") (inlay 5 Right 1 (codes ": i32") ∷ [])) ≡ codes "let x: i32 = 1" ++ 10 ∷ [] }
     ensures inlaid_returns { flat_map bytes_of (inlaid (codes "ab") (inlay 1 Left 1 (120 ∷ 13 ∷ 10 ∷ 121 ∷ 13 ∷ []) ∷ [])) ≡ 97 ∷ 120 ∷ 10 ∷ 121 ∷ 10 ∷ 98 ∷ 10 ∷ [] }
-    ensures inlay_place { let inlays = inlay 3 Left 1 (codes ">") ∷ [] in (inlaid_place (codes "abc") inlays 3 Left ≡ 3) × (inlaid_place (codes "abc") inlays 3 Right ≡ 4) }
+    ensures inlay_place { let inlays = inlay 3 Left 1 (codes ">") ∷ [] in
+        (inlaid_place (codes "abc") inlays 3 Left ≡ 3) × (inlaid_place (codes "abc") inlays 3 Right ≡ 4) }
     ensures type_inlay { folded_lines (codes "let x = 1") (inlay 5 Right 1 (codes ": i32") ∷ []) []
         ≡ (buffer_piece (codes "let x") 0 5 ∷ inlay_piece (codes ": i32") 5 ∷ buffer_piece (codes " = 1") 5 9 ∷ []) ∷ [] }
     ensures fold_two_line_ends { folded_lines (97 ∷ 10 ∷ 98 ∷ 10 ∷ 99 ∷ []) [] (fold 1 4 1 ∷ [])
