@@ -11,13 +11,7 @@ use Rattle.cell_units.specs.Folded.{inside, covered, shown, folded_before, line_
 use Rattle.cell_units.specs.Joined.{IsJoined, ShowsOnePlaceholder}
 use Rattle.cell_units.specs.Layers.{Source, place_of}
 use Rattle.cell_units.proofs.Joined.{IsJoined-hides, IsJoined-shows, inside-shows_none, shown-inlaid, shown-start}
-use Rattle.cell_units.proofs.ShownText.{show_each-append}
-
-abbrev size : List Token → ℕ
-size ts = length (flat_map bytes_of ts)
-
-size-append : (xs ys : List Token) → size (xs ++ ys) ≡ size xs + size ys
-size-append xs ys = ap length (flat_map-append bytes_of xs ys) ∙ length-append (flat_map bytes_of xs) (flat_map bytes_of ys)
+use Rattle.cell_units.proofs.ShownText.{show_each-append, size, size-append}
 
 -- the bytes from one offset on
 abbrev part : List ℕ → ℕ → ℕ → List ℕ

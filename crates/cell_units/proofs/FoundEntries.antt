@@ -34,7 +34,7 @@ module _ {X : Type 0} where
     go true p = record { before = []; behind = y ∷ ys; old_is = refl; new_is = refl }
     go false p = one_before x y ys (insert_by le x ys) p
 
-  some_is : (x y : X) → Some x ≡ Some y → x ≡ y
+  pub some_is : (x y : X) → Some x ≡ Some y → x ≡ y
   some_is x y e = ap get e where
     get : Option X → X
     get None = x

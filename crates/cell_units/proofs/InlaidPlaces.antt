@@ -13,13 +13,7 @@ use Rattle.cell_units.specs.Inlaid.{Token, Byte, InlayByte, bytes_of, inlaid_pla
 use Rattle.cell_units.specs.Folded.{folded_place, shown}
 use Rattle.cell_units.specs.Layers.{Source, inlay_source, place_of}
 use Rattle.cell_units.specs.Laws.{inlaid_bytes}
-use Rattle.cell_units.proofs.ShownText.{show_each-append}
-
-abbrev size : List Token → ℕ
-size ts = length (flat_map bytes_of ts)
-
-size-append : (xs ys : List Token) → size (xs ++ ys) ≡ size xs + size ys
-size-append xs ys = ap length (flat_map-append bytes_of xs ys) ∙ length-append (flat_map bytes_of xs) (flat_map bytes_of ys)
+use Rattle.cell_units.proofs.ShownText.{show_each-append, size, size-append}
 
 size-inlay : (o id : ℕ) (bs : List ℕ) → size (map (InlayByte o id) bs) ≡ length bs
 size-inlay o id [] = refl

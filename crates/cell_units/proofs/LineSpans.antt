@@ -15,26 +15,14 @@ use Rattle.cell_units.specs.Folded.{inside, covered, shown, folded, folded_befor
 use Rattle.cell_units.specs.Lawful.{IsWellFormed}
 use Rattle.cell_units.specs.Layers.{Source, place_of, shown_text, line_tokens, span_of}
 use Rattle.cell_units.proofs.BufferLines.{feeds-append, feeds-cons}
+use Rattle.cell_units.proofs.CutLists.{Every, Every-append, Every-left, Every-mono, Every-right}
 use Rattle.cell_units.proofs.Joined.{covered_by, inside_of}
 use Rattle.cell_units.proofs.ReplacedRows.{row_of-le}
 use Rattle.cell_units.proofs.ShownText.{EndsOpen, Starts, folded_is, show_each-append, shown_by, starts, tokens_bytes}
 use Rattle.cell_units.proofs.ShownPlaces.{place-le}
 
-abbrev pub Every : (Token → Type 0) → List Token → Type 0
-Every P [] = Unit {0}
-Every P (x ∷ xs) = P x × Every P xs
-
-Every-append : (P : Token → Type 0) (xs ys : List Token) → Every P xs → Every P ys → Every P (xs ++ ys)
-Every-append P [] ys h k = k
-Every-append P (x ∷ xs) ys h k = (h.0, Every-append P xs ys h.1 k)
-
 Every-map : (P Q : Token → Type 0) → ((t : Token) → P t → Q t) → (xs : List Token) → Every P xs → Every Q xs
-Every-map P Q f [] h = tt
-Every-map P Q f (x ∷ xs) h = (f x h.0, Every-map P Q f xs h.1)
-
-Every-front : (P : Token → Type 0) (xs ys : List Token) → Every P (xs ++ ys) → Every P xs
-Every-front P [] ys h = tt
-Every-front P (x ∷ xs) ys h = (h.0, Every-front P xs ys h.1)
+Every-map P Q f xs h = Every-mono P Q xs f h
 
 -- ---- feeds are breaks
 
@@ -194,10 +182,6 @@ each-between inlays folds o (b ∷ bs) =
     (Every-map (IsAt o) (IsBetween o (o + length (b ∷ bs))) (λ t h. (omega (arith, h), omega (arith, h))) (shown inlays folds o b) (shown-at inlays folds o b))
     (Every-map (IsBetween (o + 1) (o + 1 + length bs)) (IsBetween o (o + length (b ∷ bs))) (λ t h. (omega (arith, h.0), omega (arith, h.1))) (show_each (shown inlays folds) (o + 1) bs) (each-between inlays folds (o + 1) bs))
 
-Every-back : (P : Token → Type 0) (xs ys : List Token) → Every P (xs ++ ys) → Every P ys
-Every-back P [] ys h = h
-Every-back P (x ∷ xs) ys h = Every-back P xs ys h.1
-
 last_of : (xs : List Token) (y : Token) (ys : List Token) → LastIs (λ t. is_break t ≡ true) (xs ++ y ∷ ys) → LastIs (λ t. is_break t ≡ true) (y ∷ ys)
 last_of [] y ys h = h
 last_of (x ∷ []) y ys h = h
@@ -313,7 +297,7 @@ module _ (s : Source) (w : EndsOpen s) where
         head = Hidden r.start;
         rest = behind o;
         is = whole o le ∙ ap (λ (l : List Token). l ++ behind o) r.is ∙ append_assoc r.front (Hidden r.start ∷ []) (behind o);
-        all = Every-map (λ t. offset_of t < o) (λ t. offset_of t ≤ o) (λ t h. omega (arith, h)) r.front (Every-front (λ t. offset_of t < o) r.front (Hidden r.start ∷ []) (subst (Every (λ t. offset_of t < o)) r.is (before-below o le)));
+        all = Every-map (λ t. offset_of t < o) (λ t. offset_of t ≤ o) (λ t h. omega (arith, h)) r.front (Every-left (λ t. offset_of t < o) r.front (Hidden r.start ∷ []) (subst (Every (λ t. offset_of t < o)) r.is (before-below o le)));
         ready = λ _. omega (arith, r.below);
         last = behind-ends (Hidden r.start ∷ []) o;
         from = ((λ e. absurd (false≢true e)), Every-map (λ t. o ≤ offset_of t) (λ t. is_break t ≡ true → o ≤ offset_of t) (λ t h _. h) (behind o) (behind-from o le));
@@ -382,7 +366,7 @@ module _ (s : Source) (w : EndsOpen s) where
             (Every-map (IsAt o) (λ t. offset_of t ≤ o) (λ t h. omega (arith, h)) (inlays_at s.inlays o) (inlays-at s.inlays o));
         ready = λ _. omega (arith, r.at);
         last = last_of (inlays_at s.inlays o) r.own r.rest (subst (LastIs (λ t. is_break t ≡ true)) r.is (behind-ends [] o));
-        from = Every-map (λ t. o ≤ offset_of t) (λ t. is_break t ≡ true → o ≤ offset_of t) (λ t h _. h) (r.own ∷ r.rest) (Every-back (λ t. o ≤ offset_of t) (inlays_at s.inlays o) (r.own ∷ r.rest) from);
+        from = Every-map (λ t. o ≤ offset_of t) (λ t. is_break t ≡ true → o ≤ offset_of t) (λ t h _. h) (r.own ∷ r.rest) (Every-right (λ t. o ≤ offset_of t) (inlays_at s.inlays o) (r.own ∷ r.rest) from);
       }
 
   cut-left-open : (o : ℕ) → o ≤ n → IsOpenAt o → CutAt o (before o)

@@ -10,7 +10,8 @@ use Rattle.cell_units.specs.Record.{Inlay}
 use Rattle.cell_units.specs.Inlaid.{Token, Byte, offset_of, is_break, inlays_at, show_each}
 use Rattle.cell_units.specs.Folded.{shown, folded, display_lines, span_start, span_end}
 use Rattle.cell_units.specs.Laws.{IsInOneRow}
-use Rattle.cell_units.proofs.LineSpans.{Every, IsAt, inlays-at}
+use Rattle.cell_units.proofs.CutLists.{Every}
+use Rattle.cell_units.proofs.LineSpans.{IsAt, inlays-at}
 use Rattle.cell_units.proofs.ShownText.{Starts, starts}
 
 module _ (text : List ℕ) where

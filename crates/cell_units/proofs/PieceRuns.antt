@@ -8,7 +8,7 @@ use Rattle.cell_units.specs.declared.piece.PieceKind.{PieceKind}
 use Rattle.cell_units.specs.Inlaid.{Token, Byte, InlayByte, Hidden, bytes_of, offset_of}
 use Rattle.cell_units.specs.Pieces.{AreNeighbours, ArePiecesOf, IsRun, IsSeam, before_break, is_one_piece, kind_of, piece_before, pieces_of}
 use Rattle.cell_units.proofs.CutLists.{Every}
-use Rattle.cell_units.proofs.FoundEntries.{All-from_Every}
+use Rattle.cell_units.proofs.FoundEntries.{All-from_Every, some_is}
 
 -- a run by its first token and the others
 record Run : Type 0 where
@@ -70,12 +70,6 @@ each-run : (ts : List Token) → Every IsRun (lists (runs_of ts))
 each-run [] = tt
 each-run (t ∷ []) = tt
 each-run (t ∷ u ∷ us) = each-before (is_one_piece t u) t u (runs_of (u ∷ us)) refl (begin u us) (each-run (u ∷ us))
-
-some_is : (t u : Token) → Some t ≡ Some u → t ≡ u
-some_is t u e = ap get e where
-  get : Option Token → Token
-  get None = t
-  get (Some v) = v
 
 seam : (t u : Token) (us : List Token) → is_one_piece t u ≡ false → IsSeam (t ∷ []) (u ∷ us)
 seam t u us e t' u' last first =

@@ -8,13 +8,7 @@ use Rattle.cell_units.specs.declared.place.Bias.TheVariants.{Left, Right}
 use Rattle.cell_units.specs.Inlaid.{Token, Byte, Hidden, bytes_of, inlays_at, show_each}
 use Rattle.cell_units.specs.Folded.{inside, covered, shown, folded_before}
 use Rattle.cell_units.specs.Layers.{Source, place_of, shown_text}
-use Rattle.cell_units.proofs.ShownText.{show_each-append}
-
-abbrev size : List Token → ℕ
-size ts = length (flat_map bytes_of ts)
-
-size-append : (xs ys : List Token) → size (xs ++ ys) ≡ size xs + size ys
-size-append xs ys = ap length (flat_map-append bytes_of xs ys) ∙ length-append (flat_map bytes_of xs) (flat_map bytes_of ys)
+use Rattle.cell_units.proofs.ShownText.{show_each-append, size, size-append}
 
 size-take-le : (n : ℕ) (xs : List Token) → size (take n xs) ≤ size xs
 size-take-le n xs = omega (arith, size-append (take n xs) (drop n xs), ap size (take-append-drop n xs))

@@ -1,5 +1,5 @@
 -- The text of a layer is its lines.
-use Rattle.std.proofs.Common.{◌≡◌, ℕ, ◌+◌, ◌<◌, ◌≤◌, suc, zero, Bool, true, false, cond, List, [], ◌∷◌, ◌++◌, length, map, take, drop, get_or, flat_map, refl, sym, ap, ◌∙◌, subst, arith, append-nil, append_assoc, zero-add}
+use Rattle.std.proofs.Common.{◌≡◌, ℕ, ◌+◌, ◌<◌, ◌≤◌, suc, zero, Bool, true, false, cond, List, [], ◌∷◌, ◌++◌, length, length-append, map, take, drop, get_or, flat_map, refl, sym, ap, ◌∙◌, subst, arith, append-nil, append_assoc, zero-add}
 use Rattle.std.specs.List.{All, list_any, count_by}
 use Rattle.std.proofs.lemmas.List.{get_or-map, take_all, length-map}
 use Rattle.std.proofs.lemmas.List.Concat.{flat_map-append}
@@ -20,6 +20,13 @@ use Rattle.cell_units.proofs.BufferLines.{length-buffer_lines}
 
 abbrev pub tokens_bytes : List Token → List ℕ
 tokens_bytes ts = flat_map bytes_of ts
+
+-- how many there are
+abbrev pub size : List Token → ℕ
+size ts = length (tokens_bytes ts)
+
+pub size-append : (xs ys : List Token) → size (xs ++ ys) ≡ size xs + size ys
+size-append xs ys = ap length (flat_map-append bytes_of xs ys) ∙ length-append (tokens_bytes xs) (tokens_bytes ys)
 
 -- the bytes of a line's pieces
 abbrev pub line_bytes : List Piece → List ℕ
