@@ -1,16 +1,15 @@
 -- A piece of the buffer holds the buffer's bytes from its start to its end.
-use Rattle.std.proofs.Common.{◌≡◌, ℕ, ◌+◌, ◌-◌, ◌<◌, ◌≤◌, ◌⊎◌, suc, zero, Bool, true, false, cond, eqb, List, [], ◌∷◌, ◌++◌, length, map, take, drop, get_or, slice_range, flat_map, filter, refl, sym, ap, ◌∙◌, subst, arith, inl, inr, append_assoc}
-use Rattle.std.specs.List.{All, Contains}
+use Rattle.std.proofs.Common.{◌≡◌, ℕ, ◌+◌, ◌-◌, ◌<◌, ◌≤◌, ◌⊎◌, suc, Bool, true, false, cond, eqb, List, [], ◌∷◌, ◌++◌, length, map, take, drop, get_or, slice_range, flat_map, filter, refl, sym, ap, ◌∙◌, subst, arith, inl, inr, append_assoc}
+use Rattle.std.specs.List.{All}
 use Rattle.std.proofs.lemmas.Bool.{cases_Bool, false≢true, eqb-true}
 use Rattle.std.proofs.lemmas.List.{drop_more, length-drop}
 use Rattle.std.proofs.lemmas.List.Elements.{All-cons, All-nil}
 use Rattle.cell_units.specs.declared.piece.Piece.{Piece}
-use Rattle.cell_units.specs.declared.piece.PieceKind.{PieceKind}
 use Rattle.cell_units.specs.declared.piece.PieceKind.TheVariants.{Buffer, Inlay, Placeholder}
 use Rattle.cell_units.specs.Record as records
 use Rattle.cell_units.specs.Text.{line_feed, clean}
 use Rattle.cell_units.specs.Cutting.{onto_line, cut_lines}
-use Rattle.cell_units.specs.Inlaid.{Token, Byte, InlayByte, Hidden, offset_of, bytes_of, is_break, inlays_at, inlay_bytes, show_each}
+use Rattle.cell_units.specs.Inlaid.{Token, Byte, InlayByte, Hidden, offset_of, is_break, inlays_at, inlay_bytes, show_each}
 use Rattle.cell_units.specs.Folded.{inside, covered, shown, folded, display_lines}
 use Rattle.cell_units.specs.Pieces.{pieces_of, piece_before, is_one_piece, kind_of}
 use Rattle.cell_units.specs.Layers.{Source, shown_lines}

@@ -1,5 +1,5 @@
 -- The orders of a record's entries are total and transitive.
-use Rattle.std.proofs.Common.{◌≡◌, ℕ, ◌<◌, Bool, true, false, eqb, ltb, leb, refl, sym, ◌∙◌, inl, inr, arith}
+use Rattle.std.proofs.Common.{◌≡◌, ℕ, ◌<◌, Bool, true, false, eqb, ltb, leb, sym, ◌∙◌, inl, inr, arith}
 use mathlib.Core.Bool.{◌&&◌}
 use mathlib.Core.Logic.{◌⊎◌}
 use Rattle.std.proofs.lemmas.Bool.{cases_Bool, false≢true, cases_order, lt-ltb, le-leb, ltb-true, leb-true, leb-false, eqb-true, and_parts, and_from, or_cases, or_left, or_right, eq-eqb}

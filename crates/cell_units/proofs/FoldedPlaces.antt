@@ -1,12 +1,11 @@
 -- The places of a layer with folds, by those of the layer without.
-use Rattle.std.proofs.Common.{◌≡◌, ℕ, ◌+◌, ◌-◌, ◌<◌, ◌≤◌, suc, zero, Bool, true, false, cond, List, [], ◌∷◌, ◌++◌, length, take, drop, flat_map, refl, sym, ap, ◌∙◌, arith, length-append, append-nil, append_assoc}
+use Rattle.std.proofs.Common.{◌≡◌, ℕ, ◌+◌, ◌-◌, ◌<◌, ◌≤◌, Bool, false, cond, List, [], ◌∷◌, ◌++◌, length, take, drop, refl, sym, ap, ◌∙◌, arith, append-nil, append_assoc}
 use Rattle.std.proofs.lemmas.List.{drop-take, length-drop, length-take-le, length_push, take-append-drop, take-take, take_at}
 use Rattle.std.specs.List.{count_by}
-use Rattle.std.proofs.lemmas.List.Concat.{flat_map-append}
 use Rattle.std.proofs.lemmas.List.Sums.{sum_by-append}
 use Rattle.cell_units.specs.declared.place.Bias.TheVariants.{Left, Right}
 use Rattle.cell_units.specs.Record.{Inlay, Fold}
-use Rattle.cell_units.specs.Inlaid.{Token, Hidden, bytes_of, inlays_at, is_break, offset_of, show_each}
+use Rattle.cell_units.specs.Inlaid.{Token, Hidden, inlays_at, is_break, offset_of, show_each}
 use Rattle.cell_units.specs.Folded.{inside, covered, shown, folded_before, line_of, span_start, span_end}
 use Rattle.cell_units.specs.Joined.{IsJoined, ShowsOnePlaceholder}
 use Rattle.cell_units.specs.Layers.{Source, place_of}

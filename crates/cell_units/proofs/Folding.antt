@@ -1,6 +1,6 @@
 -- Folds over a layer: each token of the layer below is kept, hidden or stands as a placeholder. And inlays in a text: each
 -- byte has the inlays at its offset before it.
-use Rattle.std.proofs.Common.{◌≡◌, ℕ, ◌+◌, ◌-◌, length, Bool, true, false, cond, eqb, List, [], ◌∷◌, ◌++◌, map, filter, take, flat_map, refl, sym, ap, ◌∙◌, append_assoc}
+use Rattle.std.proofs.Common.{◌≡◌, ℕ, ◌+◌, ◌-◌, length, Bool, true, false, cond, eqb, List, [], ◌∷◌, ◌++◌, map, filter, take, flat_map, refl, sym, ap, ◌∙◌}
 use Rattle.std.proofs.lemmas.Bool.{eqb-true}
 use Rattle.std.proofs.lemmas.List.Concat.{flat_map-append}
 use Rattle.cell_units.specs.declared.place.Bias.{Bias}

@@ -1,17 +1,16 @@
 -- The places of a layer with inlays and without folds: an offset and the lengths of the inlays before it.
-use Rattle.std.proofs.Common.{◌≡◌, ℕ, ◌+◌, ◌<◌, ◌≤◌, ◌⊎◌, suc, zero, Bool, true, false, cond, ltb, leb, eqb, List, [], ◌∷◌, ◌++◌, length, map, take, get_or, filter, flat_map, refl, sym, ap, ◌∙◌, subst, inl, inr, arith, length-append, append-nil}
+use Rattle.std.proofs.Common.{◌≡◌, ℕ, ◌+◌, ◌<◌, ◌≤◌, suc, zero, Bool, true, false, cond, ltb, leb, eqb, List, [], ◌∷◌, ◌++◌, length, map, take, get_or, filter, flat_map, refl, sym, ap, ◌∙◌, subst, inl, inr, arith, append-nil}
 use Rattle.std.specs.List.{sum_by}
 use Rattle.std.proofs.lemmas.Bool.{cases_order, eq-eqb, le-leb, le-ltb, lt-leb, lt-ltb, ne_eqb}
 use Rattle.std.proofs.lemmas.List.{length-take-le, take_more}
-use Rattle.std.proofs.lemmas.List.Concat.{flat_map-append}
 use Rattle.std.proofs.lemmas.List.Sums.{sum_by-cons}
 use Rattle.cell_units.specs.declared.place.Bias.{Bias}
 use Rattle.cell_units.specs.declared.place.Bias.TheVariants.{Left, Right}
 use Rattle.cell_units.specs.Text.{clean}
 use Rattle.cell_units.specs.Record.{Inlay}
-use Rattle.cell_units.specs.Inlaid.{Token, Byte, InlayByte, bytes_of, inlaid_place, inlay_bytes, inlays_at, show_each}
+use Rattle.cell_units.specs.Inlaid.{Token, Byte, InlayByte, inlaid_place, inlay_bytes, inlays_at, show_each}
 use Rattle.cell_units.specs.Folded.{folded_place, shown}
-use Rattle.cell_units.specs.Layers.{Source, inlay_source, place_of}
+use Rattle.cell_units.specs.Layers.{inlay_source, place_of}
 use Rattle.cell_units.specs.Laws.{inlaid_bytes}
 use Rattle.cell_units.proofs.ShownText.{show_each-append, size, size-append}
 

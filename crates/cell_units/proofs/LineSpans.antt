@@ -1,7 +1,7 @@
 -- The line of a place: its number, and that its span has the row of the offset that stands there.
-use Rattle.std.proofs.Common.{◌≡◌, ℕ, ◌+◌, ◌-◌, ◌<◌, ◌≤◌, ◌⊎◌, suc, zero, Bool, true, false, cond, List, [], ◌∷◌, ◌++◌, length, map, take, drop, get_or, flat_map, filter, eqb, refl, sym, ap, ◌∙◌, subst, inl, inr, arith, append-nil, append_assoc}
+use Rattle.std.proofs.Common.{◌≡◌, ℕ, ◌+◌, ◌-◌, ◌<◌, ◌≤◌, suc, zero, Bool, true, false, cond, List, [], ◌∷◌, ◌++◌, length, map, take, drop, get_or, flat_map, filter, eqb, refl, sym, ap, ◌∙◌, subst, inl, inr, arith, append-nil, append_assoc}
 use Rattle.std.specs.List.{count_by}
-use Rattle.std.proofs.lemmas.Bool.{cases_Bool, cases_lt, false≢true, eqb-true}
+use Rattle.std.proofs.lemmas.Bool.{cases_lt, false≢true, eqb-true}
 use Rattle.std.proofs.lemmas.List.{drop_all, drop_more, take_more, length-take-le, length_push, take_at, take-append-drop, take-append-le}
 use Rattle.std.proofs.lemmas.List.Concat.{flat_map-append}
 use Rattle.std.proofs.lemmas.List.Sums.{sum_by-cons}
@@ -12,7 +12,6 @@ use Rattle.cell_units.specs.Cutting.{onto_line, cut_lines}
 use Rattle.cell_units.specs.Record.{Inlay, Fold}
 use Rattle.cell_units.specs.Inlaid.{Token, Byte, InlayByte, Hidden, offset_of, bytes_of, is_break, inlays_at, inlay_bytes, show_each}
 use Rattle.cell_units.specs.Folded.{inside, covered, shown, folded, folded_before, folded_to, line_of, span_start, span_end}
-use Rattle.cell_units.specs.Lawful.{IsWellFormed}
 use Rattle.cell_units.specs.Layers.{Source, place_of, shown_text, line_tokens, span_of}
 use Rattle.cell_units.proofs.BufferLines.{feeds-append, feeds-cons}
 use Rattle.cell_units.proofs.CutLists.{Every, Every-append, Every-left, Every-mono, Every-right}

@@ -1,5 +1,5 @@
 -- Without folds each display line is in one row of the buffer.
-use Rattle.std.proofs.Common.{◌≡◌, ℕ, ◌+◌, ◌<◌, ◌≤◌, suc, zero, Bool, true, false, cond, List, [], ◌∷◌, ◌++◌, length, drop, get_or, refl, sym, ap, ◌∙◌, subst, arith, append_assoc}
+use Rattle.std.proofs.Common.{◌≡◌, ℕ, ◌+◌, ◌<◌, ◌≤◌, suc, Bool, true, false, cond, List, [], ◌∷◌, ◌++◌, length, drop, get_or, refl, sym, ap, ◌∙◌, subst, arith, append_assoc}
 use Rattle.std.specs.List.{All}
 use Rattle.std.proofs.lemmas.List.{drop_more, length-drop}
 use Rattle.std.proofs.lemmas.List.Elements.{All-cons, All-nil}
@@ -8,7 +8,7 @@ use Rattle.cell_units.specs.Text.{line_feed, is_feed, row_of}
 use Rattle.cell_units.specs.Cutting.{onto_line, cut_lines}
 use Rattle.cell_units.specs.Record.{Inlay}
 use Rattle.cell_units.specs.Inlaid.{Token, Byte, offset_of, is_break, inlays_at, show_each}
-use Rattle.cell_units.specs.Folded.{shown, folded, display_lines, span_start, span_end}
+use Rattle.cell_units.specs.Folded.{shown, folded, display_lines}
 use Rattle.cell_units.specs.Laws.{IsInOneRow}
 use Rattle.cell_units.proofs.CutLists.{Every}
 use Rattle.cell_units.proofs.LineSpans.{IsAt, inlays-at}

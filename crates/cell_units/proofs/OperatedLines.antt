@@ -17,7 +17,7 @@ use Rattle.cell_units.specs.LineCounts.{KeepsCount, lines_of, operated_piece}
 use Rattle.cell_units.proofs.CutLists.{Every, Every-mono, Every-append, Every-left, Every-right}
 use Rattle.cell_units.proofs.CutRuns.{Counted}
 use Rattle.cell_units.proofs.Moves.{move_token}
-use Rattle.cell_units.proofs.SortedLists.{IsSorted, IsSorted-sort}
+use Rattle.cell_units.proofs.SortedLists.{IsSorted}
 use Rattle.cell_units.proofs.EntryOrders.{inlay_total, inlay_trans}
 use Rattle.cell_units.proofs.Entries.{sorted_entries}
 use Rattle.cell_units.proofs.CountedLines.{replaced}

@@ -1,10 +1,8 @@
 -- The pieces of a line are its longest runs of tokens of one piece.
-use Rattle.std.proofs.Common.{◌≡◌, ℕ, ◌<◌, ◌≤◌, Bool, true, false, cond, List, [], ◌∷◌, ◌++◌, length, length-append, map, take, refl, ap, sym, ◌∙◌, append-nil, arith}
-use Rattle.std.specs.Prelude.{Option, Some, None, slice_get}
-use Rattle.std.specs.List.{All, flat_map, last_or}
+use Rattle.std.proofs.Common.{◌≡◌, ℕ, ◌<◌, Bool, true, false, List, [], ◌∷◌, ◌++◌, length, length-append, map, take, refl, ap, sym, ◌∙◌, append-nil, arith}
+use Rattle.std.specs.List.{All, flat_map}
 use Rattle.std.proofs.lemmas.Bool.{false≢true}
 use Rattle.cell_units.specs.declared.piece.Piece.{Piece}
-use Rattle.cell_units.specs.declared.piece.PieceKind.{PieceKind}
 use Rattle.cell_units.specs.Inlaid.{Token, Byte, InlayByte, Hidden, bytes_of, offset_of}
 use Rattle.cell_units.specs.Pieces.{AreNeighbours, ArePiecesOf, IsRun, IsSeam, before_break, is_one_piece, kind_of, piece_before, pieces_of}
 use Rattle.cell_units.proofs.CutLists.{Every}

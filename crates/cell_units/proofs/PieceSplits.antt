@@ -1,8 +1,8 @@
 -- Where the pieces of a line may be taken apart.
-use Rattle.std.proofs.Common.{◌≡◌, ℕ, Bool, true, false, cond, List, [], ◌∷◌, ◌++◌, refl, sym, ap, ◌∙◌}
+use Rattle.std.proofs.Common.{◌≡◌, ℕ, Bool, true, false, List, [], ◌∷◌, ◌++◌, refl, sym, ap, ◌∙◌}
 use Rattle.cell_units.specs.declared.piece.Piece.{Piece}
-use Rattle.cell_units.specs.Inlaid.{Token, Byte, InlayByte, Hidden, offset_of, bytes_of}
-use Rattle.cell_units.specs.Pieces.{pieces_of, piece_before, is_one_piece, kind_of}
+use Rattle.cell_units.specs.Inlaid.{Token, offset_of}
+use Rattle.cell_units.specs.Pieces.{pieces_of, piece_before, is_one_piece}
 
 -- a list that has a first piece
 pub record Some (ps : List Piece) : Type 0 where

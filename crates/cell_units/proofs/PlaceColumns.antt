@@ -1,5 +1,5 @@
 -- The column of a place is how many bytes of its display line stand before the position.
-use Rattle.std.proofs.Common.{◌≡◌, ℕ, ◌+◌, ◌-◌, ◌<◌, ◌≤◌, suc, zero, not, Bool, true, false, cond, List, [], ◌∷◌, ◌++◌, length, take, drop, get_or, flat_map, refl, sym, ap, ◌∙◌, subst, arith, append_assoc, length-append, reverse}
+use Rattle.std.proofs.Common.{◌≡◌, ℕ, ◌+◌, ◌-◌, ◌≤◌, suc, zero, not, Bool, true, false, cond, List, [], ◌∷◌, ◌++◌, length, take, drop, get_or, refl, sym, ap, ◌∙◌, subst, arith, append_assoc, length-append}
 use Rattle.std.specs.List.{suffix_len, after_last, prefix_len}
 use Rattle.std.proofs.lemmas.List.{drop-append-le, drop_all, length_push, reverse-append, take_all, take_more}
 use Rattle.std.proofs.lemmas.List.Concat.{flat_map-append}

@@ -1,5 +1,5 @@
 -- The layer that a text is by itself: a source without inlays and folds.
-use Rattle.std.proofs.Common.{◌≡◌, ℕ, ◌+◌, ◌-◌, ◌<◌, ◌≤◌, zero, suc, Bool, true, false, cond, List, [], ◌∷◌, ◌++◌, length, map, take, drop, get_or, slice_range, flat_map, refl, sym, ap, subst, ◌∙◌, inl, inr, arith, zero-add, Some, None, append-nil}
+use Rattle.std.proofs.Common.{◌≡◌, ℕ, ◌+◌, ◌<◌, ◌≤◌, zero, suc, Bool, true, false, cond, List, [], ◌∷◌, ◌++◌, length, take, get_or, slice_range, flat_map, refl, sym, ap, subst, ◌∙◌, inl, inr, arith, Some, None, append-nil}
 use Rattle.std.specs.Prelude.{slice_get}
 use Rattle.std.specs.List.{sum_by}
 use Rattle.std.proofs.lemmas.Bool.{cases_lt}
@@ -12,7 +12,7 @@ use Rattle.cell_units.specs.declared.piece.Piece.{Piece}
 use Rattle.cell_units.specs.Text.{is_feed, row_of, IsBoundary, IsText}
 use Rattle.cell_units.specs.Cutting.{onto_line}
 use Rattle.cell_units.specs.Record.{Fold, Inlay, fold_le, inlay_le, line_count}
-use Rattle.cell_units.specs.Inlaid.{Token, bytes_of, show_each}
+use Rattle.cell_units.specs.Inlaid.{bytes_of, show_each}
 use Rattle.cell_units.specs.Folded.{shown}
 use Rattle.cell_units.specs.BufferLines.{buffer_lines, behind_feeds, line_start, line_end}
 use Rattle.cell_units.specs.Lawful.{AreEntries, IsFoldOf, IsInlayOf, IsWellFormed}

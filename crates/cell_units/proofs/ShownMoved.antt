@@ -3,16 +3,14 @@ use Rattle.cell_units.specs.Sorting.{insert_by, sort_by}
 use Rattle.std.proofs.Common.{◌≡◌, ℕ, ◌+◌, ◌-◌, ◌<◌, ◌≤◌, Bool, true, false, cond, eqb, ltb, leb, List, [], ◌∷◌, ◌++◌, length, map, refl, sym, ap, ◌∙◌, arith, append_assoc}
 use mathlib.Core.Bool.{◌&&◌, ◌||◌}
 use Rattle.std.specs.List.{list_any, filter, flat_map}
-use Rattle.std.proofs.lemmas.Bool.{cases_Bool, false≢true, cases_order, lt-ltb, le-leb, ltb-true, leb-true, leb-false, eqb-true, and_parts, and_from, or_cases, or_left, or_right, eq-eqb}
+use Rattle.std.proofs.lemmas.Bool.{false≢true, lt-ltb, le-leb, ltb-true, leb-true, eqb-true, and_parts, and_from}
 use Rattle.cell_units.proofs.EntryOrders.{in_order_here, in_order_rest, inlay_total, inlay_trans}
-use mathlib.Core.Logic.{◌⊎◌}
-use Rattle.std.proofs.Common.{inl, inr}
 use Rattle.cell_units.specs.Anchor.{move}
 use Rattle.cell_units.proofs.SortedLists.{IsSorted, filter-moved_sort}
 use Rattle.std.proofs.lemmas.List.{append-nil, map-append, map-id}
 use Rattle.cell_units.specs.declared.place.Bias.TheVariants.{Left, Right}
 use Rattle.cell_units.specs.Text.{line_feed, clean}
-use Rattle.cell_units.specs.Record.{Inlay, Fold, inlay_le, fold_le, in_order, bias_rank}
+use Rattle.cell_units.specs.Record.{Inlay, Fold, inlay_le, fold_le}
 use Rattle.cell_units.specs.Operation.{move_inlay, move_fold, moved_inlays, moved_folds}
 use Rattle.cell_units.specs.Inlaid.{Token, Byte, InlayByte, Hidden, offset_of, is_break, inlay_bytes, inlays_at, show_each}
 use Rattle.cell_units.specs.Folded.{inside, covered, shown}

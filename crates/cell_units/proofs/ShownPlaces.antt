@@ -1,11 +1,9 @@
 -- The places of a layer don't fall as the offset rises.
-use Rattle.std.proofs.Common.{◌≡◌, ℕ, ◌+◌, ◌-◌, ◌<◌, ◌≤◌, suc, zero, Bool, true, false, cond, List, [], ◌∷◌, ◌++◌, length, take, drop, get_or, flat_map, refl, sym, ap, ◌∙◌, subst, arith, append-nil, append_assoc, length-append}
-use Rattle.std.proofs.lemmas.Bool.{cases_lt}
+use Rattle.std.proofs.Common.{◌≡◌, ℕ, ◌+◌, ◌-◌, ◌<◌, ◌≤◌, suc, zero, Bool, true, false, cond, List, [], ◌∷◌, ◌++◌, length, take, drop, get_or, sym, ap, ◌∙◌, subst, arith, append-nil, append_assoc}
 use Rattle.std.proofs.lemmas.List.{take_at, take_more, take-append-drop, length_push, length-take-le}
-use Rattle.std.proofs.lemmas.List.Concat.{flat_map-append}
 use Rattle.cell_units.specs.declared.place.Bias.{Bias}
 use Rattle.cell_units.specs.declared.place.Bias.TheVariants.{Left, Right}
-use Rattle.cell_units.specs.Inlaid.{Token, Byte, Hidden, bytes_of, inlays_at, show_each}
+use Rattle.cell_units.specs.Inlaid.{Token, Byte, Hidden, inlays_at, show_each}
 use Rattle.cell_units.specs.Folded.{inside, covered, shown, folded_before}
 use Rattle.cell_units.specs.Layers.{Source, place_of, shown_text}
 use Rattle.cell_units.proofs.ShownText.{show_each-append, size, size-append}

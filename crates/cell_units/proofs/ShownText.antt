@@ -1,18 +1,16 @@
 -- The text of a layer is its lines.
-use Rattle.std.proofs.Common.{◌≡◌, ℕ, ◌+◌, ◌<◌, ◌≤◌, suc, zero, Bool, true, false, cond, List, [], ◌∷◌, ◌++◌, length, length-append, map, take, drop, get_or, flat_map, refl, sym, ap, ◌∙◌, subst, arith, append-nil, append_assoc, zero-add}
-use Rattle.std.specs.List.{All, list_any, count_by}
-use Rattle.std.proofs.lemmas.List.{get_or-map, take_all, length-map}
+use Rattle.std.proofs.Common.{◌≡◌, ℕ, ◌+◌, Bool, true, false, cond, List, [], ◌∷◌, ◌++◌, length, length-append, map, flat_map, refl, sym, ap, ◌∙◌, subst, arith, append-nil, append_assoc}
+use Rattle.std.proofs.lemmas.List.{take_all, length-map}
 use Rattle.std.proofs.lemmas.List.Concat.{flat_map-append}
-use Rattle.cell_units.specs.declared.place.Bias.TheVariants.{Left, Right}
+use Rattle.cell_units.specs.declared.place.Bias.TheVariants.{Right}
 use Rattle.cell_units.specs.declared.piece.Piece.{Piece}
-use Rattle.cell_units.specs.Text.{line_feed, is_feed, row_of}
+use Rattle.cell_units.specs.Text.{line_feed, is_feed}
 use Rattle.cell_units.specs.Cutting.{onto_line, cut_lines}
 use Rattle.cell_units.specs.Record.{Inlay, Fold, line_count}
 use Rattle.cell_units.specs.Inlaid.{Token, Byte, InlayByte, Hidden, bytes_of, is_break, inlays_at, show_each}
 use Rattle.cell_units.specs.Folded.{inside, covered, shown, folded, folded_before, folded_to, display_lines}
 use Rattle.cell_units.specs.Pieces.{before_break, pieces_of, piece_before, is_one_piece}
 use Rattle.cell_units.specs.BufferLines.{buffer_lines}
-use Rattle.cell_units.specs.Lawful.{IsWellFormed}
 use Rattle.cell_units.specs.Layers.{Source, shown_lines, shown_text}
 use Rattle.cell_units.proofs.BufferLines.{length-buffer_lines}
 

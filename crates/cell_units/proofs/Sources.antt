@@ -1,7 +1,7 @@
 -- What is so of each layer.
-use Rattle.std.proofs.Common.{◌≡◌, ℕ, ◌+◌, ◌<◌, ◌≤◌, ◌⊎◌, suc, zero, Bool, true, false, cond, List, [], ◌∷◌, ◌++◌, length, map, get_or, slice_range, refl, sym, ap, ◌∙◌, subst, inl, inr, arith}
+use Rattle.std.proofs.Common.{◌≡◌, ℕ, ◌+◌, ◌<◌, ◌≤◌, ◌⊎◌, Bool, true, false, cond, List, [], ◌∷◌, length, get_or, slice_range, refl, sym, ap, ◌∙◌, subst, inl, inr, arith}
 use Rattle.std.specs.List.{All, count_by}
-use Rattle.std.proofs.lemmas.Bool.{cases_Bool, false≢true}
+use Rattle.std.proofs.lemmas.Bool.{cases_Bool}
 use Rattle.std.proofs.lemmas.List.{get_or-map, get_or_default}
 use Rattle.std.proofs.lemmas.List.Elements.{All-cons, All-nil}
 use Rattle.cell_units.specs.declared.piece.Piece.{Piece}
@@ -12,7 +12,7 @@ use Rattle.cell_units.specs.BufferLines.{buffer_lines, line_start, line_end}
 use Rattle.cell_units.specs.Lawful.{IsWellFormed}
 use Rattle.cell_units.specs.Layers.{Source, shown_lines, shown_text}
 use Rattle.cell_units.specs.Laws.{HasNoFeed, IsCopied}
-use Rattle.cell_units.proofs.BufferLines.{LineAt, buffer_line, feeds-append, feeds-cons, get_or-buffer_lines, line_count-is}
+use Rattle.cell_units.proofs.BufferLines.{buffer_line, feeds-append, feeds-cons, get_or-buffer_lines, line_count-is}
 use Rattle.cell_units.proofs.BufferPieces.{shown-copied}
 use Rattle.cell_units.proofs.Joined.{covered_inside, covered_of}
 use Rattle.cell_units.proofs.ReplacedRows.{row_of-lt}

@@ -1,8 +1,7 @@
 -- Worked rows of layers.
-use Rattle.std.proofs.Common.{◌≡◌, ℕ, List, [], ◌∷◌, ◌++◌, map, refl}
+use Rattle.std.proofs.Common.{◌≡◌, List, [], ◌∷◌, ◌++◌, map, refl}
 use Rattle.std.specs.Prelude.{codes}
 use Rattle.cell_units.specs.declared.place.Bias.TheVariants.{Left, Right}
-use Rattle.cell_units.specs.declared.place.Point.{Point}
 use Rattle.cell_units.specs.declared.piece.PieceKind.TheVariants.{Buffer, Inlay, Placeholder}
 use Rattle.cell_units.specs.Record as records
 use Rattle.cell_units.specs.Inlaid.{placeholder}
