@@ -32,10 +32,12 @@ pub fn one_composition()
 /// It does not matter which two of three patches are composed first, the patch of no edit changes nothing, and the way
 /// back from a composition goes back through the second patch first.
 pub fn composition()
-    ensures associative { (a b c ab bc x y : List Edit) → IsComposed a b ab → IsComposed ab c x → IsComposed b c bc → IsComposed a bc y → x ≡ y }
+    ensures associative { (a b c ab bc x y : List Edit) →
+        IsComposed a b ab → IsComposed ab c x → IsComposed b c bc → IsComposed a bc y → x ≡ y }
     ensures none_later { (a : List Edit) → IsPatch a → IsComposed a [] a }
     ensures none_earlier { (a : List Edit) → IsPatch a → IsComposed [] a a }
-    ensures reversed { (a b c : List Edit) → IsPatch a → IsPatch b → IsComposed a b c → IsComposed (inverted b) (inverted a) (inverted c) }
+    ensures reversed { (a b c : List Edit) → IsPatch a → IsPatch b → IsComposed a b c →
+        IsComposed (inverted b) (inverted a) (inverted c) }
 {}
 
 /// Patches that fit lists fit them backwards too, and compose to one that fits. Where the lengths are u32, so are the
@@ -43,20 +45,24 @@ pub fn composition()
 pub fn fitting<T>()
     ensures none { (xs : List T) → Fits [] xs xs }
     ensures inverse { (a : List Edit) (old new : List T) → IsPatch a → Fits a old new → Fits (inverted a) new old }
-    ensures composed { (a b c : List Edit) (old mid new : List T) → IsPatch a → IsPatch b → IsComposed a b c → Fits a old mid → Fits b mid new → Fits c old new }
+    ensures composed { (a b c : List Edit) (old mid new : List T) → IsPatch a → IsPatch b → IsComposed a b c →
+        Fits a old mid → Fits b mid new → Fits c old new }
     ensures small { (a : List Edit) (old new : List T) → Fits a old new → length old < 2 ^ 32 → length new < 2 ^ 32 → AllFit a }
 {}
 
 /// One replacement is a patch, and fits the list before it and the list after it.
 pub fn replacing<T>()
     ensures normal { (start end count : ℕ) → start ≤ end → IsPatch (replacement start end count) }
-    ensures fits { (before removed added after : List T) → Fits (replacement (length before) (length before + length removed) (length added)) (before ++ removed ++ after) (before ++ added ++ after) }
+    ensures fits { (before removed added after : List T) →
+        Fits (replacement (length before) (length before + length removed) (length added))
+        (before ++ removed ++ after) (before ++ added ++ after) }
 {}
 
 /// Ranges that are not backwards have a place in common where neither is behind the other. What an edit meets in the
 /// old text its inverse meets in the new one.
 pub fn meeting()
-    ensures order { (start end first last : ℕ) → start ≤ end → first ≤ last → HaveCommon start end first last ↔ ((start ≤ last) × (first ≤ end)) }
+    ensures order { (start end first last : ℕ) → start ≤ end → first ≤ last →
+        HaveCommon start end first last ↔ ((start ≤ last) × (first ≤ end)) }
     ensures inverse { (a : List Edit) (first last : ℕ) → MeetsNew (inverted a) first last ↔ MeetsOld a first last }
 {}
 

@@ -126,7 +126,8 @@ impl Merge {
     fn close(&mut self) -> Result<(), NoMemory>
         requires { IsClosable self.old.front }
         ensures front { OnOk result (self.new.front ≡ self.old.front) }
-        ensures edits { OnOk result (self.new.edits.items ≡ self.old.edits.items ++ open_edit self.old.front) }
+        ensures edits { OnOk result
+            (self.new.edits.items ≡ self.old.edits.items ++ open_edit self.old.front) }
     {
         if let Some(edit) = self.front.open_edit() {
             self.edits.push(edit)?;
@@ -139,7 +140,8 @@ impl Merge {
     fn advance(&mut self, middle: u32) -> Result<(), NoMemory>
         requires { CanAdvance self.old.front middle }
         ensures front { OnOk result (self.new.front ≡ advanced self.old.front middle) }
-        ensures edits { OnOk result (self.new.edits.items ≡ self.old.edits.items ++ passed self.old.front middle) }
+        ensures edits { OnOk result
+            (self.new.edits.items ≡ self.old.edits.items ++ passed self.old.front middle) }
         ensures bounded { OnOk result (IsBounded self.new.front) }
     {
         let middle = u64::from(middle);
@@ -153,8 +155,10 @@ impl Merge {
     /// Takes the next edit of the first patch.
     fn take_first(&mut self, edit: &Edit) -> Result<(), NoMemory>
         requires { CanAdvance self.old.front edit.now.new_start }
-        ensures front { OnOk result (self.new.front ≡ with_first (advanced self.old.front edit.now.new_start) edit.now) }
-        ensures edits { OnOk result (self.new.edits.items ≡ self.old.edits.items ++ passed self.old.front edit.now.new_start) }
+        ensures front { OnOk result
+            (self.new.front ≡ with_first (advanced self.old.front edit.now.new_start) edit.now) }
+        ensures edits { OnOk result
+            (self.new.edits.items ≡ self.old.edits.items ++ passed self.old.front edit.now.new_start) }
         ensures bounded { OnOk result (IsBounded self.new.front) }
     {
         self.advance(edit.new_start)?;
@@ -168,8 +172,10 @@ impl Merge {
     /// Takes the next edit of the second patch.
     fn take_second(&mut self, edit: &Edit) -> Result<(), NoMemory>
         requires { CanAdvance self.old.front edit.now.old_start }
-        ensures front { OnOk result (self.new.front ≡ with_second (advanced self.old.front edit.now.old_start) edit.now) }
-        ensures edits { OnOk result (self.new.edits.items ≡ self.old.edits.items ++ passed self.old.front edit.now.old_start) }
+        ensures front { OnOk result
+            (self.new.front ≡ with_second (advanced self.old.front edit.now.old_start) edit.now) }
+        ensures edits { OnOk result
+            (self.new.edits.items ≡ self.old.edits.items ++ passed self.old.front edit.now.old_start) }
         ensures bounded { OnOk result (IsBounded self.new.front) }
     {
         self.advance(edit.old_start)?;
