@@ -1,12 +1,36 @@
 -- Rows of versions.
-use Rattle.std.proofs.Common.{◌≡◌, ℕ, zero, suc, ◌+◌, ◌<◌, ◌≤◌, All, slice_index_or, true, List, [], ◌∷◌, ◌++◌, length, refl, ap, sym, subst, ◌∙◌, arith, append_assoc, append-nil, length-append}
+use Rattle.std.proofs.Common.{◌≡◌, ℕ, zero, suc, ◌+◌, ◌<◌, ◌≤◌, cond, All, Bool, true, false, List, [], ◌∷◌, ◌++◌, length, refl, ap, sym, subst, ◌∙◌, arith, append_assoc, append-nil, length-append}
+use Rattle.std.proofs.lemmas.List.Sums.{sum_by-append}
 use mathlib.Core.Bool.{true≢false}
 use mathlib.Core.List.{IsPrefix}
+use Rattle.display_map.specs.declared.event.Event.{Event}
+use Rattle.display_map.specs.declared.event.Event.TheVariants.{Published}
 use Rattle.display_map.specs.declared.version.Version.{Version}
-use Rattle.display_map.specs.Replay.{versions_of, ends}
+use Rattle.display_map.specs.Replay.{History, appended, versions_of, is_published, ends}
 use Rattle.version_board.specs.Known.{Known, GoesOn}
-use Rattle.version_board.specs.Rows.{BeginsWith, Follows, AreFollowing, IsRow, IsRowTo}
+use Rattle.version_board.specs.Rows.{BeginsWith, Follows, IsFirst, AreFollowing, IsRow, IsRowTo}
 use Rattle.version_board.proofs.Prefixes.{prefix_trans, prefix_shorter}
+
+versions-append : (xs ys : List Event) → versions_of (xs ++ ys) ≡ versions_of xs + versions_of ys
+versions-append xs ys = sum_by-append (λ (e : Event). cond (is_published e) 1 0) xs ys
+
+-- what a display publishes first may open a row
+pub may_open : (h : History) (last : Bool) → versions_of h.events ≡ 0 → IsFirst (appended h (Published last ∷ []))
+may_open h last none = record {
+  published = (h.events, last, refl);
+  number = omega (arith, versions-append h.events (Published last ∷ []), none);
+}
+
+-- what a display publishes next may follow
+pub may_follow : (v : Version) (more : List Event) (last : Bool) → ends v.events ≡ false → versions_of more ≡ 0
+    → Follows v (appended (appended v more) (Published last ∷ []))
+may_follow v more last goes_on none = record {
+  goes_on = goes_on;
+  opening = refl;
+  begins = (more ++ Published last ∷ [], sym (append_assoc v.events more (Published last ∷ [])));
+  published = (v.events ++ more, last, refl);
+  number = omega (arith, versions-append (v.events ++ more) (Published last ∷ []), versions-append v.events more, none);
+}
 
 following_number : (u : Version) (rest : List Version) (v : Version) → AreFollowing u (rest ++ v ∷ []) → versions_of v.events ≡ versions_of u.events + length rest + 1
 following_number u [] v f = omega (arith, f.0.number)

@@ -12,7 +12,7 @@
 //! Nothing is promised of when a reader sees a version that it wasn't told of.
 #![tactic(auto)]
 
-pub mod kept;
+mod kept;
 pub mod laws;
 mod make;
 pub mod reader;
@@ -25,3 +25,6 @@ pub use laws::{one_row, one_row_of_readers, row_laws};
 pub use make::board;
 pub use reader::Reader;
 pub use writer::{Told, Writer};
+
+#[cfg(test)]
+mod tests;

@@ -30,8 +30,9 @@ impl Model for Reader {
 }
 
 impl Reader {
-    ghost use Rattle.std.specs.Prelude.{◌≡◌, true, All};
+    ghost use Rattle.std.specs.Prelude.{◌≡◌, true, All, IfSome};
     ghost use Rattle.std.specs.Borrow.{sem};
+    ghost use Rattle.std.specs.Option.{ForSome};
     ghost use Rattle.display_map.specs.Replay.{ends};
     ghost use Rattle.version_board.specs.Known.{GoesOn};
     ghost use Rattle.version_board.specs.Looking.{Sees};
@@ -44,20 +45,29 @@ impl Reader {
         ensures begins { All (λ v. BeginsWith result.now v) self.old.row }
         ensures last { ends self.old.newest.events ≡ true → result.now ≡ self.old.newest }
     {
-        self.catch_up();
+        let found = self.enter();
+        self.keep(found);
         self.kept.version()
     }
 
-    /// Keeps what is shown, where the board can be entered and the version shared.
-    fn catch_up(&mut self)
-        ensures { GoesOn self.old self.new }
+    /// What is shown, where the board can be entered and the version shared.
+    fn enter(&mut self) -> Option<Kept>
+        ensures board { IfSome result (λ found. found.board ≡ self.old.board) }
+        ensures same { self.new ≡ self.old }
     {
-        if let Some(seat) = self.seat.take() {
-            let (seat, found) = enter(seat);
-            self.seat = Some(seat);
-            if let Some(found) = found {
-                self.kept.take_in(found);
-            }
+        let (seat, found) = enter(self.seat.take()?);
+        self.seat = Some(seat);
+        found
+    }
+
+    /// Keeps what was found, if it is later than what is kept.
+    fn keep(&mut self, found: Option<Kept>)
+        requires { ForSome found (λ found. found.board ≡ self.old.board) }
+        ensures this { GoesOn self.old self.new }
+        ensures that { IfSome found (λ found. GoesOn found self.new) }
+    {
+        if let Some(found) = found {
+            self.kept.take_in(found);
         }
     }
 
@@ -68,6 +78,6 @@ impl Reader {
         ensures that { GoesOn told self.new }
     {
         let Told { kept } = told;
-        self.kept.take_in(kept);
+        self.keep(Some(kept));
     }
 }
