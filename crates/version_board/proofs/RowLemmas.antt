@@ -3,8 +3,7 @@ use Rattle.std.proofs.Common.{◌≡◌, ℕ, zero, suc, ◌+◌, ◌<◌, ◌�
 use Rattle.std.proofs.lemmas.List.Sums.{sum_by-append}
 use mathlib.Core.Bool.{true≢false}
 use mathlib.Core.List.{IsPrefix}
-use Rattle.display_map.specs.declared.event.Event.{Event}
-use Rattle.display_map.specs.declared.event.Event.TheVariants.{Published}
+use Rattle.display_map.specs.Events.{Event, Published}
 use Rattle.display_map.specs.declared.version.Version.{Version}
 use Rattle.display_map.specs.Replay.{History, appended, versions_of, is_published, ends}
 use Rattle.version_board.specs.Known.{Known, GoesOn}

@@ -1,8 +1,7 @@
 -- Rows of versions. A version is seen as its history: an opening text and a journal.
 use Rattle.std.specs.Prelude.{◌≡◌, ◌+◌, false, Bool, List, [], ◌∷◌, ◌++◌}
 use mathlib.Core.List.{IsPrefix}
-use Rattle.display_map.specs.declared.event.Event.{Event}
-use Rattle.display_map.specs.declared.event.Event.TheVariants.{Published}
+use Rattle.display_map.specs.Events.{Event, Published}
 use Rattle.display_map.specs.Replay.{versions_of, ends}
 use Rattle.display_map.specs.declared.version.Version.{Version}
 

@@ -7,7 +7,7 @@ use crate::make::board;
 use crate::reader::Reader;
 use crate::writer::{Told, Writer};
 use cell_units::{NoMemory, Steps};
-use display_map::{Display, TextFault};
+use display_map::Display;
 use std::alloc::Global;
 use std::sync::Wait;
 use std::test::Fail;
@@ -26,7 +26,6 @@ fn opened(alloc: Global) -> Result<Display, NoMemory>
 {
     match Display::start(alloc, b"abc", &mut Steps::new()) {
         Ok(display) => Ok(display),
-        Err(TextFault::NoMemory) => Err(NoMemory),
         Err(_) => Err(NoMemory),
     }
 }
