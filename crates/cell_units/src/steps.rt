@@ -1,5 +1,5 @@
 //! A counter of work, for bounds from above.
-ghost use Rattle.std.specs.Prelude.{◌≡◌};
+ghost use Rattle.std.specs.Prelude.{◌≡◌, ◌≤◌};
 ghost use Rattle.cell_units.specs.Steps.{ticked};
 
 use std::marker::Model;
@@ -28,7 +28,8 @@ impl Steps {
 
     /// Counts one step.
     pub fn tick(&mut self)
-        ensures { self.new ≡ ticked self.old }
+        ensures value { self.new ≡ ticked self.old }
+        ensures counted { self.old ≤ self.new }
     {
         self.count = self.count.saturating_add(1);
     }

@@ -7,11 +7,13 @@
 #![tactic(auto)]
 
 mod laws;
+mod load;
 mod measure;
 mod node;
 mod summary;
 
 pub use laws::root_holds_many;
+pub use load::{Load, NoLoad};
 pub use measure::{By, Count, Measure};
 pub use node::{Child, Entries, Node, copy_children, copy_items};
 pub use summary::{Dimension, Item, Summary};

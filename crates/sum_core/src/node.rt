@@ -1,5 +1,5 @@
 //! A node that several trees may hold, and that no holder changes for another.
-ghost use Rattle.std.specs.Prelude.{◌≡◌, IfOk, IfErr, map};
+ghost use Rattle.std.specs.Prelude.{◌≡◌, ◌≤◌, IfOk, IfErr, map};
 ghost use Rattle.std.specs.Borrow.{sem};
 ghost use Rattle.sum_core.specs.Lending.{LendsEntries};
 ghost use Rattle.sum_core.specs.Nodes.{entries_of, contents, child_value};
@@ -44,6 +44,7 @@ impl<T: Item> Node<T> {
         ensures ok { IfOk result (λ n. entries_of n ≡ entries) }
         ensures err { IfErr result (λ e. e ≡ entries) }
         ensures ticks { steps.new ≡ ticked steps.old }
+        ensures counted { steps.old ≤ steps.new }
     {
         steps.tick();
         match Arc::new(alloc, entries) {
@@ -56,8 +57,9 @@ impl<T: Item> Node<T> {
     pub fn entries(&self, steps: &mut Steps) -> &Entries<T>
         ensures value { result.now ≡ entries_of self.now }
         ensures ticks { steps.new ≡ ticked steps.old }
+        ensures counted { steps.old ≤ steps.new }
     {
-        steps.tick(); // reading is one step
+        steps.tick();
         &self.inner
     }
 
@@ -76,6 +78,7 @@ impl<T: Item> Node<T> {
         ensures* writes_back { sem 𝓛 (LendsEntries T.row T.Sum.row self.entry result) }
         ensures value { IfOk result (λ e. contents e.now ≡ contents (entries_of self.old)) }
         ensures ticks { steps.new ≡ ticked steps.old }
+        ensures counted { steps.old ≤ steps.new }
     {
         steps.tick();
         self.unshare(alloc)?;

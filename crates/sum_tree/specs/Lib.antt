@@ -1,3 +1,4 @@
+pub mod Bounds
 pub mod Cursors
 pub mod Firsts
 pub mod Parts

@@ -2,6 +2,7 @@
 ghost use Rattle.std.specs.Prelude.{ℕ, ◌≡◌, ◌+◌, ◌-◌, ◌*◌, ◌^◌, ◌<◌, ◌≤◌, length, min, MatchOption, IfSome};
 ghost use Rattle.std.specs.Option.{option_copied};
 ghost use Rattle.sum_core.specs.Sums.{total};
+ghost use Rattle.sum_tree.specs.Bounds.{TakesAtMost, way};
 ghost use Rattle.sum_tree.specs.Cursors.{IsSought, last_of, measure_to};
 ghost use Rattle.sum_tree.specs.Paths.{IsTreeSeen, IsItem, items_seen};
 
@@ -23,7 +24,8 @@ pub struct Cursor<'a, T: Item, D: Dimension<T::Sum>> {
 }
 
 impl<'a, T: Item, D: Dimension<T::Sum>> Model for Cursor<'a, T, D> {
-    ghost use Rattle.sum_tree.specs.Cursors.{Standing};
+    ghost use Rattle.sum_tree.specs.Bounds.{TakesAtMost, way};
+ghost use Rattle.sum_tree.specs.Cursors.{Standing};
     ghost use Rattle.sum_tree.specs.Paths.{IsCursor, items_seen};
 
     ghost Value = { Standing T };
@@ -56,7 +58,8 @@ impl<'a, T: Item, D: Dimension<T::Sum>> Cursor<'a, T, D> {
     pub fn seek(&mut self, target: D, bias: Bias, steps: &mut Steps)
         ensures items { self.new.items ≡ self.old.items }
         ensures sought { IsSought T.Sum.empty T.Sum.joined T.summary D.measure D.cmp self.old.items target bias self.new.place }
-        ensures steps { (h : ℕ) → length self.old.items < 2 * 6 ^ (h + 1) → steps.new ≤ steps.old + 64 * (h + 1) }
+        ensures counted { steps.old ≤ steps.new }
+        ensures steps { TakesAtMost way (length self.old.items) steps.old steps.new }
     {
         let found = self.path.find(&Aim::Sum(target, bias), steps);
         self.settle(found);
@@ -66,7 +69,8 @@ impl<'a, T: Item, D: Dimension<T::Sum>> Cursor<'a, T, D> {
     pub fn next(&mut self, steps: &mut Steps)
         ensures items { self.new.items ≡ self.old.items }
         ensures place { self.new.place ≡ min (self.old.place + 1) (length self.old.items + 1) }
-        ensures steps { (h : ℕ) → length self.old.items < 2 * 6 ^ (h + 1) → steps.new ≤ steps.old + 64 * (h + 1) }
+        ensures counted { steps.old ≤ steps.new }
+        ensures steps { TakesAtMost way (length self.old.items) steps.old steps.new }
     {
         let index = self.place;
         if index < self.path.count() {
@@ -85,7 +89,8 @@ impl<'a, T: Item, D: Dimension<T::Sum>> Cursor<'a, T, D> {
     pub fn prev(&mut self, steps: &mut Steps)
         ensures items { self.new.items ≡ self.old.items }
         ensures place { self.new.place ≡ self.old.place - 1 }
-        ensures steps { (h : ℕ) → length self.old.items < 2 * 6 ^ (h + 1) → steps.new ≤ steps.old + 64 * (h + 1) }
+        ensures counted { steps.old ≤ steps.new }
+        ensures steps { TakesAtMost way (length self.old.items) steps.old steps.new }
     {
         if self.place <= 1 {
             let zero = D::of(T::Sum::zero());

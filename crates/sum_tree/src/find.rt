@@ -34,6 +34,7 @@ pub fn item_at<'a, T: Item>(node: &'a Node<T>, height: usize, at: usize, steps: 
     requires within { at < length (items_of node.now) }
     requires small { length (items_of node.now) < 2 ^ 32 }
     ensures item { slice_get (items_of node.now) at ≡ Some result.now }
+    ensures counted { steps.old ≤ steps.new }
     ensures steps { steps.new ≤ steps.old + height + 1 }
 {
     match node.entries(steps) {

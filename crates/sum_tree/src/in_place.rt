@@ -31,6 +31,7 @@ pub fn put_in_tree<T: Item>(
     requires still_small { length (put from to item (items_of tree.old.node)) < 2 ^ 32 }
     requires fits { T.Sum.fits (total T.Sum.empty T.Sum.joined T.summary (put from to item (items_of tree.old.node))) }
     ensures put { MatchResult result (λ _. IsTreeOf T.Sum.empty T.Sum.joined T.summary tree.new (put from to item (items_of tree.old.node))) (λ i. IsTreeOf T.Sum.empty T.Sum.joined T.summary tree.new (items_of tree.old.node) × (i ≡ item)) }
+    ensures counted { steps.old ≤ steps.new }
     ensures steps { steps.new ≤ steps.old + tree.old.height + 1 }
 {
     let summed = put_in_node(alloc, &mut tree.node, tree.height, from, to, item, steps)?;
@@ -58,6 +59,7 @@ fn put_in_node<T: Item>(
     requires still_small { length (put from to item (items_of node.old)) < 2 ^ 32 }
     requires fits { T.Sum.fits (total T.Sum.empty T.Sum.joined T.summary (put from to item (items_of node.old))) }
     ensures put { MatchResult result (λ s. IsAfter T.Sum.empty T.Sum.joined T.summary height (entries_of node.old) (put from to item (items_of node.old)) (entries_of node.new) × IsSumOf T.Sum.empty T.Sum.joined T.summary (put from to item (items_of node.old)) s) (λ i. IsAfter T.Sum.empty T.Sum.joined T.summary height (entries_of node.old) (items_of node.old) (entries_of node.new) × (i ≡ item)) }
+    ensures counted { steps.old ≤ steps.new }
     ensures steps { steps.new ≤ steps.old + height + 1 }
 {
     match node.alter(alloc, steps) {
@@ -85,6 +87,7 @@ fn put_in_entries<T: Item>(
     requires still_small { length (put from to item (items_in entries.old)) < 2 ^ 32 }
     requires fits { T.Sum.fits (total T.Sum.empty T.Sum.joined T.summary (put from to item (items_in entries.old))) }
     ensures put { MatchResult result (λ s. IsAfter T.Sum.empty T.Sum.joined T.summary height entries.old (put from to item (items_in entries.old)) entries.new × IsSumOf T.Sum.empty T.Sum.joined T.summary (put from to item (items_in entries.old)) s) (λ i. IsAfter T.Sum.empty T.Sum.joined T.summary height entries.old (items_in entries.old) entries.new × (i ≡ item)) }
+    ensures counted { steps.old ≤ steps.new }
     ensures steps { steps.new ≤ steps.old + height }
 {
     match mem::replace(entries, Entries::Leaf(Vec::new(alloc))) {
@@ -124,6 +127,7 @@ fn put_in_children<T: Item>(
     ensures put { MatchResult result (λ s. IsSumOf T.Sum.empty T.Sum.joined T.summary (put from to item (items_under (map child_value children.old.items))) s × (items_under (map child_value children.new.items) ≡ put from to item (items_under (map child_value children.old.items)))) (λ i. (items_under (map child_value children.new.items) ≡ items_under (map child_value children.old.items)) × (i ≡ item)) }
     ensures children { IsChildList T.Sum.empty T.Sum.joined T.summary (IsLawful T.Sum.empty T.Sum.joined T.summary (height - 1)) 6 (map child_value children.new.items) }
     ensures len { length children.new.items ≡ length children.old.items }
+    ensures counted { steps.old ≤ steps.new }
     ensures steps { steps.new ≤ steps.old + height }
 {
     let found = find_child(children, height - 1, to);
@@ -159,6 +163,7 @@ fn put_in_child<T: Item>(
     requires fits { T.Sum.fits (total T.Sum.empty T.Sum.joined T.summary (put from to item (items_of child.old.node))) }
     ensures child { IsChild T.Sum.empty T.Sum.joined T.summary (IsLawful T.Sum.empty T.Sum.joined T.summary below) 6 (child_value child.new) }
     ensures put { MatchResult result (λ _. items_of child.new.node ≡ put from to item (items_of child.old.node)) (λ i. (items_of child.new.node ≡ items_of child.old.node) × (i ≡ item)) }
+    ensures counted { steps.old ≤ steps.new }
     ensures steps { steps.new ≤ steps.old + below + 1 }
 {
     let summed = put_in_node(alloc, &mut child.node, below, from, to, item, steps)?;

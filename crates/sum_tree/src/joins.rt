@@ -23,6 +23,7 @@ pub fn meld_level<T: Item>(
     requires fits { T.Sum.fits (total T.Sum.empty T.Sum.joined T.summary (items_of left.now ++ items_of right.now)) }
     requires small { length (items_of left.now ++ items_of right.now) < 2 ^ 32 }
     ensures packed { IfOk result (λ v. IsPacked T.Sum.empty T.Sum.joined T.summary height (min 6 (width (contents (entries_of left.now)) + width (contents (entries_of right.now)))) (items_of left.now ++ items_of right.now) (map child_value v.items)) }
+    ensures counted { steps.old ≤ steps.new }
     ensures steps { steps.new ≤ steps.old + 4 }
 {
     if height == 0 {
@@ -51,6 +52,7 @@ pub fn meld<T: Item>(
     requires fits { T.Sum.fits (total T.Sum.empty T.Sum.joined T.summary (items_of left.now ++ items_of right.now)) }
     requires small { length (items_of left.now ++ items_of right.now) < 2 ^ 32 }
     ensures melded { IfOk result (λ v. IsMelded T.Sum.empty T.Sum.joined T.summary left_height (entries_of left.now) right_height (entries_of right.now) (map child_value v.items)) }
+    ensures counted { steps.old ≤ steps.new }
     ensures steps { steps.new + 3 * min left_height right_height ≤ steps.old + 3 * max left_height right_height + 4 }
 {
     if left_height == right_height {

@@ -1,14 +1,30 @@
 //! Finding an item by one measure of the items before it.
-ghost use Rattle.std.specs.Prelude.{ℕ, ◌≡◌, ◌+◌, ◌*◌, ◌^◌, ◌<◌, ◌≤◌, length, take, slice_get};
+ghost use Rattle.std.specs.Prelude.{ℕ, ◌≡◌, ◌+◌, ◌*◌, ◌^◌, ◌<◌, ◌≤◌, length, min, take, slice_get};
 ghost use Rattle.std.specs.Option.{option_copied};
 ghost use Rattle.sum_core.specs.Sums.{total};
+ghost use Rattle.sum_tree.specs.Bounds.{TakesAtMost, way};
 ghost use Rattle.sum_tree.specs.Firsts.{IsFirst};
 ghost use Rattle.sum_tree.specs.Paths.{IsPath, items_seen, height_seen};
 
 use crate::path::{Aim, Path};
 use crate::sum_tree::SumTree;
 use cell_units::{Bias, Steps};
-use sum_core::{By, Item, Measure};
+use sum_core::{By, Item, Measure, Summary};
+
+/// The measure of which no sum has anything: with it an item is found by its index alone.
+struct Nothing;
+
+impl<S: Summary> Measure<S> for Nothing {
+    ghost use Rattle.std.proofs.Common.{le-add_right};
+
+    ghost number = { λ s. 0 };
+
+    ghost measure_laws = { record { left_at_most = λ x y f. le-add_right 0 0; right_at_most = λ x y f. le-add_right 0 0 } };
+
+    fn of(_sum: S) -> u32 {
+        0
+    }
+}
 
 /// Where a place lies in a list: how many items stand before it, what their sum is, and which item it is in.
 #[derive(Drop)]
@@ -30,6 +46,7 @@ impl<'a, T: Item> Path<'a, T> {
         ensures first { IsFirst T.Sum.empty T.Sum.joined T.summary M.number (items_seen self.entry.root) target bias result.index }
         ensures before { result.before ≡ total T.Sum.empty T.Sum.joined T.summary (take result.index (items_seen self.entry.root)) }
         ensures item { option_copied result.item ≡ slice_get (items_seen self.entry.root) result.index }
+        ensures counted { steps.old ≤ steps.new }
         ensures steps { steps.new ≤ steps.old + height_seen self.entry.root + 1 }
     {
         let mut path = self;
@@ -49,7 +66,45 @@ impl<'a, T: Item> Path<'a, T> {
     }
 }
 
+impl<'a, T: Item> Path<'a, T> {
+    /// The item of this index, or the end.
+    pub fn find_at(self, index: u32, steps: &mut Steps) -> Found<'a, T>
+        requires path { IsPath T.Sum.empty T.Sum.joined T.summary T.Sum.fits self }
+        ensures index { result.index ≡ min index (length (items_seen self.entry.root)) }
+        ensures before { result.before ≡ total T.Sum.empty T.Sum.joined T.summary (take result.index (items_seen self.entry.root)) }
+        ensures item { option_copied result.item ≡ slice_get (items_seen self.entry.root) result.index }
+        ensures counted { steps.old ≤ steps.new }
+        ensures steps { steps.new ≤ steps.old + height_seen self.entry.root + 1 }
+    {
+        let mut path = self;
+        let found = path.find::<By<T::Sum, Nothing>>(&Aim::Item(index as usize), steps);
+        match found {
+            None => Found {
+                index: path.count() as u32,
+                before: path.sum::<By<T::Sum, Nothing>>().sum,
+                item: None,
+            },
+            Some(found) => Found {
+                index: found.index as u32,
+                before: found.start.sum,
+                item: Some(found.item),
+            },
+        }
+    }
+}
+
 impl<T: Item> SumTree<T> {
+    /// The item of this index and the sum of those before it, or the end and the sum of all.
+    pub fn find_at(&self, index: u32, steps: &mut Steps) -> Found<'_, T>
+        ensures index { result.index ≡ min index (length self.now) }
+        ensures before { result.before ≡ total T.Sum.empty T.Sum.joined T.summary (take result.index self.now) }
+        ensures item { option_copied result.item ≡ slice_get self.now result.index }
+        ensures counted { steps.old ≤ steps.new }
+        ensures steps { TakesAtMost way (length self.now) steps.old steps.new }
+    {
+        self.path().find_at(index, steps)
+    }
+
     /// The first item whose end, by the measure `M`, is at least the target (Left) or greater than it (Right), or the end.
     pub fn find<M: Measure<T::Sum>>(
         &self,
@@ -60,7 +115,8 @@ impl<T: Item> SumTree<T> {
         ensures first { IsFirst T.Sum.empty T.Sum.joined T.summary M.number self.now target bias result.index }
         ensures before { result.before ≡ total T.Sum.empty T.Sum.joined T.summary (take result.index self.now) }
         ensures item { option_copied result.item ≡ slice_get self.now result.index }
-        ensures steps { (h : ℕ) → length self.now < 2 * 6 ^ (h + 1) → steps.new ≤ steps.old + 64 * (h + 1) }
+        ensures counted { steps.old ≤ steps.new }
+        ensures steps { TakesAtMost way (length self.now) steps.old steps.new }
     {
         self.path().find_by::<M>(target, bias, steps)
     }

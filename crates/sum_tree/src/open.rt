@@ -22,6 +22,7 @@ pub fn copy_leaf<T: Item>(
 ) -> Result<Vec<T>, NoMemory>
     requires { IsLawful T.Sum.empty T.Sum.joined T.summary 0 (entries_of node.now) }
     ensures opened { IfOk result (λ v. contents (entries_of node.now) ≡ leaf v.items) }
+    ensures counted { steps.old ≤ steps.new }
     ensures steps { steps.new ≤ steps.old + 1 }
 {
     match node.entries(steps) {
@@ -40,6 +41,7 @@ pub fn copy_inner<T: Item>(
     requires lawful { IsLawful T.Sum.empty T.Sum.joined T.summary height (entries_of node.now) }
     requires is_inner { 1 ≤ height }
     ensures opened { IfOk result (λ v. IsInner T.Sum.empty T.Sum.joined T.summary height (entries_of node.now) (map child_value v.items)) }
+    ensures counted { steps.old ≤ steps.new }
     ensures steps { steps.new ≤ steps.old + 1 }
 {
     match node.entries(steps) {
@@ -59,6 +61,7 @@ pub fn take_last<T: Item>(
     requires is_inner { 1 ≤ height }
     requires some { 1 ≤ width (contents (entries_of node.now)) }
     ensures parted { IfOk result (λ p. IsParted T.Sum.empty T.Sum.joined T.summary height (entries_of node.now) (map child_value p.rest.items) (entries_of p.node) (items_under (map child_value p.rest.items) ++ items_of p.node)) }
+    ensures counted { steps.old ≤ steps.new }
     ensures steps { steps.new ≤ steps.old + 1 }
 {
     let mut rest = copy_inner(alloc, node, height, steps)?;
@@ -82,6 +85,7 @@ pub fn take_first<T: Item>(
     requires is_inner { 1 ≤ height }
     requires some { 1 ≤ width (contents (entries_of node.now)) }
     ensures parted { IfOk result (λ p. IsParted T.Sum.empty T.Sum.joined T.summary height (entries_of node.now) (map child_value p.rest.items) (entries_of p.node) (items_of p.node ++ items_under (map child_value p.rest.items))) }
+    ensures counted { steps.old ≤ steps.new }
     ensures steps { steps.new ≤ steps.old + 1 }
 {
     let mut rest = copy_inner(alloc, node, height, steps)?;

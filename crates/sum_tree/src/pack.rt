@@ -50,6 +50,7 @@ pub fn make_leaf<T: Item>(
     requires fits { T.Sum.fits (total T.Sum.empty T.Sum.joined T.summary items.items) }
     ensures kept { IfOk result (λ c. IsChild T.Sum.empty T.Sum.joined T.summary (IsLawful T.Sum.empty T.Sum.joined T.summary 0) (vec_len items) (child_value c)) }
     ensures items { IfOk result (λ c. items_in (child_value c).2 ≡ items.items) }
+    ensures counted { steps.old ≤ steps.new }
     ensures steps { steps.new ≤ steps.old + 1 }
 {
     let sum = sum_items(&items);
@@ -74,6 +75,7 @@ pub fn make_inner<T: Item>(
     requires small { length (items_under (map child_value children.items)) < 2 ^ 32 }
     ensures kept { IfOk result (λ c. IsChild T.Sum.empty T.Sum.joined T.summary (IsLawful T.Sum.empty T.Sum.joined T.summary height) (vec_len children) (child_value c)) }
     ensures items { IfOk result (λ c. items_in (child_value c).2 ≡ items_under (map child_value children.items)) }
+    ensures counted { steps.old ≤ steps.new }
     ensures steps { steps.new ≤ steps.old + 1 }
 {
     let summed = sum_children(&children, height - 1);
@@ -113,6 +115,7 @@ pub fn pack_items<T: Item>(
     requires room { vec_len items ≤ 24 }
     requires fits { T.Sum.fits (total T.Sum.empty T.Sum.joined T.summary items.items) }
     ensures packed { IfOk result (λ v. IsPacked T.Sum.empty T.Sum.joined T.summary 0 (min 6 (vec_len items)) items.items (map child_value v.items)) }
+    ensures counted { steps.old ≤ steps.new }
     ensures steps { steps.new ≤ steps.old + 2 }
 {
     if items.len() <= MOST {
@@ -140,6 +143,7 @@ pub fn pack_children<T: Item>(
     requires fits { T.Sum.fits (total T.Sum.empty T.Sum.joined T.summary (items_under (map child_value children.items))) }
     requires small { length (items_under (map child_value children.items)) < 2 ^ 32 }
     ensures packed { IfOk result (λ v. IsPacked T.Sum.empty T.Sum.joined T.summary height (min 6 (vec_len children)) (items_under (map child_value children.items)) (map child_value v.items)) }
+    ensures counted { steps.old ≤ steps.new }
     ensures steps { steps.new ≤ steps.old + 2 }
 {
     if children.len() <= MOST {
@@ -169,6 +173,7 @@ pub fn pack_joined<T: Item>(
     requires fits { T.Sum.fits (total T.Sum.empty T.Sum.joined T.summary (items_under (map child_value front.items) ++ items_under (map child_value back.items))) }
     requires small { length (items_under (map child_value front.items) ++ items_under (map child_value back.items)) < 2 ^ 32 }
     ensures packed { IfOk result (λ v. IsPacked T.Sum.empty T.Sum.joined T.summary height (min 6 (vec_len front + vec_len back)) (items_under (map child_value front.items) ++ items_under (map child_value back.items)) (map child_value v.items)) }
+    ensures counted { steps.old ≤ steps.new }
     ensures steps { steps.new ≤ steps.old + 2 }
 {
     let mut children = front;

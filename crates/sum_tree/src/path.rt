@@ -126,6 +126,7 @@ impl<'a, T: Item> Path<'a, T> {
         requires not_before { 0 < top.now.first → is_met D.cmp aim.now top.now.first start ≡ false }
         ensures found { MatchOption result (0 < top.now.first + top.now.count → is_met D.cmp aim.now (top.now.first + top.now.count) (measure_to T.Sum.empty T.Sum.joined T.summary D.measure (items_seen self.now.root) (top.now.first + top.now.count)) ≡ false) (λ a. IsAhead T.Sum.empty T.Sum.joined T.summary D.measure D.cmp (items_seen self.now.root) aim.now a) }
         ensures height { IfSome result (λ a. a.place.height + 1 ≡ top.now.height) }
+        ensures counted { steps.old ≤ steps.new }
         ensures steps { steps.new ≤ steps.old + 1 }
     {
         let mut start = start;
@@ -190,6 +191,7 @@ impl<'a, T: Item> Path<'a, T> {
         ensures place { MatchOption result (items_seen self.now.root ≡ []) (λ p. IsPlace T.Sum.empty T.Sum.joined T.summary (items_seen self.now.root) p) }
         ensures height { IfSome result (λ p. p.height ≡ height_seen self.now.root) }
         ensures whole { IfSome result (λ p. (p.first ≡ 0) × (p.count ≡ length (items_seen self.now.root))) }
+        ensures counted { steps.old ≤ steps.new }
         ensures steps { steps.new ≤ steps.old + 1 }
     {
         match self.root {
@@ -218,6 +220,7 @@ impl<'a, T: Item> Path<'a, T> {
         requires not_before { 0 < top.now.first → is_met D.cmp aim.now top.now.first start ≡ false }
         ensures found { MatchOption result (0 < top.now.first + top.now.count → is_met D.cmp aim.now (top.now.first + top.now.count) (measure_to T.Sum.empty T.Sum.joined T.summary D.measure (items_seen self.now.root) (top.now.first + top.now.count)) ≡ false) (λ a. IsAhead T.Sum.empty T.Sum.joined T.summary D.measure D.cmp (items_seen self.now.root) aim.now a) }
         ensures height { IfSome result (λ a. a.place.height + 1 ≡ top.now.height) }
+        ensures counted { steps.old ≤ steps.new }
         ensures steps { steps.new ≤ steps.old + 1 }
     {
         match top.entries {
@@ -262,6 +265,7 @@ impl<'a, T: Item> Path<'a, T> {
         ensures path { IsPath T.Sum.empty T.Sum.joined T.summary T.Sum.fits self.new }
         ensures root { self.new.root ≡ self.old.root }
         ensures found { MatchOption result (0 < top.entry.first + top.entry.count → is_met D.cmp aim.now (top.entry.first + top.entry.count) (measure_to T.Sum.empty T.Sum.joined T.summary D.measure (items_seen self.old.root) (top.entry.first + top.entry.count)) ≡ false) (λ f. IsFound T.Sum.empty T.Sum.joined T.summary D.measure D.cmp (items_seen self.old.root) aim.now f) }
+        ensures counted { steps.old ≤ steps.new }
         ensures steps { steps.new ≤ steps.old + top.entry.height }
     {
         let mut top = top;
@@ -308,6 +312,7 @@ impl<'a, T: Item> Path<'a, T> {
         ensures place { IsPlace T.Sum.empty T.Sum.joined T.summary (items_seen self.now.root) result }
         ensures height { result.height + 1 ≡ top.now.height }
         ensures around { (result.first ≤ index) × (index < result.first + result.count) }
+        ensures counted { steps.old ≤ steps.new }
         ensures steps { steps.new ≤ steps.old + 1 }
     {
         match top.entries {
@@ -348,6 +353,7 @@ impl<'a, T: Item> Path<'a, T> {
         ensures path { IsPath T.Sum.empty T.Sum.joined T.summary T.Sum.fits self.new }
         ensures root { self.new.root ≡ self.old.root }
         ensures item { slice_get (items_seen self.old.root) index ≡ Some result.now }
+        ensures counted { steps.old ≤ steps.new }
         ensures steps { steps.new ≤ steps.old + top.entry.height }
     {
         let mut top = top;
@@ -368,6 +374,7 @@ impl<'a, T: Item> Path<'a, T> {
         ensures path { IsPath T.Sum.empty T.Sum.joined T.summary T.Sum.fits self.new }
         ensures root { self.new.root ≡ self.old.root }
         ensures item { slice_get (items_seen self.old.root) index ≡ Some result.now }
+        ensures counted { steps.old ≤ steps.new }
         ensures steps { steps.new ≤ steps.old + height_seen self.old.root + 1 }
     {
         if let Some(top) = self.climb(index) {
@@ -390,6 +397,7 @@ impl<'a, T: Item> Path<'a, T> {
         ensures path { IsPath T.Sum.empty T.Sum.joined T.summary T.Sum.fits self.new }
         ensures root { self.new.root ≡ self.old.root }
         ensures found { MatchOption result (0 < length (items_seen self.old.root) → is_met D.cmp aim.now (length (items_seen self.old.root)) (measure_to T.Sum.empty T.Sum.joined T.summary D.measure (items_seen self.old.root) (length (items_seen self.old.root))) ≡ false) (λ f. IsFound T.Sum.empty T.Sum.joined T.summary D.measure D.cmp (items_seen self.old.root) aim.now f) }
+        ensures counted { steps.old ≤ steps.new }
         ensures steps { steps.new ≤ steps.old + height_seen self.old.root + 1 }
     {
         self.places.clear();

@@ -1,6 +1,7 @@
 //! Finding the first item that passes a test, in one look at each.
-ghost use Rattle.std.specs.Prelude.{Bool, ◌≡◌, ◌+◌, ◌^◌, ◌<◌, ◌≤◌, map, length};
+ghost use Rattle.std.specs.Prelude.{Bool, ◌≡◌, ◌+◌, ◌*◌, ◌^◌, ◌<◌, ◌≤◌, map, length};
 ghost use Rattle.std.specs.List.{position_or_len};
+ghost use Rattle.sum_tree.specs.Bounds.{Searches};
 ghost use Rattle.sum_core.specs.Nodes.{IsChildList, IsLawful, entries_of, child_value, contents, items_of, items_under, width};
 
 use cell_units::Steps;
@@ -39,7 +40,8 @@ fn before_under<T: Item, Q: Probe<T>>(
     requires children { IsChildList T.Sum.empty T.Sum.joined T.summary (IsLawful T.Sum.empty T.Sum.joined T.summary below) 6 (map child_value children.now) }
     requires small { length (items_under (map child_value children.now)) < 2 ^ 32 }
     ensures place { result ≡ position_or_len (Q.is_passed probe.now) (items_under (map child_value children.now)) }
-    ensures steps { steps.new + length children.now ≤ steps.old + length (items_under (map child_value children.now)) }
+    ensures counted { steps.old ≤ steps.new }
+    ensures steps { 5 * steps.new + length children.now ≤ 5 * steps.old + length (items_under (map child_value children.now)) }
 {
     let mut before = 0;
     for child in children {
@@ -63,8 +65,9 @@ pub fn before_below<T: Item, Q: Probe<T>>(
     requires lawful { IsLawful T.Sum.empty T.Sum.joined T.summary height (entries_of node.now) }
     requires small { length (items_of node.now) < 2 ^ 32 }
     ensures place { result ≡ position_or_len (Q.is_passed probe.now) (items_of node.now) }
-    ensures steps { steps.new ≤ steps.old + length (items_of node.now) + 1 }
-    ensures wide { 2 ≤ width (contents (entries_of node.now)) → steps.new + 1 ≤ steps.old + length (items_of node.now) }
+    ensures counted { steps.old ≤ steps.new }
+    ensures steps { Searches (length (items_of node.now)) steps.old steps.new }
+    ensures wide { 6 ≤ width (contents (entries_of node.now)) → 5 * steps.new + 1 ≤ 5 * steps.old + length (items_of node.now) }
 {
     match node.entries(steps) {
         Entries::Leaf(items) => items_before(items, probe),

@@ -35,6 +35,7 @@ pub fn cut_children<T: Item>(
     requires within { at ≤ length (items_of node.now) }
     requires small { length (items_of node.now) < 2 ^ 32 }
     ensures cut { IfOk result (λ u. IsCut T.Sum.empty T.Sum.joined T.summary height (entries_of node.now) (map child_value u.before.items) (entries_of u.node) (map child_value u.after.items) at u.offset) }
+    ensures counted { steps.old ≤ steps.new }
     ensures steps { steps.new ≤ steps.old + 1 }
 {
     let mut before = copy_inner(alloc, node, height, steps)?;
@@ -64,6 +65,7 @@ pub fn join_before<T: Item>(
     requires fits { T.Sum.fits (total T.Sum.empty T.Sum.joined T.summary (items_under (map child_value children.items) ++ items_of tree.node)) }
     requires small { length (items_under (map child_value children.items) ++ items_of tree.node) < 2 ^ 32 }
     ensures put { IfOk result (λ t. IsTreeOf T.Sum.empty T.Sum.joined T.summary t (items_under (map child_value children.items) ++ items_of tree.node)) }
+    ensures counted { steps.old ≤ steps.new }
     ensures steps { steps.new ≤ steps.old + 39 }
 {
     if children.is_empty() {
@@ -89,6 +91,7 @@ pub fn join_after<T: Item>(
     requires fits { T.Sum.fits (total T.Sum.empty T.Sum.joined T.summary (items_of tree.node ++ items_under (map child_value children.items))) }
     requires small { length (items_of tree.node ++ items_under (map child_value children.items)) < 2 ^ 32 }
     ensures put { IfOk result (λ t. IsTreeOf T.Sum.empty T.Sum.joined T.summary t (items_of tree.node ++ items_under (map child_value children.items))) }
+    ensures counted { steps.old ≤ steps.new }
     ensures steps { steps.new ≤ steps.old + 39 }
 {
     if children.is_empty() {
@@ -120,6 +123,7 @@ pub fn split_at<T: Item>(
     requires small { length (items_of node.now) < 2 ^ 32 }
     ensures left { IfOk result (λ p. IsTreeOf T.Sum.empty T.Sum.joined T.summary p.left (take at (items_of node.now))) }
     ensures right { IfOk result (λ p. IsTreeOf T.Sum.empty T.Sum.joined T.summary p.right (drop at (items_of node.now))) }
+    ensures counted { steps.old ≤ steps.new }
     ensures steps { steps.new ≤ steps.old + 79 * height + 3 }
 {
     if height == 0 {
@@ -146,6 +150,7 @@ fn split_leaf<T: Item>(
     requires fits { T.Sum.fits (total T.Sum.empty T.Sum.joined T.summary (items_of node.now)) }
     ensures left { IfOk result (λ p. IsTreeOf T.Sum.empty T.Sum.joined T.summary p.left (take at (items_of node.now))) }
     ensures right { IfOk result (λ p. IsTreeOf T.Sum.empty T.Sum.joined T.summary p.right (drop at (items_of node.now))) }
+    ensures counted { steps.old ≤ steps.new }
     ensures steps { steps.new ≤ steps.old + 3 }
 {
     let mut items = copy_leaf(alloc, node, steps)?;

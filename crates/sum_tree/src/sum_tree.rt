@@ -3,6 +3,7 @@ ghost use Rattle.std.specs.Prelude.{ℕ, ◌≡◌, ◌+◌, ◌*◌, ◌^◌, �
 ghost use Rattle.std.specs.List.{position};
 ghost use Rattle.std.specs.Option.{option_copied};
 ghost use Rattle.sum_core.specs.Sums.{total};
+ghost use Rattle.sum_tree.specs.Bounds.{ChangesAtMost, Searches, TakesAtMost, building, cutting, joining, pushing, replacing, way};
 ghost use Rattle.sum_tree.specs.Parts.{put};
 ghost use Rattle.sum_tree.specs.Paths.{IsPath, items_seen};
 
@@ -86,7 +87,8 @@ impl<T: Item> SumTree<T> {
     /// The item at place `at`, and `None` exactly where there is none.
     pub fn get(&self, at: u32, steps: &mut Steps) -> Option<&T>
         ensures item { option_copied result ≡ slice_get self.now at }
-        ensures steps { (h : ℕ) → length self.now < 2 * 6 ^ (h + 1) → steps.new ≤ steps.old + 64 * (h + 1) }
+        ensures counted { steps.old ≤ steps.new }
+        ensures steps { TakesAtMost way (length self.now) steps.old steps.new }
     {
         match &self.tree {
             None => None,
@@ -104,7 +106,8 @@ impl<T: Item> SumTree<T> {
     /// there are fewer nodes than items but for a lone root.
     pub fn position<Q: Probe<T>>(&self, probe: &Q, steps: &mut Steps) -> Option<u32>
         ensures place { result ≡ position (Q.is_passed probe.now) self.now }
-        ensures steps { steps.new ≤ steps.old + length self.now + 1 }
+        ensures counted { steps.old ≤ steps.new }
+        ensures steps { Searches (length self.now) steps.old steps.new }
     {
         match &self.tree {
             None => None,
@@ -135,7 +138,8 @@ impl<T: Item> SumTree<T> {
         requires fits { T.Sum.fits (total T.Sum.empty T.Sum.joined T.summary items.items) }
         requires small { length items.items < 2 ^ 32 }
         ensures ok { IfOk result (λ t. t ≡ items.items) }
-        ensures steps { steps.new ≤ steps.old + 4 * (length items.items + 1) }
+        ensures counted { steps.old ≤ steps.new }
+        ensures steps { steps.new ≤ steps.old + building (length items.items) }
     {
         let mut items = items;
         let count = items.len();
@@ -154,6 +158,7 @@ impl<T: Item> SumTree<T> {
     fn single(alloc: Global, item: T, steps: &mut Steps) -> Result<SumTree<T>, NoMemory>
         requires { T.Sum.fits (total T.Sum.empty T.Sum.joined T.summary (item ∷ [])) }
         ensures ok { IfOk result (λ t. t ≡ item ∷ []) }
+        ensures counted { steps.old ≤ steps.new }
         ensures steps { steps.new ≤ steps.old + 1 }
     {
         let mut items = Vec::new(alloc);
@@ -171,14 +176,15 @@ impl<T: Item> SumTree<T> {
         requires small { length (self.old ++ item ∷ []) < 2 ^ 32 }
         ensures ok { OnOk result (self.new ≡ self.old ++ item ∷ []) }
         ensures err { OnErr result (self.new ≡ self.old) }
-        ensures steps { (h : ℕ) → length (self.old ++ item ∷ []) < 2 * 6 ^ (h + 1) → steps.new ≤ steps.old + 128 * (h + 1) }
+        ensures counted { steps.old ≤ steps.new }
+        ensures steps { steps.new ≤ steps.old + pushing }
     {
         let end = self.len();
         match self.put_in_place(alloc, end, end, item, steps) {
             Ok(()) => Ok(()),
             Err(item) => {
                 let single = SumTree::single(alloc, item, steps)?;
-                self.append(alloc, single, steps)
+                self.concat(alloc, single, steps)
             }
         }
     }
@@ -194,23 +200,8 @@ impl<T: Item> SumTree<T> {
         requires small { length (self.old ++ other) < 2 ^ 32 }
         ensures ok { OnOk result (self.new ≡ self.old ++ other) }
         ensures err { OnErr result (self.new ≡ self.old) }
-        ensures steps { (h : ℕ) → length (self.old ++ other) < 2 * 6 ^ (h + 1) → steps.new ≤ steps.old + 128 * (h + 1) }
-    {
-        self.append(alloc, other, steps)
-    }
-
-    /// The same as `concat`, with a bound on the steps that knows no height.
-    fn append(
-        &mut self,
-        alloc: Global,
-        other: SumTree<T>,
-        steps: &mut Steps,
-    ) -> Result<(), NoMemory>
-        requires fits { T.Sum.fits (total T.Sum.empty T.Sum.joined T.summary (self.old ++ other)) }
-        requires small { length (self.old ++ other) < 2 ^ 32 }
-        ensures ok { OnOk result (self.new ≡ self.old ++ other) }
-        ensures err { OnErr result (self.new ≡ self.old) }
-        ensures steps { steps.new ≤ steps.old + 38 }
+        ensures counted { steps.old ≤ steps.new }
+        ensures steps { steps.new ≤ steps.old + joining }
     {
         let SumTree {
             alloc: _,
@@ -238,7 +229,8 @@ impl<T: Item> SumTree<T> {
         ensures ok { OnOk result (self.new ≡ take at self.old) }
         ensures tail { IfOk result (λ t. t ≡ drop at self.old) }
         ensures err { OnErr result (self.new ≡ self.old) }
-        ensures steps { (h : ℕ) → length self.old < 2 * 6 ^ (h + 1) → steps.new ≤ steps.old + 128 * (h + 1) }
+        ensures counted { steps.old ≤ steps.new }
+        ensures steps { TakesAtMost cutting (length self.old) steps.old steps.new }
     {
         let Some(tree) = &self.tree else {
             return Ok(SumTree { alloc, tree: None });
@@ -266,7 +258,8 @@ impl<T: Item> SumTree<T> {
         requires small { length (take from self.old ++ items.items ++ drop to self.old) < 2 ^ 32 }
         ensures ok { OnOk result (self.new ≡ take from self.old ++ items.items ++ drop to self.old) }
         ensures err { OnErr result (self.new ≡ self.old) }
-        ensures steps { (h : ℕ) → length self.old < 2 * 6 ^ (h + 1) → length (take from self.old ++ items.items ++ drop to self.old) < 2 * 6 ^ (h + 1) → steps.new ≤ steps.old + 800 * (h + 1) + 4 * (length items.items + 1) }
+        ensures counted { steps.old ≤ steps.new }
+        ensures steps { ChangesAtMost (replacing (length items.items)) (length self.old) (length (take from self.old ++ items.items ++ drop to self.old)) steps.old steps.new }
     {
         let mut items = items;
         if to - from > 1 || items.len() != 1 {
@@ -299,6 +292,7 @@ impl<T: Item> SumTree<T> {
         requires fits { T.Sum.fits (total T.Sum.empty T.Sum.joined T.summary (put from to item self.old)) }
         requires small { length (put from to item self.old) < 2 ^ 32 }
         ensures put { MatchResult result (λ _. self.new ≡ put from to item self.old) (λ i. (self.new ≡ self.old) × (i ≡ item)) }
+        ensures counted { steps.old ≤ steps.new }
         ensures steps { steps.new ≤ steps.old + 12 }
     {
         let Some(mut tree) = self.tree.take() else {
@@ -324,7 +318,8 @@ impl<T: Item> SumTree<T> {
         requires small { length (take from self.old ++ middle ++ drop to self.old) < 2 ^ 32 }
         ensures ok { OnOk result (self.new ≡ take from self.old ++ middle ++ drop to self.old) }
         ensures err { OnErr result (self.new ≡ self.old) }
-        ensures steps { (h : ℕ) → length self.old < 2 * 6 ^ (h + 1) → length (take from self.old ++ middle ++ drop to self.old) < 2 * 6 ^ (h + 1) → steps.new ≤ steps.old + 512 * (h + 1) }
+        ensures counted { steps.old ≤ steps.new }
+        ensures steps { (h : ℕ) → length self.old < 2 * 6 ^ (h + 1) → steps.new ≤ steps.old + 158 * h + 82 }
     {
         let mut front = self.share()?;
         let mut back = front.split_off(alloc, from, steps)?;

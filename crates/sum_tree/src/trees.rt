@@ -60,6 +60,7 @@ pub fn raise<T: Item>(
     requires small { length (items_under (map child_value pieces.items)) < 2 ^ 32 }
     ensures raised { IfOk result (λ t. IsTreeOf T.Sum.empty T.Sum.joined T.summary t (items_under (map child_value pieces.items))) }
     ensures height { IfOk result (λ t. (height ≤ t.height) × (t.height ≤ height + 1)) }
+    ensures counted { steps.old ≤ steps.new }
     ensures steps { steps.new ≤ steps.old + 1 }
 {
     if pieces.len() == 1 {
@@ -86,6 +87,7 @@ pub fn join<T: Item>(
     ensures joined { IfOk result (λ t. IsTreeOf T.Sum.empty T.Sum.joined T.summary t (items_of left.now.node ++ items_of right.now.node)) }
     ensures height { IfOk result (λ t. (max left.now.height right.now.height ≤ t.height) × (t.height ≤ max left.now.height right.now.height + 1)) }
     ensures climb { steps.new + 3 * min left.now.height right.now.height ≤ steps.old + 3 * max left.now.height right.now.height + 5 }
+    ensures counted { steps.old ≤ steps.new }
     ensures steps { steps.new ≤ steps.old + 38 }
 {
     let pieces = meld(
@@ -112,6 +114,7 @@ pub fn build_last<T: Item>(
     ensures tree { IfOk result (λ t. IsTree T.Sum.empty T.Sum.joined T.summary t) }
     ensures items { IfOk result (λ t. items.old.items ≡ items.new.items ++ items_of t.node) }
     ensures count { IfOk result (λ t. length (items_of t.node) ≡ count) }
+    ensures counted { steps.old ≤ steps.new }
     ensures steps { steps.new ≤ steps.old + 4 * (count + 1) }
     ensures many { 12 ≤ count → steps.new + 38 ≤ steps.old + 4 * count }
 {

@@ -118,6 +118,7 @@ before_under-loop-child-preserved g t c =
         c.if-within-child.false,
         c.before_below-within.ensures.place,
       );
+      counted = omega arith;
       steps = omega (arith, taken, c.before_below-within.ensures.wide (omega (arith, here.wide)), c.loop-child.invariant.steps);
     }
 

@@ -15,5 +15,6 @@ invariant-before_under-loop-child g l =
     record {
       before : l.before ≡ length passed;
       none : length passed ≤ position_or_len (g.Q.Probe.is_passed l.probe) passed;
-      steps : l.steps + l.child-index ≤ l.initial.steps + length passed;
+      counted : l.initial.steps ≤ l.steps;
+      steps : 5 * l.steps + l.child-index ≤ 5 * l.initial.steps + length passed;
     }

@@ -37,5 +37,6 @@ loop-top-preserved g c =
       start_is = a.start_is;
       not_before = a.not_before;
       ended = λ none. clash _ a.met (none (omega (arith, a.some)));
+      counted = omega (arith, c.in-Some.ensures.counted);
       steps = omega (arith, c.in-Some.ensures.height, c.in-Some.ensures.steps, c.loop-top.invariant.steps);
     }

@@ -13,6 +13,7 @@ invariant-loop-top g l = record {
   start_is : l.start ≡ measure_to g.T.Sum.Summary.empty g.T.Sum.Summary.joined g.T.Item.summary g.D.Dimension.measure (items_seen l.self.root) l.top.first;
   not_before : 0 < l.top.first → is_met g.D.Ord.cmp l.aim l.top.first l.start ≡ false;
   ended : (0 < l.top.first + l.top.count → is_met g.D.Ord.cmp l.aim (l.top.first + l.top.count) (measure_to g.T.Sum.Summary.empty g.T.Sum.Summary.joined g.T.Item.summary g.D.Dimension.measure (items_seen l.self.root) (l.top.first + l.top.count)) ≡ false) → 0 < l.initial.top.first + l.initial.top.count → is_met g.D.Ord.cmp l.aim (l.initial.top.first + l.initial.top.count) (measure_to g.T.Sum.Summary.empty g.T.Sum.Summary.joined g.T.Item.summary g.D.Dimension.measure (items_seen l.self.root) (l.initial.top.first + l.initial.top.count)) ≡ false;
+  counted : l.initial.steps ≤ l.steps;
   steps : l.steps + l.top.height ≤ l.initial.steps + l.initial.top.height;
 }
 

@@ -27,5 +27,6 @@ loop-top-preserved g c =
       place = n.place;
       height = omega (arith, n.height, c.loop-top.invariant.height, ap length c.push_reserved.ensures.items, length-append c.loop-top.self.places.items (Some c.loop-top.top ∷ []));
       around = n.around;
+      counted = omega (arith, n.counted);
       steps = omega (arith, n.height, n.steps, c.loop-top.invariant.steps);
     }

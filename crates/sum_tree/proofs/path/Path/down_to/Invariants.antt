@@ -10,6 +10,7 @@ invariant-loop-top g l = record {
   place : IsPlace g.T.Sum.Summary.empty g.T.Sum.Summary.joined g.T.Item.summary (items_seen l.self.root) l.top;
   height : l.top.height + small_vec_len l.self.places ≡ height_seen l.self.root;
   around : (l.top.first ≤ l.index) × (l.index < l.top.first + l.top.count);
+  counted : l.initial.steps ≤ l.steps;
   steps : l.steps + l.top.height ≤ l.initial.steps + l.initial.top.height;
 }
 

@@ -107,6 +107,7 @@ loop-child-preserved g c =
     record {
       first_is = child-end c.args.children.now n c.loop-child.first i c.child-item.result.count k c.loop-child-test.true c.child-item.is here.count_is c.loop-child.invariant.first_is;
       start_is = end;
+      counted = c.loop-child.invariant.counted;
       steps = c.loop-child.invariant.steps;
       not_before = λ _. sym c.is_met.ensures ∙ c.if-is_met.false;
     }

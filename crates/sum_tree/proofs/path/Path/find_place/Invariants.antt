@@ -8,6 +8,7 @@ abbrev pub invariant-loop-child : goal.invariant-loop-child
 invariant-loop-child g l = record {
   first_is : l.first ≡ l.top.first + length (items_under (take l.child-index (map child_value l.children)));
   start_is : l.start ≡ measure_to g.T.Sum.Summary.empty g.T.Sum.Summary.joined g.T.Item.summary g.D.Dimension.measure (items_seen l.self.root) l.first;
+  counted : l.initial.steps ≤ l.steps;
   steps : l.steps ≤ l.initial.steps;
   not_before : 0 < l.first → is_met g.D.Ord.cmp l.aim l.first l.start ≡ false;
 }

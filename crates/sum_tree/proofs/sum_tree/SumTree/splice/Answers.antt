@@ -12,7 +12,7 @@ concat-requires-clause-fits g c =
     fits-left m.empty m.joined m.fits g.T.Item.summary g.met.T.Sum.Summary.laws _ (c.split_off.new.self ++ c.args.middle) (drop c.args.to c.args.self.now) parts c.requires.fits
 
 pub returns-in_err-back-2-clause-steps : goal.returns-in_err-back-2-clause-steps
-returns-in_err-back-2-clause-steps g c h few new =
+returns-in_err-back-2-clause-steps g c h few =
     let same : length c.in_ok-front.front ≡ length c.args.self.now = ap length c.in_ok-front.ensures in
     let one = c.in_ok-back.ensures.steps h (omega (arith, few, same)) in
     let shorter : length c.in_ok-back.back ≤ length c.args.self.now = omega (arith, ap length c.in_ok-back.ensures.tail, length-drop c.args.from c.in_ok-front.front, same) in

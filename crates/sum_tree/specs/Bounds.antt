@@ -1,0 +1,40 @@
+-- How many steps a call on a list takes at most. A step is one node that is opened or made. The tree of n items has at most
+-- h levels below its root for each h such that n is less than 2 * 6 ^ (h + 1); bounds are given for each such h.
+use Rattle.std.specs.Prelude.{ℕ, ◌+◌, ◌*◌, ◌^◌, ◌<◌, ◌≤◌}
+
+-- a call on n items takes at most `cost h` steps
+abbrev pub TakesAtMost : (ℕ → ℕ) → ℕ → ℕ → ℕ → Type 0
+TakesAtMost cost n old new = (h : ℕ) → n < 2 * 6 ^ (h + 1) → new ≤ old + cost h
+
+-- a call that makes n items of m takes at most `cost h` steps
+abbrev pub ChangesAtMost : (ℕ → ℕ) → ℕ → ℕ → ℕ → ℕ → Type 0
+ChangesAtMost cost m n old new = (h : ℕ) → m < 2 * 6 ^ (h + 1) → n < 2 * 6 ^ (h + 1) → new ≤ old + cost h
+
+-- One way from the root down opens one node on each level.
+abbrev pub way : ℕ → ℕ
+way h = h + 1
+
+-- A search that may look at every item opens each node once. A node that is no root has at least 6 entries, so there are
+-- at most a fifth as many nodes as items.
+abbrev pub Searches : ℕ → ℕ → ℕ → Type 0
+Searches n old new = 5 * new ≤ 5 * old + (n + 5)
+
+-- Two trees are joined on the way down the higher one, which is no higher than 11.
+abbrev pub joining : ℕ
+joining = 38
+
+-- An item at the end is put into the last leaf, or else makes a leaf that is joined to the tree.
+abbrev pub pushing : ℕ
+pushing = 51
+
+-- A cut goes one way down, and on each level joins what lies before it and what lies behind.
+abbrev pub cutting : ℕ → ℕ
+cutting h = 79 * h + 3
+
+-- A list of k items makes a tree bottom up.
+abbrev pub building : ℕ → ℕ
+building k = 4 * (k + 1)
+
+-- k items are put in place, or else a tree of them stands between two cuts that are joined again.
+abbrev pub replacing : ℕ → ℕ → ℕ
+replacing k h = 160 * h + (87 + 4 * (k + 1))
