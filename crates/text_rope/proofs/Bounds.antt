@@ -23,20 +23,19 @@ turns_few chunks at first n m full within order few e = elim (cases_lt 1 (length
 ]
 
 -- a turn for each 60 of the bytes of a slice and of its first chunk
-pub slice_steps : (n count h s0 s1 s2 : ℕ) → count ≤ n + 128 → s1 ≤ s0 + 64 * (h + 1) → s2 ≤ s1 + (count / 60 + 2) * (64 * (h + 1)) → s2 ≤ s0 + 448 * (n / 64 + 1) * (h + 1)
+pub slice_steps : (n count h s0 s1 s2 : ℕ) → count ≤ n + 128 → s1 ≤ s0 + (h + 1) → s2 ≤ s1 + (count / 60 + 2) * (h + 1) → s2 ≤ s0 + 7 * (n / 64 + 1) * (h + 1)
 slice_steps n count h s0 s1 s2 le first then =
-    let x = 64 * (h + 1) in
+    let x = h + 1 in
     let turns : count / 60 + 3 ≤ 7 * (n / 64 + 1) = omega (arith, le) in
     let most : (count / 60 + 3) * x ≤ 7 * (n / 64 + 1) * x = mul-le (count / 60 + 3) x (7 * (n / 64 + 1)) x turns (omega arith) in
     let split : (count / 60 + 3) * x ≡ (count / 60 + 2) * x + x = ap (λ (k : ℕ). k * x) (omega arith) ∙ add-mul (count / 60 + 2) 1 x ∙ ap (λ (k : ℕ). (count / 60 + 2) * x + k) (one-mul x) in
-    let whole : 7 * (n / 64 + 1) * x ≡ 448 * (n / 64 + 1) * (h + 1) = grind arith in
-    omega (arith, first, then, most, split, whole)
+    omega (arith, first, then, most, split)
 
 -- a turn for each chunk that is made, of which there are few
-pub replace_steps : (n k h s0 s1 s2 s3 : ℕ) → 60 * k ≤ n + 572 → s1 ≤ s0 + 256 * (h + 1) → s2 ≤ s1 + 384 * (h + 1) → s3 ≤ s2 + 800 * (h + 1) + 4 * (k + 1) → s3 ≤ s0 + 1500 * (n / 64 + 1) * (h + 1)
+pub replace_steps : (n k h s0 s1 s2 s3 : ℕ) → 60 * k ≤ n + 572 → s1 ≤ s0 + 4 * (h + 1) → s2 ≤ s1 + 6 * (h + 1) → s3 ≤ s2 + (160 * h + (87 + 4 * (k + 1))) → s3 ≤ s0 + 180 * (n / 64 + 1) * (h + 1)
 replace_steps n k h s0 s1 s2 s3 few first second third =
     let p = (n / 64 + 1) * (h + 1) in
     let high : 1 * (h + 1) ≤ p = mul-le 1 (h + 1) (n / 64 + 1) (h + 1) (omega arith) (omega arith) in
     let long : (n / 64 + 1) * 1 ≤ p = mul-le (n / 64 + 1) 1 (n / 64 + 1) (h + 1) (omega arith) (omega arith) in
-    let whole : 1500 * (n / 64 + 1) * (h + 1) ≡ 1500 * p = mul_assoc 1500 (n / 64 + 1) (h + 1) in
+    let whole : 180 * (n / 64 + 1) * (h + 1) ≡ 180 * p = mul_assoc 180 (n / 64 + 1) (h + 1) in
     omega (arith, few, first, second, third, high, long, whole)

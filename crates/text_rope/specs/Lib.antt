@@ -1,4 +1,5 @@
 pub mod Sizes
+pub mod Bounds
 pub mod Chunks
 pub mod Ropes
 pub mod Orders

@@ -4,10 +4,12 @@ ghost use Rattle.std.specs.Prelude.{◌≡◌, ◌+◌, ◌*◌, ◌≤◌, ◌<
 ghost use Rattle.std.specs.List.{concat};
 ghost use Rattle.cell_units.specs.Text.{IsBoundary};
 ghost use Rattle.edit_patch.specs.Fits.{replacement};
+ghost use Rattle.sum_tree.specs.Bounds.{way};
+ghost use Rattle.text_rope.specs.Bounds.{TakesOnText, ways};
 ghost use Rattle.text_rope.specs.Chunks.{IsChunk};
 ghost use Rattle.text_rope.specs.Edits.{IsNeighbourBefore, IsNeighbourBehind, IsPartBefore, IsPartBehind, IsRange, IsRenewed};
 ghost use Rattle.text_rope.specs.Finds.{IsBefore};
-ghost use Rattle.text_rope.specs.Ropes.{HasHeight, IsRope};
+ghost use Rattle.text_rope.specs.Ropes.{IsRope};
 
 use crate::chunk::{CHUNK_BYTES, Chunk, LEAST_BYTES, TextSize, chunks_of};
 use crate::find::{before, is_boundary, text_at};
@@ -44,7 +46,8 @@ fn found_at<'a>(chunks: &'a SumTree<Chunk>, offset: u32, steps: &mut Steps) -> F
     requires within { offset ≤ length (concat chunks.now) }
     ensures found { IsBefore chunks.now offset result.before }
     ensures here { result.text.now ≡ slice_index_or chunks.now result.before.chunks [] }
-    ensures steps { (h : ℕ) → HasHeight h (concat chunks.now) → steps.new ≤ steps.old + 128 * (h + 1) }
+    ensures counted { steps.old ≤ steps.new }
+    ensures steps { TakesOnText (ways 2) (concat chunks.now) steps.old steps.new }
 {
     let before = before(chunks, offset, steps);
     Found {
@@ -58,7 +61,8 @@ fn neighbour_before<'a>(chunks: &'a SumTree<Chunk>, at: u32, steps: &mut Steps) 
     requires rope { IsRope chunks.now }
     requires within { at ≤ length chunks.now }
     ensures found { IsNeighbourBefore chunks.now at result.0 result.1.now }
-    ensures steps { (h : ℕ) → HasHeight h (concat chunks.now) → steps.new ≤ steps.old + 64 * (h + 1) }
+    ensures counted { steps.old ≤ steps.new }
+    ensures steps { TakesOnText way (concat chunks.now) steps.old steps.new }
 {
     if at == 0 {
         return (0, "");
@@ -70,7 +74,8 @@ fn neighbour_before<'a>(chunks: &'a SumTree<Chunk>, at: u32, steps: &mut Steps) 
 fn neighbour_behind<'a>(chunks: &'a SumTree<Chunk>, at: u32, steps: &mut Steps) -> (u32, &'a str)
     requires { IsRope chunks.now }
     ensures found { IsNeighbourBehind chunks.now at result.0 result.1.now }
-    ensures steps { (h : ℕ) → HasHeight h (concat chunks.now) → steps.new ≤ steps.old + 64 * (h + 1) }
+    ensures counted { steps.old ≤ steps.new }
+    ensures steps { TakesOnText way (concat chunks.now) steps.old steps.new }
 {
     let count = chunks.len();
     if at >= count {
@@ -89,7 +94,8 @@ fn part_before(
     requires rope { IsRope chunks.now }
     requires boundary { IsBoundary (concat chunks.now) offset }
     ensures part { IfOk result (λ p. IsPartBefore chunks.now offset p.at (string_bytes p.text)) }
-    ensures steps { (h : ℕ) → HasHeight h (concat chunks.now) → steps.new ≤ steps.old + 192 * (h + 1) }
+    ensures counted { steps.old ≤ steps.new }
+    ensures steps { TakesOnText (ways 3) (concat chunks.now) steps.old steps.new }
 {
     let before = before(chunks, offset, steps);
     let (at, neighbour) = neighbour_before(chunks, before.chunks, steps);
@@ -113,7 +119,8 @@ fn part_behind(
     requires found { IsBefore chunks.now offset found.before }
     requires here { found.text.now ≡ slice_index_or chunks.now found.before.chunks [] }
     ensures part { IfOk result (λ p. IsPartBehind chunks.now offset p.at (string_bytes p.text)) }
-    ensures steps { (h : ℕ) → HasHeight h (concat chunks.now) → steps.new ≤ steps.old + 64 * (h + 1) }
+    ensures counted { steps.old ≤ steps.new }
+    ensures steps { TakesOnText way (concat chunks.now) steps.old steps.new }
 {
     let (at, neighbour) = neighbour_behind(chunks, found.before.chunks + 1, steps);
     let (_, back) = found.text.split_at((offset - found.before.bytes) as usize);
@@ -194,7 +201,8 @@ pub(crate) fn renewal_of(
     requires rope { IsRope chunks.now }
     requires range { IsRange (concat chunks.now) start end }
     ensures renewed { IfOk result (λ r. IsRenewed chunks.now start end text.now r.from r.to r.chunks.items) }
-    ensures steps { (h : ℕ) → HasHeight h (concat chunks.now) → steps.new ≤ steps.old + 384 * (h + 1) }
+    ensures counted { steps.old ≤ steps.new }
+    ensures steps { TakesOnText (ways 6) (concat chunks.now) steps.old steps.new }
 {
     let found = found_at(chunks, end, steps);
     if let Some(renewal) = renewal_within(alloc, chunks, start, end, text, found)? {
@@ -216,7 +224,8 @@ pub(crate) fn renewal_of(
 pub(crate) fn is_range(chunks: &SumTree<Chunk>, start: u32, end: u32, steps: &mut Steps) -> bool
     requires { IsRope chunks.now }
     ensures test { IsTrue result ↔ IsRange (concat chunks.now) start end }
-    ensures steps { (h : ℕ) → HasHeight h (concat chunks.now) → steps.new ≤ steps.old + 256 * (h + 1) }
+    ensures counted { steps.old ≤ steps.new }
+    ensures steps { TakesOnText (ways 4) (concat chunks.now) steps.old steps.new }
 {
     start <= end && is_boundary(chunks, start, steps) && is_boundary(chunks, end, steps)
 }

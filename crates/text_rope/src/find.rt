@@ -2,9 +2,11 @@
 ghost use Rattle.std.specs.Prelude.{◌≡◌, ◌+◌, ◌*◌, ◌/◌, ◌≤◌, ◌↔◌, [], ℕ, length, drop, string_bytes, slice_index_or, count_by, IfOk, IsTrue};
 ghost use Rattle.std.specs.List.{concat};
 ghost use Rattle.cell_units.specs.Text.{IsBoundary, is_feed, row_of};
+ghost use Rattle.sum_tree.specs.Bounds.{way};
+ghost use Rattle.text_rope.specs.Bounds.{TakesOnText, ways};
 ghost use Rattle.text_rope.specs.Finds.{IsBefore};
 ghost use Rattle.cell_units.specs.Points.{IsNearBoundary};
-ghost use Rattle.text_rope.specs.Ropes.{HasHeight, IsFront, IsRope};
+ghost use Rattle.text_rope.specs.Ropes.{IsFront, IsRope};
 
 use crate::chunk::{Chunk, TextSize, count_feeds};
 use cell_units::{Bias, NoMemory, Steps};
@@ -16,7 +18,8 @@ pub(crate) fn before(chunks: &SumTree<Chunk>, offset: u32, steps: &mut Steps) ->
     requires rope { IsRope chunks.now }
     requires within { offset ≤ length (concat chunks.now) }
     ensures found { IsBefore chunks.now offset result }
-    ensures steps { (h : ℕ) → HasHeight h (concat chunks.now) → steps.new ≤ steps.old + 64 * (h + 1) }
+    ensures counted { steps.old ≤ steps.new }
+    ensures steps { TakesOnText way (concat chunks.now) steps.old steps.new }
 {
     let target = TextSize {
         bytes: offset,
@@ -32,7 +35,8 @@ pub(crate) fn before(chunks: &SumTree<Chunk>, offset: u32, steps: &mut Steps) ->
 pub(crate) fn text_at<'a>(chunks: &'a SumTree<Chunk>, at: u32, steps: &mut Steps) -> &'a str
     requires { IsRope chunks.now }
     ensures text { result.now ≡ slice_index_or chunks.now at [] }
-    ensures steps { (h : ℕ) → HasHeight h (concat chunks.now) → steps.new ≤ steps.old + 64 * (h + 1) }
+    ensures counted { steps.old ≤ steps.new }
+    ensures steps { TakesOnText way (concat chunks.now) steps.old steps.new }
 {
     match chunks.get(at, steps) {
         None => "",
@@ -44,7 +48,8 @@ pub(crate) fn text_at<'a>(chunks: &'a SumTree<Chunk>, at: u32, steps: &mut Steps
 pub(crate) fn is_boundary(chunks: &SumTree<Chunk>, offset: u32, steps: &mut Steps) -> bool
     requires { IsRope chunks.now }
     ensures test { IsTrue result ↔ IsBoundary (concat chunks.now) offset }
-    ensures steps { (h : ℕ) → HasHeight h (concat chunks.now) → steps.new ≤ steps.old + 128 * (h + 1) }
+    ensures counted { steps.old ≤ steps.new }
+    ensures steps { TakesOnText (ways 2) (concat chunks.now) steps.old steps.new }
 {
     if offset > chunks.sum().bytes {
         return false;
@@ -64,7 +69,8 @@ pub(crate) fn near_boundary(
     requires rope { IsRope chunks.now }
     requires within { offset ≤ length (concat chunks.now) }
     ensures near { IsNearBoundary (concat chunks.now) offset bias result }
-    ensures steps { (h : ℕ) → HasHeight h (concat chunks.now) → steps.new ≤ steps.old + 128 * (h + 1) }
+    ensures counted { steps.old ≤ steps.new }
+    ensures steps { TakesOnText (ways 2) (concat chunks.now) steps.old steps.new }
 {
     let before = before(chunks, offset, steps);
     let text = text_at(chunks, before.chunks, steps);
@@ -81,7 +87,8 @@ pub(crate) fn row_at(chunks: &SumTree<Chunk>, offset: u32, steps: &mut Steps) ->
     requires rope { IsRope chunks.now }
     requires within { offset ≤ length (concat chunks.now) }
     ensures row { result ≡ row_of (concat chunks.now) offset }
-    ensures steps { (h : ℕ) → HasHeight h (concat chunks.now) → steps.new ≤ steps.old + 128 * (h + 1) }
+    ensures counted { steps.old ≤ steps.new }
+    ensures steps { TakesOnText (ways 2) (concat chunks.now) steps.old steps.new }
 {
     let before = before(chunks, offset, steps);
     let text = text_at(chunks, before.chunks, steps);
@@ -101,7 +108,8 @@ pub(crate) fn gather(
     requires some { count ≤ length (concat (drop first chunks.now)) }
     ensures front { IfOk result (λ s. IsFront (string_bytes s) (concat (drop first chunks.now))) }
     ensures enough { IfOk result (λ s. count ≤ length (string_bytes s)) }
-    ensures steps { (h : ℕ) → HasHeight h (concat chunks.now) → steps.new ≤ steps.old + (count / 60 + 2) * (64 * (h + 1)) }
+    ensures counted { steps.old ≤ steps.new }
+    ensures steps { TakesOnText (ways (count / 60 + 2)) (concat chunks.now) steps.old steps.new }
 {
     let mut text = String::new(alloc);
     let mut at = first;

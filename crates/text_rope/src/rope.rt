@@ -6,10 +6,10 @@ ghost use Rattle.cell_units.specs.Layers.{point_of};
 ghost use Rattle.cell_units.specs.Operation.{replaced_text};
 ghost use Rattle.cell_units.specs.Record.{line_count};
 ghost use Rattle.cell_units.specs.Text.{IsBoundary, IsText, clean};
+ghost use Rattle.text_rope.specs.Bounds.{ChangesText, TakesOnText, reading_row, replacing, slicing, ways};
 ghost use Rattle.text_rope.specs.Edits.{IsReplaceFault, IsReplaced};
 ghost use Rattle.cell_units.specs.Points.{offset_at};
 ghost use Rattle.cell_units.specs.Refusal.{IsAccepted, IsTextRefused};
-ghost use Rattle.text_rope.specs.Ropes.{HasHeight};
 
 use crate::chunk::{Chunk, chunks_of};
 use crate::edit::{is_range, patch_of, renewal_of};
@@ -50,6 +50,7 @@ impl Rope {
     /// 33,554,432 bytes, and else `NotUtf8` where they aren't UTF-8, with the length of the longest prefix that is.
     pub fn from_bytes(alloc: Global, bytes: &[u8], steps: &mut Steps) -> Result<Rope, TextFault>
         ensures cases { MatchResult result (λ r. (r ≡ clean bytes.now) × IsAccepted bytes.now) (IsTextRefused bytes.now) }
+        ensures counted { steps.old ≤ steps.new }
         ensures steps { steps.new ≤ steps.old + 8 * (length bytes.now / 64 + 1) }
     {
         let text = cleaned(alloc, read_text(bytes)?)?;
@@ -96,8 +97,8 @@ impl Rope {
     ) -> Result<Patch, Fault>
         ensures cases { MatchResult result (IsReplaced self.old start end (clean text.now) self.new) (IsReplaceFault self.old start end (clean text.now)) }
         ensures err { OnErr result (self.new ≡ self.old) }
-        ensures steps { (h : ℕ) → HasHeight h self.old → HasHeight h (replaced_text self.old start end (clean text.now)) →
-            steps.new ≤ steps.old + 1500 * (length (clean text.now) / 64 + 1) * (h + 1) }
+        ensures counted { steps.old ≤ steps.new }
+        ensures steps { ChangesText (replacing (length (clean text.now))) self.old (replaced_text self.old start end (clean text.now)) steps.old steps.new }
     {
         if !is_range(&self.chunks, start, end, steps) {
             return Err(Fault::Refused(Refusal::BadRange));
@@ -117,7 +118,8 @@ impl Rope {
     /// Whether the offset is a boundary: not past the text's end, and not inside a character.
     pub fn is_boundary(&self, offset: u32, steps: &mut Steps) -> bool
         ensures test { IsTrue result ↔ IsBoundary self.now offset }
-        ensures steps { (h : ℕ) → HasHeight h self.now → steps.new ≤ steps.old + 128 * (h + 1) }
+        ensures counted { steps.old ≤ steps.new }
+        ensures steps { TakesOnText (ways 2) self.now steps.old steps.new }
     {
         is_boundary(&self.chunks, offset, steps)
     }
@@ -129,6 +131,8 @@ impl Rope {
         ensures start { IsBoundary self.now result.0 }
         ensures end { IsBoundary self.now result.1 }
         ensures order { result.0 ≤ result.1 }
+        ensures counted { steps.old ≤ steps.new }
+        ensures steps { TakesOnText (ways 4) self.now steps.old steps.new }
     {
         let start = start_of_row(&self.chunks, row, steps);
         let end = end_of_row(&self.chunks, row, steps);
@@ -139,7 +143,8 @@ impl Rope {
     pub fn point_of(&self, offset: u32, steps: &mut Steps) -> Point
         requires { offset ≤ length self.now }
         ensures point { result ≡ point_of self.now offset }
-        ensures steps { (h : ℕ) → HasHeight h self.now → steps.new ≤ steps.old + 256 * (h + 1) }
+        ensures counted { steps.old ≤ steps.new }
+        ensures steps { TakesOnText (ways 4) self.now steps.old steps.new }
     {
         let row = row_at(&self.chunks, offset, steps);
         Point {
@@ -153,7 +158,8 @@ impl Rope {
     pub fn offset_of(&self, point: Point, bias: Bias, steps: &mut Steps) -> u32
         ensures offset { result ≡ offset_at self.now point bias }
         ensures boundary { IsBoundary self.now result }
-        ensures steps { (h : ℕ) → HasHeight h self.now → steps.new ≤ steps.old + 384 * (h + 1) }
+        ensures counted { steps.old ≤ steps.new }
+        ensures steps { TakesOnText (ways 6) self.now steps.old steps.new }
     {
         let sum = self.chunks.sum();
         if point.row > sum.feeds {
@@ -171,8 +177,8 @@ impl Rope {
     pub fn line_text(&self, alloc: Global, row: u32, steps: &mut Steps) -> Result<Text, NoMemory>
         requires { row < line_count self.now }
         ensures text { IfOk result (λ t. slice_get (buffer_lines self.now) row ≡ Some t) }
-        ensures steps { (h : ℕ) → HasHeight h self.now →
-            steps.new ≤ steps.old + 704 * ((line_end self.now row - line_start self.now row) / 64 + 1) * (h + 1) }
+        ensures counted { steps.old ≤ steps.new }
+        ensures steps { TakesOnText (reading_row (line_end self.now row - line_start self.now row)) self.now steps.old steps.new }
     {
         let start = start_of_row(&self.chunks, row, steps);
         let end = end_of_row(&self.chunks, row, steps);
@@ -191,7 +197,8 @@ impl Rope {
         requires end { IsBoundary self.now end }
         requires order { start ≤ end }
         ensures text { IfOk result (λ t. t ≡ take (end - start) (drop start self.now)) }
-        ensures steps { (h : ℕ) → HasHeight h self.now → steps.new ≤ steps.old + 448 * ((end - start) / 64 + 1) * (h + 1) }
+        ensures counted { steps.old ≤ steps.new }
+        ensures steps { TakesOnText (slicing (end - start)) self.now steps.old steps.new }
     {
         let before = before(&self.chunks, start, steps);
         let from = (start - before.bytes) as usize;

@@ -3,8 +3,10 @@ ghost use Rattle.std.specs.Prelude.{◌≡◌, ◌+◌, ◌*◌, ◌<◌, ◌≤
 ghost use Rattle.std.specs.List.{concat};
 ghost use Rattle.cell_units.specs.BufferLines.{line_end, line_start};
 ghost use Rattle.cell_units.specs.Text.{is_feed};
+ghost use Rattle.sum_tree.specs.Bounds.{way};
+ghost use Rattle.text_rope.specs.Bounds.{TakesOnText, ways};
 ghost use Rattle.text_rope.specs.Finds.{IsBehindFeed, IsBeforeRow};
-ghost use Rattle.text_rope.specs.Ropes.{HasHeight, IsRope};
+ghost use Rattle.text_rope.specs.Ropes.{IsRope};
 
 use crate::chunk::{Chunk, TextSize};
 use crate::find::text_at;
@@ -55,7 +57,8 @@ fn before_row(chunks: &SumTree<Chunk>, row: u32, steps: &mut Steps) -> RowSize
     requires some { 0 < row }
     requires within { row ≤ count_by is_feed (concat chunks.now) }
     ensures found { IsBeforeRow chunks.now row result }
-    ensures steps { (h : ℕ) → HasHeight h (concat chunks.now) → steps.new ≤ steps.old + 64 * (h + 1) }
+    ensures counted { steps.old ≤ steps.new }
+    ensures steps { TakesOnText way (concat chunks.now) steps.old steps.new }
 {
     let target = RowSize {
         feeds: row,
@@ -90,7 +93,8 @@ pub(crate) fn start_of_row(chunks: &SumTree<Chunk>, row: u32, steps: &mut Steps)
     requires rope { IsRope chunks.now }
     requires within { row ≤ count_by is_feed (concat chunks.now) }
     ensures start { result ≡ line_start (concat chunks.now) row }
-    ensures steps { (h : ℕ) → HasHeight h (concat chunks.now) → steps.new ≤ steps.old + 128 * (h + 1) }
+    ensures counted { steps.old ≤ steps.new }
+    ensures steps { TakesOnText (ways 2) (concat chunks.now) steps.old steps.new }
 {
     if row == 0 {
         return 0;
@@ -105,7 +109,8 @@ pub(crate) fn end_of_row(chunks: &SumTree<Chunk>, row: u32, steps: &mut Steps) -
     requires rope { IsRope chunks.now }
     requires within { row ≤ count_by is_feed (concat chunks.now) }
     ensures end { result ≡ line_end (concat chunks.now) row }
-    ensures steps { (h : ℕ) → HasHeight h (concat chunks.now) → steps.new ≤ steps.old + 128 * (h + 1) }
+    ensures counted { steps.old ≤ steps.new }
+    ensures steps { TakesOnText (ways 2) (concat chunks.now) steps.old steps.new }
 {
     let sum = chunks.sum();
     if row == sum.feeds {

@@ -19,16 +19,16 @@ pub returns-in-None-clause-enough : goal.returns-in-None-clause-enough
 returns-in-None-clause-enough c = all_gathered c.args.chunks.now c.loop-steps.at c.args.count (string_bytes c.loop-steps.text) _ (sym c.in-None.ensures.item) c.loop-steps.invariant.gathered c.requires.some
 
 -- the steps with one turn more
-steps_now : (c : After-get) → (h : ℕ) → HasHeight h (concat c.args.chunks.now) → c.get.new.steps ≤ c.args.steps.now + (c.loop-steps.at + 1 - c.args.first) * (64 * (h + 1))
+steps_now : (c : After-get) → (h : ℕ) → HasHeight h (concat c.args.chunks.now) → c.get.new.steps ≤ c.args.steps.now + (c.loop-steps.at + 1 - c.args.first) * (h + 1)
 steps_now c h high =
-    one_turn c.loop-steps.at c.args.first (64 * (h + 1)) c.args.steps.now c.loop-steps.steps c.get.new.steps c.loop-steps.invariant.order (c.loop-steps.invariant.steps h high)
+    one_turn c.loop-steps.at c.args.first (h + 1) c.args.steps.now c.loop-steps.steps c.get.new.steps c.loop-steps.invariant.order (c.loop-steps.invariant.steps h high)
     (c.get.ensures.steps h (full_height c.args.chunks.now h c.requires.rope.full high))
 
 turns_now : (c : After-get) → c.loop-steps.at + 1 - c.args.first ≤ c.args.count / 60 + 2
 turns_now c = omega (arith, c.loop-steps.invariant.few, c.loop-steps-test.true, c.len.ensures)
 
-steps_most : (c : After-get) → (h : ℕ) → HasHeight h (concat c.args.chunks.now) → c.get.new.steps ≤ c.args.steps.now + (c.args.count / 60 + 2) * (64 * (h + 1))
-steps_most c h high = turns_within (c.loop-steps.at + 1 - c.args.first) (c.args.count / 60 + 2) (64 * (h + 1)) c.args.steps.now c.get.new.steps (turns_now c) (steps_now c h high)
+steps_most : (c : After-get) → (h : ℕ) → HasHeight h (concat c.args.chunks.now) → c.get.new.steps ≤ c.args.steps.now + (c.args.count / 60 + 2) * (h + 1)
+steps_most c h high = turns_within (c.loop-steps.at + 1 - c.args.first) (c.args.count / 60 + 2) (h + 1) c.args.steps.now c.get.new.steps (turns_now c) (steps_now c h high)
 
 pub returns-in-None-clause-steps : goal.returns-in-None-clause-steps
 returns-in-None-clause-steps c = steps_most (goal.at.returns-in-None-clause-steps c).After-get
@@ -52,5 +52,6 @@ loop-steps-preserved c =
       order = omega (arith, c.loop-steps.invariant.order);
       few = omega (arith, few, ap (λ (t : List ℕ). length t) all, length-append text chunk);
       turns = turns_now here;
+      counted = omega arith;
       steps = steps_now here;
     }

@@ -10,7 +10,8 @@ invariant-loop-steps l = record {
   order : l.fn.first ≤ l.at;
   few : 60 * (l.at - l.fn.first) ≤ length (string_bytes l.text) + 60;
   turns : l.at - l.fn.first ≤ l.fn.count / 60 + 2;
-  steps : (h : ℕ) → HasHeight h (concat l.fn.chunks) → l.steps ≤ l.fn.steps + (l.at - l.fn.first) * (64 * (h + 1));
+  counted : l.fn.steps ≤ l.steps;
+  steps : (h : ℕ) → HasHeight h (concat l.fn.chunks) → l.steps ≤ l.fn.steps + (l.at - l.fn.first) * (h + 1);
 }
 
 abbrev pub decreases-loop-steps : goal.decreases-loop-steps

@@ -108,8 +108,8 @@ returns-clause-cases c =
 
 -- where the tree is reached, it ticks little more than its height
 steps_by : (c : In_ok-new) (s3 : ℕ) (h : ℕ) → HasHeight h c.args.self.now → HasHeight h (replaced_text c.args.self.now c.args.start c.args.end (clean c.args.text.now)) →
-    ((h : ℕ) → length c.self.inside.chunks < 2 * 6 ^ (h + 1) → length (new_chunks c) < 2 * 6 ^ (h + 1) → s3 ≤ c.renewal_of.new.steps + 800 * (h + 1) + 4 * (length c.in_ok-new.new.chunks.items + 1)) →
-    s3 ≤ c.args.steps.now + 1500 * (length (clean c.args.text.now) / 64 + 1) * (h + 1)
+    ((h : ℕ) → length c.self.inside.chunks < 2 * 6 ^ (h + 1) → length (new_chunks c) < 2 * 6 ^ (h + 1) → s3 ≤ c.renewal_of.new.steps + (160 * h + (87 + 4 * (length c.in_ok-new.new.chunks.items + 1)))) →
+    s3 ≤ c.args.steps.now + 180 * (length (clean c.args.text.now) / 64 + 1) * (h + 1)
 steps_by c s3 h high higher last =
     let chunks = c.self.inside.chunks in
     let old : HasHeight h (concat chunks) = subst (HasHeight h) (sym c.self.view_is) high in

@@ -51,7 +51,7 @@ returns-clause-text c =
     IfOk-weaker c.from_str.result _ _ (λ t e. e ∙ between) c.from_str.ensures
 
 -- what is gathered is little more than what is asked for
-steps : (c : After-gather) → (h : ℕ) → HasHeight h c.args.self.now → c.gather.new.steps ≤ c.args.steps.now + 448 * ((c.args.end - c.args.start) / 64 + 1) * (h + 1)
+steps : (c : After-gather) → (h : ℕ) → HasHeight h c.args.self.now → c.gather.new.steps ≤ c.args.steps.now + 7 * ((c.args.end - c.args.start) / 64 + 1) * (h + 1)
 steps c h high =
     let chunks = c.self.inside.chunks in
     let r = c.before-before.result in
