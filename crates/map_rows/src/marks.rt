@@ -26,7 +26,8 @@ fn marks_stay_left_and_go_right_of_an_insertion(rt: HostRuntime) -> Result<(), F
     let mut steps = Steps::new();
     let mut tree = MarkTree::new(alloc);
     tree.insert(alloc, mark(alloc, 3, Bias::Right, 2)?, &mut steps)?;
-    tree.insert(alloc, mark(alloc, 3, Bias::Left, 1)?, &mut steps)?;
+    let place = tree.insert(alloc, mark(alloc, 3, Bias::Left, 1)?, &mut steps)?;
+    assert_eq!(rt; place, 0);
     let copy = tree.share()?;
     let insertion = Shift {
         start: 3,
@@ -49,11 +50,15 @@ fn marks_stay_left_and_go_right_of_an_insertion(rt: HostRuntime) -> Result<(), F
     assert_eq!(rt; tree.len(), 2);
     let again = tree.insert(alloc, mark(alloc, 9, Bias::Left, 2)?, &mut steps);
     assert_eq!(rt; again, Err(Fault::Refused(Refusal::IdInUse)));
-    let removed = tree.remove(alloc, 1, &mut steps)?;
+    assert!(rt; tree.contains(1, &mut steps));
+    assert_eq!(rt; tree.place_of(5, Bias::Right, 2, &mut steps), 1);
+    assert_eq!(rt; tree.place_of(4, Bias::Left, 7, &mut steps), 1);
+    let (place, removed) = tree.remove(alloc, 1, &mut steps)?;
     assert_eq!(rt;
-        (removed.offset, removed.bias, removed.id),
-        (3, Bias::Left, 1)
+        (place, removed.offset, removed.bias, removed.id),
+        (0, 3, Bias::Left, 1)
     );
+    assert!(rt; !tree.contains(1, &mut steps));
     assert_eq!(rt; tree.len(), 1);
     match tree.remove(alloc, 9, &mut steps) {
         Ok(_) => Err("a mark that nobody added".into()),

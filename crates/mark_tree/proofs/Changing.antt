@@ -8,7 +8,9 @@ use Rattle.cell_units.specs.declared.place.Shift.{Shift}
 use Rattle.cell_units.specs.Sorting.{insert_by}
 use Rattle.mark_tree.specs.declared.entry.Placed.{Placed}
 use Rattle.mark_tree.specs.Entries.{end_at, IsSpaced, IsCodable, shifted, spliced}
-use Rattle.mark_tree.specs.Order.{placed_le, has_placed_id, lacks_placed_id, IsOrdered}
+use Rattle.mark_tree.specs.declared.key.Key.{Key}
+use Rattle.mark_tree.specs.Order.{key_le, key_of, placed_le, has_placed_id, lacks_placed_id, IsOrdered, IsPlaceFor}
+use Rattle.mark_tree.proofs.Finding.{place-at}
 use Rattle.mark_tree.proofs.Sorting.{Every, IsSorted, every-insert, count-cons, count-insert, length-insert, sorted-insert, sort-sorted}
 use Rattle.mark_tree.proofs.Order.{le-total, le-trans, le-offset, sorted-placed}
 
@@ -115,6 +117,13 @@ module _ {P : Type 0} where
   pub spliced-added : (at : ℕ) (p : Placed P) (ps : List (Placed P)) → insert_by placed_le p ps ≡ take at ps ++ p ∷ drop at ps → spliced at at (p ∷ []) no_shift ps ≡ insert_by placed_le p ps
   spliced-added at p ps is = ap (λ l. take at ps ++ p ∷ l) (shifted-none (drop at ps)) ∙ sym is
 
+  -- the place of a key in order is that of what has this key
+  pub placed-at : (p : Placed P) (ps : List (Placed P)) (key : Key) (at : ℕ) → key ≡ key_of p → IsPlaceFor key ps at → insert_by placed_le p ps ≡ take at ps ++ p ∷ drop at ps
+  placed-at p ps key at is w =
+      place-at placed_le p ps at w.within
+      (λ k d lt. ap (λ j. key_le j (key_of (get_or ps k d))) (sym is) ∙ w.before k d lt)
+      (λ d lt. ap (λ j. key_le j (key_of (get_or ps at d))) (sym is) ∙ w.from d lt)
+
   pub codable-added : (p : Placed P) (ps : List (Placed P)) → IsOrdered ps → IsCodable ps → end_at p < 2 ^ 32 → length ps + 1 < 2 ^ 32 → IsCodable (insert_by placed_le p ps)
   codable-added p ps o c e n =
       codable-sorted (insert_by placed_le p ps) (sorted-insert placed_le le-total le-trans p ps (sorted-placed ps o.sorted))
@@ -140,6 +149,9 @@ module _ {P : Type 0} where
       → spliced at (at + 1) [] no_shift ps ≡ filter (lacks_placed_id id) ps
   spliced-taken at id ps lt here few = ap (λ l. take at ps ++ l) (shifted-none (drop (at + 1) ps)) ∙ sym (filter-one (has_placed_id id) ps at lt here few)
 
+  pub spliced-out : (at : ℕ) (ps : List (Placed P)) → spliced at (at + 1) [] no_shift ps ≡ take at ps ++ drop (at + 1) ps
+  spliced-out at ps = ap (λ l. take at ps ++ l) (shifted-none (drop (at + 1) ps))
+
   pub codable-taken : (id : ℕ) (ps : List (Placed P)) → IsOrdered ps → IsCodable ps → IsCodable (filter (lacks_placed_id id) ps)
   codable-taken id ps o c =
       codable-sorted (filter (lacks_placed_id id) ps) (sorted-filter placed_le (lacks_placed_id id) ps (sorted-placed ps o.sorted))
@@ -155,8 +167,8 @@ module _ {P : Type 0} where
     distinct = λ n. omega (arith, count-filter (lacks_placed_id id) (has_placed_id n) ps, o.distinct n);
   }
 
-pub add-steps : (h n s₀ s₁ s₂ s₃ : ℕ) → s₁ ≤ s₀ + n + 1 → s₂ ≤ s₁ + 2048 * (h + 1) → s₃ ≤ s₂ + 928 * (h + 1) + 4 * (1 + 2) → s₃ ≤ s₀ + n + 3000 * (h + 1)
+pub add-steps : (h n s₀ s₁ s₂ s₃ : ℕ) → 5 * s₁ ≤ 5 * s₀ + (n + 5) → s₂ ≤ s₁ + 32 * (h + 1) → s₃ ≤ s₂ + (162 * h + (89 + 4 * (1 + 2))) → 5 * s₃ ≤ 5 * s₀ + ((n + 1) + 5 * (200 * (h + 1)))
 add-steps h n s₀ s₁ s₂ s₃ a b c = omega arith
 
-pub take-steps : (h n s₀ s₁ s₂ s₃ : ℕ) → s₁ ≤ s₀ + n + 1 → s₂ ≤ s₁ + 64 * (h + 1) → s₃ ≤ s₂ + 928 * (h + 1) + 4 * (0 + 2) → s₃ ≤ s₀ + n + 1200 * (h + 1)
+pub take-steps : (h n s₀ s₁ s₂ s₃ : ℕ) → 5 * s₁ ≤ 5 * s₀ + (n + 5) → s₂ ≤ s₁ + (h + 1) → s₃ ≤ s₂ + (162 * h + (89 + 4 * (0 + 2))) → 5 * s₃ ≤ 5 * s₀ + (n + 5 * (200 * (h + 1)))
 take-steps h n s₀ s₁ s₂ s₃ a b c = omega arith

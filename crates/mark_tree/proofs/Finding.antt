@@ -1,6 +1,6 @@
 -- What loops over the places of a list find.
 use Rattle.std.proofs.Common.{◌≡◌, ℕ, ◌+◌, ◌-◌, ◌*◌, ◌/◌, ◌^◌, ◌<◌, ◌≤◌, ◌||◌, zero, suc, Bool, true, false, not, List, [], ◌∷◌, ◌++◌, length, take, drop, get_or, Option, Some, None, position, refl, sym, ap, subst, ◌∙◌, arith, cond, nat_lt}
-use Rattle.std.specs.List.{slice_get, position_or_len, list_any}
+use Rattle.std.specs.List.{Contains, slice_get, position_or_len, list_any}
 use Rattle.std.specs.Option.{is_some}
 use Rattle.cell_units.specs.Sorting.{insert_by}
 use Rattle.std.proofs.Math.Nat.{mul-le-mul_left}
@@ -9,6 +9,10 @@ use Rattle.std.proofs.lemmas.List.Sums.{position_or_len_is, passes_at_first}
 use Rattle.std.proofs.lemmas.Option.{get_or_from_slice_get, slice_get_within}
 use Rattle.std.proofs.lemmas.Bool.Decides.{nat_tests}
 use Rattle.mark_tree.proofs.Sorting.{Every, IsSorted}
+
+-- what stands at a place is there
+pub contained : {X : Type 0} (xs : List X) (at : ℕ) (x : X) → slice_get xs at ≡ Some x → Contains xs x
+contained xs at x is = (at, slice_get_within xs at x is, get_or_from_slice_get xs at x x is)
 
 -- one more element of a part
 pub copied-more : {X : Type 0} (xs : List X) (from at : ℕ) (x : X) → from ≤ at → slice_get xs at ≡ Some x → take (at + 1 - from) (drop from xs) ≡ take (at - from) (drop from xs) ++ x ∷ []
@@ -101,7 +105,7 @@ position-some {X = X} p xs at is = go (nat_lt (position_or_len p xs) (length xs)
   go false e f = absurd (cc)
 
 -- in a sorted list, what is above one is above all before it
-module _ {X : Type 0} (le : X → X → Bool) (trans : (x y z : X) → le x y ≡ true → le y z ≡ true → le x z ≡ true) where
+module _ {X : Type 0} (le : X → X → Bool) where
   every-at : (P : X → Type 0) (xs : List X) (k : ℕ) (d : X) → k < length xs → Every P xs → P (get_or xs k d)
   every-at P [] k d lt a = absurd (omega arith)
   every-at P (x ∷ xs) zero d lt a = a.0
@@ -113,10 +117,12 @@ module _ {X : Type 0} (le : X → X → Bool) (trans : (x y z : X) → le x y �
   sorted-places (x ∷ xs) s zero (suc k) d lt in' = every-at (λ y. le x y ≡ true) xs k d (omega arith) s.0
   sorted-places (x ∷ xs) s (suc j) (suc k) d lt in' = sorted-places xs s.1 j k d (omega arith) (omega arith)
 
-  pub above-before : (x : X) (xs : List X) → IsSorted le xs → (at : ℕ) (d : X) → at < length xs → le x (get_or xs at d) ≡ false → (k : ℕ) → k < at → le x (get_or xs k d) ≡ false
-  above-before x xs s at d in' not k lt = go (le x (get_or xs k d)) refl where
-    go : (b : Bool) → le x (get_or xs k d) ≡ b → b ≡ false
-    go true e = absurd (differ (sym (trans x (get_or xs k d) (get_or xs at d) e (sorted-places xs s k at d lt in')) ∙ not)) where
+  -- what comes after one of them comes after all before it
+  pub above-before : {K : Type 0} (le' : K → X → Bool) → ((k : K) (x y : X) → le' k x ≡ true → le x y ≡ true → le' k y ≡ true) → (key : K) (xs : List X) → IsSorted le xs → (at : ℕ) (d : X) → at < length xs
+      → le' key (get_or xs at d) ≡ false → (k : ℕ) → k < at → le' key (get_or xs k d) ≡ false
+  above-before le' trans key xs s at d in' not k lt = go (le' key (get_or xs k d)) refl where
+    go : (b : Bool) → le' key (get_or xs k d) ≡ b → b ≡ false
+    go true e = absurd (differ (sym (trans key (get_or xs k d) (get_or xs at d) e (sorted-places xs s k at d lt in')) ∙ not)) where
       differ : true ≡ false → ⊥
       differ f = cc
     go false e = refl

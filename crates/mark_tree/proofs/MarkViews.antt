@@ -1,6 +1,9 @@
 -- Lists of marks, as views of things of no length.
-use Rattle.std.proofs.Common.{◌≡◌, ℕ, zero, suc, ◌+◌, ◌<◌, ◌≤◌, ◌^◌, ◌==◌, ◌&&◌, ◌||◌, nat_lt, nat_le, not, Bool, true, false, cond, List, [], ◌∷◌, length, map, filter, count_by, get_or, take, drop, Some, None, position, refl, sym, ap, subst, ◌∙◌, arith}
-use Rattle.std.specs.List.{All, list_any, slice_get}
+use Rattle.std.proofs.Common.{◌≡◌, ℕ, zero, suc, ◌+◌, ◌<◌, ◌≤◌, ◌^◌, ◌++◌, ◌==◌, ◌&&◌, ◌||◌, nat_lt, nat_le, not, Bool, true, false, cond, List, [], ◌∷◌, length, map, filter, count_by, get_or, take, drop, Some, None, position, refl, sym, ap, subst, ◌∙◌, arith}
+use Rattle.std.specs.List.{All, list_any, position_or_len, slice_get}
+use Rattle.std.proofs.lemmas.List.{drop-map, get_or-map, map-append, take-map}
+use Rattle.std.proofs.lemmas.List.Sums.{position_or_len_is}
+use Rattle.cell_units.specs.declared.place.Bias.{Bias}
 use Rattle.std.proofs.lemmas.List.Elements.{All-nil, All-cons, All-head, All-tail}
 use Rattle.std.proofs.lemmas.Bool.Decides.{nat_tests}
 use Rattle.cell_units.specs.declared.place.Shift.{Shift}
@@ -9,8 +12,8 @@ use Rattle.cell_units.specs.Sorting.{insert_by, sort_by}
 use Rattle.mark_tree.specs.declared.entry.Placed.{Placed}
 use Rattle.mark_tree.specs.declared.mark.Mark.{Mark}
 use Rattle.mark_tree.specs.Entries.{end_at, IsCodable}
-use Rattle.mark_tree.specs.Marks.{mark_le, has_id, lacks_id, move_mark, moved_marks, IsMarkList}
-use Rattle.mark_tree.specs.Order.{placed_le, has_placed_id, lacks_placed_id, move_placed, moved_placed}
+use Rattle.mark_tree.specs.Marks.{mark_le, has_id, is_not_before, lacks_id, move_mark, moved_marks, IsMarkList}
+use Rattle.mark_tree.specs.Order.{key_le, key_of, placed_le, has_placed_id, lacks_placed_id, move_placed, moved_placed, IsPlaceFor}
 use Rattle.mark_tree.specs.Views.{mark_of, AreMarks}
 use Rattle.mark_tree.proofs.Sorting.{Every, count-cons, every-insert, every-sort, insert-map, sort-map}
 use Rattle.mark_tree.proofs.Changing.{every-from_all, all-from_every}
@@ -124,6 +127,26 @@ module _ {P : Type 0} where
         here [] n l a d = absurd (omega arith)
         here (q ∷ qs) zero l a d = is_le offset q.offset (All-head (λ p. offset ≤ p.offset) q qs a)
         here (q ∷ qs) (suc n) l a d = here qs n (omega arith) a d
+
+  -- the place of a key in order, among marks
+  pub place-of : (offset : ℕ) (bias : Bias) (id : ℕ) (ps : List (Placed P)) (at : ℕ) → All IsFlat ps → IsPlaceFor (record { offset = offset; bias = bias_rank bias; length = 0; id = id }) ps at
+      → at ≡ position_or_len (is_not_before offset bias id) (map mark_of ps)
+  place-of offset bias id [] at flat w = omega (arith, w.within)
+  place-of offset bias id (p ∷ ps) at flat w =
+      let q = is_not_before offset bias id in
+      let same : (k : ℕ) → k < length (p ∷ ps) → q (get_or (map mark_of (p ∷ ps)) k (mark_of p)) ≡ key_le (record { offset = offset; bias = bias_rank bias; length = 0; id = id }) (key_of (get_or (p ∷ ps) k p)) =
+      λ k lt. ap q (get_or-map mark_of (p ∷ ps) k p (mark_of p) lt)
+      ∙ ap (λ r. in_order offset (get_or (p ∷ ps) k p).offset (in_order (bias_rank bias) (bias_rank (get_or (p ∷ ps) k p).bias) r)) (sym (level 0 (get_or (p ∷ ps) k p).length (nat_le id (get_or (p ∷ ps) k p).id) refl (flat k p lt))) in
+      sym (position_or_len_is q (map mark_of (p ∷ ps)) at (mark_of p) (omega (arith, w.within, length-map mark_of (p ∷ ps)))
+      (λ k lt. same k (omega (arith, lt, w.within)) ∙ w.before k p lt)
+      (λ lt. let lt' : at < length (p ∷ ps) = omega (arith, lt, length-map mark_of (p ∷ ps)) in same at lt' ∙ w.from p lt'))
+
+  -- parts of the list, as marks
+  pub around-of : (at : ℕ) (p : Placed P) (ps : List (Placed P)) → map mark_of (take at ps ++ p ∷ drop at ps) ≡ take at (map mark_of ps) ++ mark_of p ∷ drop at (map mark_of ps)
+  around-of at p ps = map-append mark_of (take at ps) (p ∷ drop at ps) ∙ (λ i. sym (take-map mark_of at ps) i ++ mark_of p ∷ sym (drop-map mark_of at ps) i)
+
+  pub without-of : (at : ℕ) (ps : List (Placed P)) → map mark_of (take at ps ++ drop (at + 1) ps) ≡ take at (map mark_of ps) ++ drop (at + 1) (map mark_of ps)
+  without-of at ps = map-append mark_of (take at ps) (drop (at + 1) ps) ∙ (λ i. sym (take-map mark_of at ps) i ++ sym (drop-map mark_of (at + 1) ps) i)
 
   pub none-of : (offset : ℕ) (ps : List (Placed P)) (at : ℕ) → length ps ≤ at → All (λ p. p.offset < offset) (take at ps) → None ≡ position (λ (m : Mark P). nat_le offset m.offset) (map mark_of ps)
   none-of offset ps at le before = position-none (λ (m : Mark P). nat_le offset m.offset) (map mark_of ps) (λ k d a. below ps at k before le (omega (arith, length-map mark_of ps)) d) where

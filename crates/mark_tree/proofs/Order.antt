@@ -10,7 +10,7 @@ use Rattle.cell_units.specs.Record.{in_order, bias_rank}
 use Rattle.cell_units.specs.Sorting.{sort_by}
 use Rattle.mark_tree.specs.declared.entry.Placed.{Placed}
 use Rattle.mark_tree.specs.declared.key.Key.{Key}
-use Rattle.mark_tree.specs.Order.{placed_le, key_of, has_placed_id}
+use Rattle.mark_tree.specs.Order.{key_le, placed_le, key_of, has_placed_id}
 use Rattle.mark_tree.proofs.Sorting.{IsSorted, sorted-sort, sorted-from_same, sorted-from_adjacent, one_order, count-sort, member-sort, sort-member, contains-from_member, member-from_contains, fresh-from_count}
 
 -- what an order by one number and then another says
@@ -106,18 +106,27 @@ last_lt a b h = grind (arith, nat_tests)
 abbrev pub key_cmp : Key → Key → Ordering
 key_cmp k l = ordering_then (nat_cmp k.offset l.offset) (ordering_then (nat_cmp k.bias l.bias) (ordering_then (nat_cmp k.length l.length) (nat_cmp k.id l.id)))
 
+pub key_le-from : (k l : Key) → is_lt (key_cmp l k) ≡ false → key_le k l ≡ true
+key_le-from k l =
+    then_not_lt k.offset l.offset (ordering_then (nat_cmp l.bias k.bias) (ordering_then (nat_cmp l.length k.length) (nat_cmp l.id k.id))) (in_order k.bias l.bias (in_order k.length l.length (nat_le k.id l.id)))
+    (then_not_lt k.bias l.bias (ordering_then (nat_cmp l.length k.length) (nat_cmp l.id k.id)) (in_order k.length l.length (nat_le k.id l.id))
+    (then_not_lt k.length l.length (nat_cmp l.id k.id) (nat_le k.id l.id) (last_not_lt k.id l.id)))
+
+pub not_key_le-from : (k l : Key) → is_lt (key_cmp l k) ≡ true → key_le k l ≡ false
+not_key_le-from k l =
+    then_lt k.offset l.offset (ordering_then (nat_cmp l.bias k.bias) (ordering_then (nat_cmp l.length k.length) (nat_cmp l.id k.id))) (in_order k.bias l.bias (in_order k.length l.length (nat_le k.id l.id)))
+    (then_lt k.bias l.bias (ordering_then (nat_cmp l.length k.length) (nat_cmp l.id k.id)) (in_order k.length l.length (nat_le k.id l.id))
+    (then_lt k.length l.length (nat_cmp l.id k.id) (nat_le k.id l.id) (last_lt k.id l.id)))
+
+pub key_le-trans : (k l m : Key) → key_le k l ≡ true → key_le l m ≡ true → key_le k m ≡ true
+key_le-trans p q r =
+    in_order-trans p.offset q.offset r.offset (in_order p.bias q.bias (in_order p.length q.length (nat_le p.id q.id))) (in_order q.bias r.bias (in_order q.length r.length (nat_le q.id r.id))) (in_order p.bias r.bias (in_order p.length r.length (nat_le p.id r.id)))
+    (in_order-trans p.bias q.bias r.bias (in_order p.length q.length (nat_le p.id q.id)) (in_order q.length r.length (nat_le q.id r.id)) (in_order p.length r.length (nat_le p.id r.id))
+    (in_order-trans p.length q.length r.length (nat_le p.id q.id) (nat_le q.id r.id) (nat_le p.id r.id) (nat_le-trans p.id q.id r.id)))
+
 module _ {P : Type 0} where
   pub le-from_key : (p q : Placed P) → is_lt (key_cmp (key_of q) (key_of p)) ≡ false → placed_le p q ≡ true
-  le-from_key p q =
-      then_not_lt p.offset q.offset (ordering_then (nat_cmp (bias_rank q.bias) (bias_rank p.bias)) (ordering_then (nat_cmp q.length p.length) (nat_cmp q.id p.id))) (in_order (bias_rank p.bias) (bias_rank q.bias) (in_order p.length q.length (nat_le p.id q.id)))
-      (then_not_lt (bias_rank p.bias) (bias_rank q.bias) (ordering_then (nat_cmp q.length p.length) (nat_cmp q.id p.id)) (in_order p.length q.length (nat_le p.id q.id))
-      (then_not_lt p.length q.length (nat_cmp q.id p.id) (nat_le p.id q.id) (last_not_lt p.id q.id)))
-
-  pub not_le-from_key : (p q : Placed P) → is_lt (key_cmp (key_of q) (key_of p)) ≡ true → placed_le p q ≡ false
-  not_le-from_key p q =
-      then_lt p.offset q.offset (ordering_then (nat_cmp (bias_rank q.bias) (bias_rank p.bias)) (ordering_then (nat_cmp q.length p.length) (nat_cmp q.id p.id))) (in_order (bias_rank p.bias) (bias_rank q.bias) (in_order p.length q.length (nat_le p.id q.id)))
-      (then_lt (bias_rank p.bias) (bias_rank q.bias) (ordering_then (nat_cmp q.length p.length) (nat_cmp q.id p.id)) (in_order p.length q.length (nat_le p.id q.id))
-      (then_lt p.length q.length (nat_cmp q.id p.id) (nat_le p.id q.id) (last_lt p.id q.id)))
+  le-from_key p q = key_le-from (key_of p) (key_of q)
 
   pub le-total : (p q : Placed P) → placed_le p q ≡ false → placed_le q p ≡ true
   le-total p q =
@@ -126,10 +135,7 @@ module _ {P : Type 0} where
       (in_order-total p.length q.length (nat_le p.id q.id) (nat_le q.id p.id) (nat_le-total p.id q.id)))
 
   pub le-trans : (p q r : Placed P) → placed_le p q ≡ true → placed_le q r ≡ true → placed_le p r ≡ true
-  le-trans p q r =
-      in_order-trans p.offset q.offset r.offset (in_order (bias_rank p.bias) (bias_rank q.bias) (in_order p.length q.length (nat_le p.id q.id))) (in_order (bias_rank q.bias) (bias_rank r.bias) (in_order q.length r.length (nat_le q.id r.id))) (in_order (bias_rank p.bias) (bias_rank r.bias) (in_order p.length r.length (nat_le p.id r.id)))
-      (in_order-trans (bias_rank p.bias) (bias_rank q.bias) (bias_rank r.bias) (in_order p.length q.length (nat_le p.id q.id)) (in_order q.length r.length (nat_le q.id r.id)) (in_order p.length r.length (nat_le p.id r.id))
-      (in_order-trans p.length q.length r.length (nat_le p.id q.id) (nat_le q.id r.id) (nat_le p.id r.id) (nat_le-trans p.id q.id r.id)))
+  le-trans p q r = key_le-trans (key_of p) (key_of q) (key_of r)
 
   pub le-same_id : (p q : Placed P) → placed_le p q ≡ true → placed_le q p ≡ true → p.id ≡ q.id
   le-same_id p q a b =

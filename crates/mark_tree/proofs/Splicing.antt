@@ -1,5 +1,5 @@
 -- What the entries stand for after some of them were replaced.
-use Rattle.std.proofs.Common.{◌≡◌, ℕ, zero, suc, ◌+◌, ◌-◌, ◌<◌, ◌≤◌, ◌^◌, List, [], ◌∷◌, ◌++◌, length, map, take, drop, Some, Result, Ok, Err, OnOk, OnErr, refl, sym, ap, subst, ◌∙◌, arith, add-one, append_assoc, ◌⊎◌, inl, inr}
+use Rattle.std.proofs.Common.{◌≡◌, ℕ, zero, suc, ◌+◌, ◌-◌, ◌<◌, ◌≤◌, ◌^◌, List, [], ◌∷◌, ◌++◌, length, map, take, drop, Some, Result, Ok, Err, IfOk, OnOk, OnErr, refl, sym, ap, subst, ◌∙◌, arith, add-one, append_assoc, ◌⊎◌, inl, inr}
 use Rattle.std.specs.List.{All, slice_get}
 use Rattle.std.proofs.lemmas.List.{length-drop}
 use Rattle.std.proofs.lemmas.List.Elements.{All-head, All-tail}
@@ -22,6 +22,10 @@ map-at_ok f (Err e) new a b ok is = tt
 pub map-at_err : {X Y T E : Type 0} (f : X → Y) (r : Result T E) (new a : X) (b : Y) → OnErr r (new ≡ a) → f a ≡ b → OnErr r (f new ≡ b)
 map-at_err f (Ok t) new a b err is = tt
 map-at_err f (Err e) new a b err is = ap f err ∙ is
+
+pub ok-maps : {T E : Type 0} (A B : T → Type 0) (r : Result T E) → ((x : T) → A x → B x) → IfOk r A → IfOk r B
+ok-maps A B (Ok x) f a = f x a
+ok-maps A B (Err e) f a = tt
 
 pub ok-weaker : {A B : Type 0} {T E : Type 0} (r : Result T E) → (A → B) → OnOk r A → OnOk r B
 ok-weaker (Ok t) f a = f a

@@ -1,3 +1,4 @@
+pub mod Bounds
 pub mod DimensionLaws
 pub mod Entries
 pub mod ExtentLaws

@@ -1,5 +1,6 @@
 -- Lists of marks, and what a replacement makes of them.
-use Rattle.std.specs.Prelude.{◌≡◌, ℕ, ◌==◌, ◌&&◌, ◌≤◌, ◌<◌, ◌^◌, not, nat_le, Bool, true, List, length, map, count_by, All}
+use Rattle.std.specs.Prelude.{◌≡◌, ℕ, ◌==◌, ◌&&◌, ◌≤◌, ◌<◌, ◌^◌, not, nat_le, Bool, true, false, List, length, map, count_by, All}
+use Rattle.cell_units.specs.declared.place.Bias.{Bias}
 use Rattle.cell_units.specs.declared.place.Shift.{Shift}
 use Rattle.cell_units.specs.declared.fault.Fault.{Fault}
 use Rattle.cell_units.specs.declared.fault.Fault.TheVariants.{Refused, NoMemory}
@@ -9,15 +10,19 @@ use Rattle.cell_units.specs.Record.{in_order, bias_rank}
 use Rattle.cell_units.specs.Sorting.{sort_by}
 use Rattle.mark_tree.specs.declared.mark.Mark.{Mark}
 
--- want of memory, or the refusal whose cause is there
+-- the refusal where its cause is there, and else want of memory
 abbrev pub IsRefusedFor : Refusal → Bool → Fault → Type 0
 IsRefusedFor refusal cause (Refused r) = (r ≡ refusal) × (cause ≡ true)
-IsRefusedFor refusal cause NoMemory = Unit {0}
+IsRefusedFor refusal cause NoMemory = cause ≡ false
 
 module _ {P : Type 0} where
   -- by offset, then bias with Left first, then id
   abbrev pub mark_le : Mark P → Mark P → Bool
   mark_le m n = in_order m.offset n.offset (in_order (bias_rank m.bias) (bias_rank n.bias) (nat_le m.id n.id))
+
+  -- the mark doesn't come before one of this offset, bias and id
+  abbrev pub is_not_before : ℕ → Bias → ℕ → Mark P → Bool
+  is_not_before offset bias id m = in_order offset m.offset (in_order (bias_rank bias) (bias_rank m.bias) (nat_le id m.id))
 
   abbrev pub has_id : ℕ → Mark P → Bool
   has_id id m = m.id == id

@@ -1,11 +1,15 @@
 -- The order of things at offsets, and their ids.
-use Rattle.std.specs.Prelude.{◌≡◌, ℕ, ◌==◌, ◌&&◌, ◌≤◌, not, nat_le, Bool, List, map, count_by}
+use Rattle.std.specs.Prelude.{◌≡◌, ℕ, ◌==◌, ◌&&◌, ◌<◌, ◌≤◌, not, nat_le, Bool, true, false, List, length, map, count_by, slice_index_or}
 use Rattle.cell_units.specs.declared.place.Shift.{Shift}
 use Rattle.cell_units.specs.Anchor.{move}
 use Rattle.cell_units.specs.Record.{in_order, bias_rank}
 use Rattle.cell_units.specs.Sorting.{sort_by}
 use Rattle.mark_tree.specs.declared.entry.Placed.{Placed}
 use Rattle.mark_tree.specs.declared.key.Key.{Key}
+
+-- by offset, bias, length and id
+abbrev pub key_le : Key → Key → Bool
+key_le k l = in_order k.offset l.offset (in_order k.bias l.bias (in_order k.length l.length (nat_le k.id l.id)))
 
 module _ {P : Type 0} where
   -- by offset, bias, length and id
@@ -14,6 +18,12 @@ module _ {P : Type 0} where
 
   abbrev pub key_of : Placed P → Key
   key_of p = record { offset = p.offset; bias = bias_rank p.bias; length = p.length; id = p.id }
+
+  -- all before the place come before the key, and what stands at it doesn't
+  pub record IsPlaceFor (key : Key) (ps : List (Placed P)) (at : ℕ) : Type 0 where
+    pub within : at ≤ length ps
+    pub before : (k : ℕ) (d : Placed P) → k < at → key_le key (key_of (slice_index_or ps k d)) ≡ false
+    pub from : (d : Placed P) → at < length ps → key_le key (key_of (slice_index_or ps at d)) ≡ true
 
   abbrev pub has_placed_id : ℕ → Placed P → Bool
   has_placed_id id p = p.id == id

@@ -1,9 +1,8 @@
 //! What a tree keeps, and what it stands for at its offset.
 use crate::extent::Extent;
-use crate::load::Load;
 use cell_units::{Bias, NoMemory};
 use std::alloc::Global;
-use sum_core::Item;
+use sum_core::{Item, Load};
 use sum_tree::Probe;
 
 /// An entry of a list that is coded by gaps: it stands `gap` bytes behind the entry before it, the first one behind 0.

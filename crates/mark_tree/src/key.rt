@@ -6,8 +6,8 @@ ghost use Rattle.mark_tree.specs.Entries.{placed_at};
 ghost use Rattle.mark_tree.specs.Order.{has_placed_id, key_of, placed_le};
 
 use crate::entry::Placed;
-use crate::load::Load;
 use cell_units::{Bias, NoMemory};
+use sum_core::Load;
 
 /// By what things are sorted.
 #[derive(Clone, Copy, PartialEq, Eq, PartialOrd, Ord)]

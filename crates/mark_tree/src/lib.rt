@@ -12,7 +12,6 @@
 mod entry;
 mod extent;
 mod key;
-mod load;
 mod mark;
 mod mark_tree;
 mod meeting;
@@ -23,7 +22,7 @@ mod reaching;
 mod shrinking;
 mod spaced;
 
-pub use load::Load;
 pub use mark::{Mark, RangeMark};
 pub use mark_tree::MarkTree;
 pub use range_tree::RangeTree;
+pub use sum_core::Load;

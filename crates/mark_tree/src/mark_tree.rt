@@ -1,16 +1,19 @@
 //! The tree of marks.
-ghost use Rattle.std.specs.Prelude.{◌≡◌, ℕ, ◌+◌, ◌*◌, ◌^◌, ◌<◌, ◌≤◌, [], not, false, nat_le, length, map, filter, count_by, position, slice_get, All, Contains, IfOk, IfErr, OnOk, OnErr, MatchOption};
-ghost use Rattle.std.specs.List.{list_any};
+ghost use Rattle.std.specs.Prelude.{◌≡◌, ℕ, ◌+◌, ◌*◌, ◌^◌, ◌<◌, ◌≤◌, ◌++◌, ◌∷◌, [], Some, not, false, nat_le, length, map, filter, count_by, position, slice_get, take, drop, All, IfOk, IfErr, OnOk, OnErr, MatchOption};
+ghost use Rattle.std.specs.List.{list_any, position_or_len};
 ghost use Rattle.cell_units.specs.Sorting.{insert_by};
-ghost use Rattle.mark_tree.specs.Marks.{IsMarkList, IsRefusedFor, has_id, is_met, lacks_id, mark_le, move_mark, moved_marks};
+ghost use Rattle.sum_tree.specs.Bounds.{Searches, TakesAtMost, way};
+ghost use Rattle.mark_tree.specs.Bounds.{SearchesAndTakes, changing, halving, moving};
+ghost use Rattle.mark_tree.specs.Marks.{IsMarkList, IsRefusedFor, has_id, is_met, is_not_before, lacks_id, mark_le, move_mark, moved_marks};
 
 use crate::entry::Placed;
-use crate::load::Load;
+use crate::key::Key;
 use crate::mark::Mark;
 use crate::spaced::Spaced;
 use cell_units::{Bias, Fault, NoMemory, Refusal, Shift, Steps};
 use std::alloc::Global;
 use std::marker::Model;
+use sum_core::Load;
 
 /// Marks of distinct ids, sorted by offset, bias (Left first) and id. Contracts see it as that list. Copies share what they
 /// have in common, and no later change of the one is seen by another.
@@ -64,7 +67,8 @@ impl<P: Load> MarkTree<P> {
     /// The offset, bias, id and load of the mark at place `at`, counted from 0. `None` exactly where there is none.
     pub fn get(&self, at: u32, steps: &mut Steps) -> Option<(u32, Bias, u32, &P)>
         ensures mark { MatchOption result (length self.now ≤ at) (λ m. slice_get self.now at ≡ Some (record { offset = m.0; bias = m.1; id = m.2; load = m.3.now })) }
-        ensures steps { (h : ℕ) → length self.now < 2 * 6 ^ (h + 1) → steps.new ≤ steps.old + 64 * (h + 1) }
+        ensures counted { steps.old ≤ steps.new }
+        ensures steps { TakesAtMost way (length self.now) steps.old steps.new }
     {
         let found = self.marks.get(at, steps)?;
         Some((
@@ -78,7 +82,8 @@ impl<P: Load> MarkTree<P> {
     /// The place, counted from 0, of the first mark at or after the offset. `None` exactly where there is none.
     pub fn at_or_after(&self, offset: u32, steps: &mut Steps) -> Option<u32>
         ensures place { result ≡ position (λ m. nat_le offset m.offset) self.now }
-        ensures steps { (h : ℕ) → length self.now < 2 * 6 ^ (h + 1) → steps.new ≤ steps.old + 64 * (h + 1) }
+        ensures counted { steps.old ≤ steps.new }
+        ensures steps { TakesAtMost way (length self.now) steps.old steps.new }
     {
         let at = self.marks.first_at(offset as u64, steps);
         if at < self.marks.len() {
@@ -88,14 +93,37 @@ impl<P: Load> MarkTree<P> {
         }
     }
 
-    /// Adds a mark. `IdInUse` exactly where its id is there.
-    pub fn insert(&mut self, alloc: Global, mark: Mark<P>, steps: &mut Steps) -> Result<(), Fault>
+    /// Whether there is a mark of this id.
+    pub fn contains(&self, id: u32, steps: &mut Steps) -> bool
+        ensures value { result ≡ list_any (has_id id) self.now }
+        ensures counted { steps.old ≤ steps.new }
+        ensures steps { Searches (length self.now) steps.old steps.new }
+    {
+        self.marks.find_id(id, steps).is_some()
+    }
+
+    /// The place at which a mark of this offset, bias and id stands or would stand: that of the first that isn't before it.
+    pub fn place_of(&self, offset: u32, bias: Bias, id: u32, steps: &mut Steps) -> u32
+        ensures place { result ≡ position_or_len (is_not_before offset bias id) self.now }
+        ensures counted { steps.old ≤ steps.new }
+        ensures steps { TakesAtMost halving (length self.now) steps.old steps.new }
+    {
+        self.marks.place_for(Key::new(offset, bias, 0, id), steps)
+    }
+
+    /// Adds a mark, and answers its place. `IdInUse` exactly where its id is there.
+    pub fn insert(&mut self, alloc: Global, mark: Mark<P>, steps: &mut Steps) -> Result<u32, Fault>
         requires { length self.old + 1 < 2 ^ 32 }
+        // The list after it, and where the mark stands in it.
         ensures ok { OnOk result (self.new ≡ insert_by mark_le mark self.old) }
+        ensures place { IfOk result (λ at. self.new ≡ take at self.old ++ mark ∷ drop at self.old) }
         ensures fresh { OnOk result (list_any (has_id mark.id) self.old ≡ false) }
+
+        // The refusal is judged before any memory is taken.
         ensures refused { IfErr result (IsRefusedFor Refusal.IdInUse (list_any (has_id mark.id) self.old)) }
         ensures err { OnErr result (self.new ≡ self.old) }
-        ensures steps { (h : ℕ) → length self.old + 1 < 2 * 6 ^ (h + 1) → steps.new ≤ steps.old + length self.old + 3000 * (h + 1) }
+        ensures counted { steps.old ≤ steps.new }
+        ensures steps { SearchesAndTakes changing (length self.old + 1) steps.old steps.new }
     {
         let placed = Placed {
             offset: mark.offset,
@@ -107,33 +135,47 @@ impl<P: Load> MarkTree<P> {
         self.marks.add(alloc, placed, steps)
     }
 
-    /// Takes the mark of this id off the tree. `UnknownId` exactly where there is none.
-    pub fn remove(&mut self, alloc: Global, id: u32, steps: &mut Steps) -> Result<Mark<P>, Fault>
+    /// Takes the mark of this id off the tree, and answers the place at which it stood with it. `UnknownId` exactly where
+    /// there is none.
+    pub fn remove(
+        &mut self,
+        alloc: Global,
+        id: u32,
+        steps: &mut Steps,
+    ) -> Result<(u32, Mark<P>), Fault>
+        // The list after it, and where the mark stood before.
         ensures ok { OnOk result (self.new ≡ filter (lacks_id id) self.old) }
-        ensures mark { IfOk result (λ m. Contains self.old m) }
-        ensures id { IfOk result (λ m. m.id ≡ id) }
+        ensures mark { IfOk result (λ r. slice_get self.old r.0 ≡ Some r.1) }
+        ensures rest { IfOk result (λ r. self.new ≡ take r.0 self.old ++ drop (r.0 + 1) self.old) }
+        ensures id { IfOk result (λ r. r.1.id ≡ id) }
+
+        // The refusal is judged before any memory is taken.
         ensures refused { IfErr result (IsRefusedFor Refusal.UnknownId (not (list_any (has_id id) self.old))) }
         ensures err { OnErr result (self.new ≡ self.old) }
-        ensures steps { (h : ℕ) → length self.old < 2 * 6 ^ (h + 1) → steps.new ≤ steps.old + length self.old + 1200 * (h + 1) }
+        ensures counted { steps.old ≤ steps.new }
+        ensures steps { SearchesAndTakes changing (length self.old) steps.old steps.new }
     {
         match self.marks.take_id(alloc, id, steps) {
-            Ok(placed) => Ok(Mark {
-                offset: placed.offset,
-                bias: placed.bias,
-                id: placed.id,
-                load: placed.load,
-            }),
+            Ok(taken) => Ok((
+                taken.place,
+                Mark {
+                    offset: taken.thing.offset,
+                    bias: taken.thing.bias,
+                    id: taken.thing.id,
+                    load: taken.thing.load,
+                },
+            )),
             Err(fault) => Err(fault),
         }
     }
 
     /// Moves each mark as the replacement does, and sorts the marks again.
     pub fn apply(&mut self, alloc: Global, shift: Shift, steps: &mut Steps) -> Result<(), NoMemory>
-        requires order { shift.start ≤ shift.end }
         requires fits { All (λ m. m.offset < 2 ^ 32) (map (move_mark shift) self.old) }
         ensures ok { OnOk result (self.new ≡ moved_marks shift self.old) }
         ensures err { OnErr result (self.new ≡ self.old) }
-        ensures steps { (h : ℕ) → length self.old < 2 * 6 ^ (h + 1) → steps.new ≤ steps.old + 1200 * (h + 1) * (count_by (is_met shift) self.old + 1) }
+        ensures counted { steps.old ≤ steps.new }
+        ensures steps { TakesAtMost (moving (count_by (is_met shift) self.old)) (length self.old) steps.old steps.new }
     {
         self.marks.move_marks(alloc, &shift, steps)
     }

@@ -1,14 +1,16 @@
 //! Which ranges have a byte in common with others.
 ghost use Rattle.std.specs.Prelude.{◌≡◌, ℕ, ◌+◌, ◌*◌, ◌^◌, ◌<◌, ◌≤◌, ◌∷◌, [], length, map, filter, count_by, IfOk, IfSome, MatchOption};
+ghost use Rattle.sum_tree.specs.Bounds.{TakesAtMost};
+ghost use Rattle.mark_tree.specs.Bounds.{meeting, next_meeting};
 ghost use Rattle.mark_tree.specs.Meeting.{met_from};
 ghost use Rattle.mark_tree.specs.Ranges.{has_in_common};
 ghost use Rattle.mark_tree.specs.RangeViews.{range_of};
 
-use crate::load::Load;
 use crate::mark::RangeMark;
 use crate::spaced::Spaced;
 use cell_units::{NoMemory, Steps};
 use std::alloc::Global;
+use sum_core::Load;
 
 /// A range that was met, and its place.
 #[derive(Clone, Copy)]
@@ -27,7 +29,8 @@ impl<P: Load> Spaced<P> {
         steps: &mut Steps,
     ) -> Result<Vec<RangeMark>, NoMemory>
         ensures met { IfOk result (λ v. v.items ≡ filter (has_in_common start end) (map range_of self.now)) }
-        ensures steps { (h : ℕ) → length self.now < 2 * 6 ^ (h + 1) → steps.new ≤ steps.old + 320 * (h + 1) * (count_by (has_in_common start end) (map range_of self.now) + 1) }
+        ensures counted { steps.old ≤ steps.new }
+        ensures steps { TakesAtMost (meeting (count_by (has_in_common start end) (map range_of self.now))) (length self.now) steps.old steps.new }
     {
         // The number of ranges is a u32, and so is each place.
         let _count = self.len();
@@ -52,7 +55,8 @@ impl<P: Load> Spaced<P> {
         requires within { at ≤ length self.now }
         ensures met { IfOk result (λ m. MatchOption m (met_from start end at self.now ≡ []) (λ n. met_from start end at self.now ≡ n.range ∷ met_from start end (n.place + 1) self.now)) }
         ensures place { IfOk result (λ m. IfSome m (λ n. (at ≤ n.place) × (n.place < length self.now))) }
-        ensures steps { (h : ℕ) → length self.now < 2 * 6 ^ (h + 1) → steps.new ≤ steps.old + 320 * (h + 1) }
+        ensures counted { steps.old ≤ steps.new }
+        ensures steps { TakesAtMost next_meeting (length self.now) steps.old steps.new }
     {
         // Each end is a u32.
         let _count = self.len();

@@ -1,19 +1,20 @@
 //! How a replacement moves things of no length.
 ghost use Rattle.std.specs.Prelude.{◌≡◌, ℕ, ◌+◌, ◌*◌, ◌^◌, ◌<◌, ◌≤◌, length, map, count_by, All, IfOk, OnOk, OnErr};
 ghost use Rattle.cell_units.specs.Anchor.{move};
+ghost use Rattle.sum_tree.specs.Bounds.{TakesAtMost};
+ghost use Rattle.mark_tree.specs.Bounds.{moving};
 ghost use Rattle.mark_tree.specs.Entries.{end_at};
 ghost use Rattle.mark_tree.specs.Order.{IsOrdered, meets_offset, move_placed, moved_placed};
 
 use crate::entry::Placed;
 use crate::key::sort_placed;
-use crate::load::Load;
 use crate::spaced::Spaced;
 use cell_units::{Bias, NoMemory, Shift, Steps};
 use std::alloc::Global;
+use sum_core::Load;
 
 /// Where an anchor goes.
 pub(crate) fn moved_offset(offset: u32, bias: Bias, shift: &Shift) -> u32
-    requires order { shift.now.start ≤ shift.now.end }
     requires fits { move offset bias shift.now.start shift.now.end shift.now.count < 2 ^ 32 }
     ensures { result ≡ move offset bias shift.now.start shift.now.end shift.now.count }
 {
@@ -36,7 +37,6 @@ fn moved_all<P: Load>(
     things: Vec<Placed<P>>,
     shift: &Shift,
 ) -> Result<Vec<Placed<P>>, NoMemory>
-    requires order { shift.now.start ≤ shift.now.end }
     requires fits { All (λ p. end_at p < 2 ^ 32) (map (move_placed shift.now) things.items) }
     ensures { IfOk result (λ v. v.items ≡ map (move_placed shift.now) things.items) }
 {
@@ -61,13 +61,13 @@ impl<P: Load> Spaced<P> {
         shift: &Shift,
         steps: &mut Steps,
     ) -> Result<(), NoMemory>
-        requires order { shift.now.start ≤ shift.now.end }
         requires ordered { IsOrdered self.old }
         requires fits { All (λ p. end_at p < 2 ^ 32) (map (move_placed shift.now) self.old) }
         ensures ok { OnOk result (self.new ≡ moved_placed shift.now self.old) }
         ensures err { OnErr result (self.new ≡ self.old) }
         ensures ordered { IsOrdered self.new }
-        ensures steps { (h : ℕ) → length self.old < 2 * 6 ^ (h + 1) → steps.new ≤ steps.old + 1200 * (h + 1) * (count_by (meets_offset shift.now) self.old + 1) }
+        ensures counted { steps.old ≤ steps.new }
+        ensures steps { TakesAtMost (moving (count_by (meets_offset shift.now) self.old)) (length self.old) steps.old steps.new }
     {
         // The number of things is a u32.
         let _count = self.len();

@@ -2,16 +2,18 @@
 ghost use Rattle.std.specs.Prelude.{◌≡◌, ℕ, ◌+◌, ◌*◌, ◌^◌, ◌<◌, ◌≤◌, [], not, false, length, map, filter, count_by, All, Contains, IfOk, IfErr, OnOk, OnErr};
 ghost use Rattle.std.specs.List.{list_any};
 ghost use Rattle.cell_units.specs.Sorting.{insert_by};
+ghost use Rattle.sum_tree.specs.Bounds.{Searches, TakesAtMost};
+ghost use Rattle.mark_tree.specs.Bounds.{SearchesAndTakes, changing, meeting, shrinking};
 ghost use Rattle.mark_tree.specs.Marks.{IsRefusedFor};
 ghost use Rattle.mark_tree.specs.Ranges.{IsRangeList, dropped_ids, has_in_common, has_range_id, is_range_met, lacks_range_id, move_range, moved_ranges, range_le};
 
 use crate::entry::Placed;
-use crate::load::NoLoad;
 use crate::mark::RangeMark;
 use crate::spaced::Spaced;
 use cell_units::{Bias, Fault, NoMemory, Refusal, Shift, Steps};
 use std::alloc::Global;
 use std::marker::Model;
+use sum_core::NoLoad;
 
 /// Ranges of distinct ids, none empty, sorted by start, end and id. Contracts see it as that list. Copies share what they
 /// have in common, and no later change of the one is seen by another.
@@ -62,6 +64,15 @@ impl RangeTree {
         self.ranges.len()
     }
 
+    /// Whether there is a range of this id.
+    pub fn contains(&self, id: u32, steps: &mut Steps) -> bool
+        ensures value { result ≡ list_any (has_range_id id) self.now }
+        ensures counted { steps.old ≤ steps.new }
+        ensures steps { Searches (length self.now) steps.old steps.new }
+    {
+        self.ranges.find_id(id, steps).is_some()
+    }
+
     /// Adds a range, which must not be empty. `IdInUse` exactly where its id is there.
     pub fn insert(
         &mut self,
@@ -75,7 +86,8 @@ impl RangeTree {
         ensures fresh { OnOk result (list_any (has_range_id range.id) self.old ≡ false) }
         ensures refused { IfErr result (IsRefusedFor Refusal.IdInUse (list_any (has_range_id range.id) self.old)) }
         ensures err { OnErr result (self.new ≡ self.old) }
-        ensures steps { (h : ℕ) → length self.old + 1 < 2 * 6 ^ (h + 1) → steps.new ≤ steps.old + length self.old + 3000 * (h + 1) }
+        ensures counted { steps.old ≤ steps.new }
+        ensures steps { SearchesAndTakes changing (length self.old + 1) steps.old steps.new }
     {
         let placed = Placed {
             offset: range.start,
@@ -84,7 +96,10 @@ impl RangeTree {
             id: range.id,
             load: NoLoad,
         };
-        self.ranges.add(alloc, placed, steps)
+        match self.ranges.add(alloc, placed, steps) {
+            Ok(_) => Ok(()),
+            Err(fault) => Err(fault),
+        }
     }
 
     /// Takes the range of this id off the tree. `UnknownId` exactly where there is none.
@@ -94,15 +109,16 @@ impl RangeTree {
         ensures id { IfOk result (λ r. r.id ≡ id) }
         ensures refused { IfErr result (IsRefusedFor Refusal.UnknownId (not (list_any (has_range_id id) self.old))) }
         ensures err { OnErr result (self.new ≡ self.old) }
-        ensures steps { (h : ℕ) → length self.old < 2 * 6 ^ (h + 1) → steps.new ≤ steps.old + length self.old + 1200 * (h + 1) }
+        ensures counted { steps.old ≤ steps.new }
+        ensures steps { SearchesAndTakes changing (length self.old) steps.old steps.new }
     {
         // Each end is a u32.
         let _count = self.ranges.len();
         match self.ranges.take_id(alloc, id, steps) {
-            Ok(placed) => Ok(RangeMark {
-                start: placed.offset,
-                end: placed.offset + placed.length,
-                id: placed.id,
+            Ok(taken) => Ok(RangeMark {
+                start: taken.thing.offset,
+                end: taken.thing.offset + taken.thing.length,
+                id: taken.thing.id,
             }),
             Err(fault) => Err(fault),
         }
@@ -116,12 +132,12 @@ impl RangeTree {
         shift: Shift,
         steps: &mut Steps,
     ) -> Result<Vec<u32>, NoMemory>
-        requires order { shift.start ≤ shift.end }
         requires fits { All (λ r. (r.start < 2 ^ 32) × (r.end < 2 ^ 32)) (map (move_range shift) self.old) }
         ensures ok { OnOk result (self.new ≡ moved_ranges shift self.old) }
         ensures dropped { IfOk result (λ ids. ids.items ≡ dropped_ids shift self.old) }
         ensures err { OnErr result (self.new ≡ self.old) }
-        ensures steps { (h : ℕ) → length self.old < 2 * 6 ^ (h + 1) → steps.new ≤ steps.old + 1400 * (h + 1) * (count_by (is_range_met shift) self.old + 1) }
+        ensures counted { steps.old ≤ steps.new }
+        ensures steps { TakesAtMost (shrinking (count_by (is_range_met shift) self.old)) (length self.old) steps.old steps.new }
     {
         self.ranges.move_ranges(alloc, &shift, steps)
     }
@@ -135,7 +151,8 @@ impl RangeTree {
         steps: &mut Steps,
     ) -> Result<Vec<RangeMark>, NoMemory>
         ensures met { IfOk result (λ v. v.items ≡ filter (has_in_common start end) self.now) }
-        ensures steps { (h : ℕ) → length self.now < 2 * 6 ^ (h + 1) → steps.new ≤ steps.old + 320 * (h + 1) * (count_by (has_in_common start end) self.now + 1) }
+        ensures counted { steps.old ≤ steps.new }
+        ensures steps { TakesAtMost (meeting (count_by (has_in_common start end) self.now)) (length self.now) steps.old steps.new }
     {
         self.ranges.all_met(alloc, start, end, steps)
     }

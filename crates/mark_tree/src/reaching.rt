@@ -1,12 +1,14 @@
 //! Which things reach an offset.
 ghost use Rattle.std.specs.Prelude.{◌≡◌, ℕ, ◌+◌, ◌*◌, ◌^◌, ◌<◌, ◌≤◌, length, IfOk};
+ghost use Rattle.sum_tree.specs.Bounds.{TakesAtMost};
+ghost use Rattle.mark_tree.specs.Bounds.{reaching};
 ghost use Rattle.mark_tree.specs.Reaching.{IsFirstReaching};
 
 use crate::extent::ByEnd;
-use crate::load::Load;
 use crate::spaced::Spaced;
 use cell_units::{Bias, NoMemory, Steps};
 use std::alloc::Global;
+use sum_core::Load;
 
 impl<P: Load> Spaced<P> {
     /// The place of the first thing, from place `at` on, that ends at or behind the offset, which may be that past the last.
@@ -19,7 +21,8 @@ impl<P: Load> Spaced<P> {
     ) -> Result<u32, NoMemory>
         requires within { at ≤ length self.now }
         ensures place { IfOk result (IsFirstReaching at offset self.now) }
-        ensures steps { (h : ℕ) → length self.now < 2 * 6 ^ (h + 1) → steps.new ≤ steps.old + 256 * (h + 1) }
+        ensures counted { steps.old ≤ steps.new }
+        ensures steps { TakesAtMost reaching (length self.now) steps.old steps.new }
     {
         // The number of entries is a u32, and so is each place.
         let _count = self.entries.len();

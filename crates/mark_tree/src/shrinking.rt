@@ -1,18 +1,20 @@
 //! How a replacement moves ranges, and which it empties.
 ghost use Rattle.std.specs.Prelude.{◌≡◌, ℕ, ◌+◌, ◌-◌, ◌*◌, ◌^◌, ◌<◌, ◌≤◌, ◌++◌, length, take, drop, count_by, All, IfOk, OnOk, OnErr};
 ghost use Rattle.cell_units.specs.Sorting.{sort_by};
+ghost use Rattle.sum_tree.specs.Bounds.{TakesAtMost};
+ghost use Rattle.mark_tree.specs.Bounds.{shrinking};
 ghost use Rattle.mark_tree.specs.Entries.{IsCodable, end_at, run, spliced};
 ghost use Rattle.mark_tree.specs.Order.{has_placed_id, placed_le};
 ghost use Rattle.mark_tree.specs.RangeViews.{AreRanges, AreSplit, IsFittingMoved, IsGroup, all_left_over, emptied_id, emptied_ids, left_over, meets_extent, moved_extents};
 
 use crate::entry::Placed;
 use crate::key::sort_placed;
-use crate::load::Load;
 use crate::moving::moved_offset;
 use crate::ordered::NO_SHIFT;
 use crate::spaced::Spaced;
 use cell_units::{Bias, NoMemory, Shift, Steps};
 use std::alloc::Global;
+use sum_core::Load;
 
 /// What a replacement leaves of ranges, and the ids of those that it empties.
 #[derive(Drop)]
@@ -24,7 +26,6 @@ struct Remains<P> {
 impl<P: Load> Remains<P> {
     /// Moves one more range.
     fn add(&mut self, range: Placed<P>, shift: &Shift) -> Result<(), NoMemory>
-        requires order { shift.now.start ≤ shift.now.end }
         requires end { end_at range < 2 ^ 32 }
         requires fits { IsFittingMoved shift.now range }
         ensures ranges { OnOk result (self.new.ranges.items ≡ self.old.ranges.items ++ left_over shift.now range) }
@@ -53,7 +54,6 @@ fn remains_of<P: Load>(
     ranges: Vec<Placed<P>>,
     shift: &Shift,
 ) -> Result<Remains<P>, NoMemory>
-    requires order { shift.now.start ≤ shift.now.end }
     requires ends { All (λ p. end_at p < 2 ^ 32) ranges.items }
     requires fits { All (IsFittingMoved shift.now) ranges.items }
     ensures ranges { IfOk result (λ r. r.ranges.items ≡ all_left_over shift.now ranges.items) }
@@ -78,14 +78,14 @@ impl<P: Load> Spaced<P> {
         shift: &Shift,
         steps: &mut Steps,
     ) -> Result<Vec<u32>, NoMemory>
-        requires order { shift.now.start ≤ shift.now.end }
         requires ranges { AreRanges self.old }
         requires fits { All (IsFittingMoved shift.now) self.old }
         ensures ok { OnOk result (self.new ≡ sort_by placed_le (all_left_over shift.now self.old)) }
         ensures dropped { IfOk result (λ ids. ids.items ≡ emptied_ids shift.now self.old) }
         ensures err { OnErr result (self.new ≡ self.old) }
         ensures ranges { AreRanges self.new }
-        ensures steps { (h : ℕ) → length self.old < 2 * 6 ^ (h + 1) → steps.new ≤ steps.old + 1400 * (h + 1) * (count_by (meets_extent shift.now) self.old + 1) }
+        ensures counted { steps.old ≤ steps.new }
+        ensures steps { TakesAtMost (shrinking (count_by (meets_extent shift.now) self.old)) (length self.old) steps.old steps.new }
     {
         // The number of ranges is a u32.
         let _count = self.len();
@@ -109,7 +109,8 @@ impl<P: Load> Spaced<P> {
     ) -> Result<(), NoMemory>
         requires { AreSplit shift.now first self.old }
         ensures ok { OnOk result (self.new ≡ moved_extents shift.now (take first self.old) ++ drop first self.old) }
-        ensures steps { (h : ℕ) → length self.old < 2 * 6 ^ (h + 1) → steps.new ≤ steps.old + 1400 * (h + 1) * count_by (meets_extent shift.now) (take first self.old) + 256 * (h + 1) }
+        ensures counted { steps.old ≤ steps.new }
+        ensures steps { (h : ℕ) → length self.old < 2 * 6 ^ (h + 1) → steps.new ≤ steps.old + 250 * (h + 1) * count_by (meets_extent shift.now) (take first self.old) + 81 * (h + 1) }
     {
         let start = shift.start as u64;
         let mut at = 0;
@@ -130,7 +131,8 @@ impl<P: Load> Spaced<P> {
     fn group_end(&self, from: u32, steps: &mut Steps) -> u32
         requires { from < length self.now }
         ensures group { IsGroup from result self.now }
-        ensures steps { (h : ℕ) → length self.now < 2 * 6 ^ (h + 1) → steps.new ≤ steps.old + 128 * (h + 1) }
+        ensures counted { steps.old ≤ steps.new }
+        ensures steps { (h : ℕ) → length self.now < 2 * 6 ^ (h + 1) → steps.new ≤ steps.old + 2 * (h + 1) }
     {
         // The offsets don't fall.
         let _count = self.len();
@@ -153,15 +155,14 @@ impl<P: Load> Spaced<P> {
     ) -> Result<Vec<u32>, NoMemory>
         requires order { from ≤ to }
         requires within { to ≤ length self.old }
-        requires replaced { shift.now.start ≤ shift.now.end }
         requires fits { All (IsFittingMoved shift.now) (run from to self.old) }
         requires distinct { (id : ℕ) → count_by (has_placed_id id) (run from to self.old) ≤ 1 }
-        requires before { behind.now.start ≤ behind.now.end }
         requires behind { All (λ p. behind.now.end ≤ p.offset) (drop to self.old) }
         requires codable { IsCodable (spliced from to (moved_extents shift.now (run from to self.old)) behind.now self.old) }
         ensures ok { OnOk result (self.new ≡ spliced from to (moved_extents shift.now (run from to self.old)) behind.now self.old) }
         ensures dropped { IfOk result (λ ids. ids.items ≡ emptied_ids shift.now (run from to self.old)) }
-        ensures steps { (h : ℕ) → length self.old < 2 * 6 ^ (h + 1) → length (spliced from to (moved_extents shift.now (run from to self.old)) behind.now self.old) < 2 * 6 ^ (h + 1) → steps.new ≤ steps.old + 936 * (h + 1) + 68 * (h + 1) * (to - from) }
+        ensures counted { steps.old ≤ steps.new }
+        ensures steps { (h : ℕ) → length self.old < 2 * 6 ^ (h + 1) → length (spliced from to (moved_extents shift.now (run from to self.old)) behind.now self.old) < 2 * 6 ^ (h + 1) → steps.new ≤ steps.old + 162 * (h + 1) + 5 * (h + 1) * (to - from) }
     {
         // Each end is a u32.
         let _count = self.len();

@@ -1,6 +1,8 @@
 //! A list of things at offsets that don't fall, coded by the gaps between them.
 ghost use Rattle.std.specs.Prelude.{◌≡◌, ℕ, ◌+◌, ◌-◌, ◌*◌, ◌^◌, ◌<◌, ◌≤◌, [], length, map, take, drop, min, All, slice_get, slice_index_or, position, is_some, IfOk, OnOk, OnErr, MatchOption};
 ghost use Rattle.std.specs.List.{list_any};
+ghost use Rattle.sum_tree.specs.Bounds.{ChangesAtMost, Searches, TakesAtMost, way};
+ghost use Rattle.mark_tree.specs.Bounds.{splicing};
 ghost use Rattle.mark_tree.specs.declared.entry.Placed.{Placed};
 ghost use Rattle.mark_tree.specs.Extents.{end_of};
 ghost use Rattle.mark_tree.specs.Entries.{IsCodable, IsRefill, IsSpaced, coded, end_at, extent_over, last_offset, placed_at, placed_from, shifted, spliced};
@@ -8,10 +10,10 @@ ghost use Rattle.mark_tree.specs.Order.{has_placed_id};
 
 use crate::entry::{Entry, HasId, Placed};
 use crate::extent::{ByItems, ByOffset};
-use crate::load::Load;
 use cell_units::{Bias, NoMemory, Shift, Steps};
 use std::alloc::Global;
 use std::marker::Model;
+use sum_core::Load;
 use sum_tree::{Cursor, SumTree};
 
 /// What stands at offsets that don't fall and fit u32, as do all ends. Contracts see it as the list of these things.
@@ -69,7 +71,8 @@ impl<P: Load> Spaced<P> {
         ensures items { placed_from 0 result.items ≡ self.now }
         ensures place { result.place ≡ min at (length self.now) + 1 }
         ensures fits { end_of (extent_over result.items) < 2 ^ 32 }
-        ensures steps { (h : ℕ) → length self.now < 2 * 6 ^ (h + 1) → steps.new ≤ steps.old + 64 * (h + 1) }
+        ensures counted { steps.old ≤ steps.new }
+        ensures steps { TakesAtMost way (length self.now) steps.old steps.new }
     {
         let mut cursor = self.entries.cursor::<ByItems>();
         let target = ByItems {
@@ -83,7 +86,8 @@ impl<P: Load> Spaced<P> {
     /// What stands at place `at`, and `None` exactly past the end.
     pub(crate) fn get(&self, at: u32, steps: &mut Steps) -> Option<Found<'_, P>>
         ensures found { MatchOption result (length self.now ≤ at) (λ f. slice_get self.now at ≡ Some (placed_at f.offset f.entry.now)) }
-        ensures steps { (h : ℕ) → length self.now < 2 * 6 ^ (h + 1) → steps.new ≤ steps.old + 64 * (h + 1) }
+        ensures counted { steps.old ≤ steps.new }
+        ensures steps { TakesAtMost way (length self.now) steps.old steps.new }
     {
         let cursor = self.cursor_at(at, steps);
         let entry = cursor.item()?;
@@ -96,7 +100,8 @@ impl<P: Load> Spaced<P> {
     /// The offset of the last thing before place `at`, and 0 where there is none.
     pub(crate) fn offset_before(&self, at: u32, steps: &mut Steps) -> u32
         ensures offset { result ≡ last_offset 0 (take at self.now) }
-        ensures steps { (h : ℕ) → length self.now < 2 * 6 ^ (h + 1) → steps.new ≤ steps.old + 64 * (h + 1) }
+        ensures counted { steps.old ≤ steps.new }
+        ensures steps { TakesAtMost way (length self.now) steps.old steps.new }
     {
         self.cursor_at(at, steps).start().span as u32
     }
@@ -106,7 +111,8 @@ impl<P: Load> Spaced<P> {
         ensures within { result ≤ length self.now }
         ensures before { All (λ p. p.offset < offset) (take result self.now) }
         ensures from { All (λ p. offset ≤ p.offset) (drop result self.now) }
-        ensures steps { (h : ℕ) → length self.now < 2 * 6 ^ (h + 1) → steps.new ≤ steps.old + 64 * (h + 1) }
+        ensures counted { steps.old ≤ steps.new }
+        ensures steps { TakesAtMost way (length self.now) steps.old steps.new }
     {
         // The number of entries is a u32, and so is each place.
         let _count = self.entries.len();
@@ -123,7 +129,8 @@ impl<P: Load> Spaced<P> {
     pub(crate) fn find_id(&self, id: u32, steps: &mut Steps) -> Option<u32>
         ensures found { result ≡ position (has_placed_id id) self.now }
         ensures any { is_some result ≡ list_any (has_placed_id id) self.now }
-        ensures steps { steps.new ≤ steps.old + length self.now + 1 }
+        ensures counted { steps.old ≤ steps.new }
+        ensures steps { Searches (length self.now) steps.old steps.new }
     {
         // Ids are mostly given out in ascending order, and one that is above all needs no search.
         if id as u64 >= self.entries.sum().ids {
@@ -141,7 +148,8 @@ impl<P: Load> Spaced<P> {
     ) -> Result<Placed<P>, NoMemory>
         requires { at < length self.now }
         ensures copy { IfOk result (λ p. slice_get self.now at ≡ Some p) }
-        ensures steps { (h : ℕ) → length self.now < 2 * 6 ^ (h + 1) → steps.new ≤ steps.old + 64 * (h + 1) }
+        ensures counted { steps.old ≤ steps.new }
+        ensures steps { TakesAtMost way (length self.now) steps.old steps.new }
     {
         match self.get(at, steps) {
             Some(found) => found.copy(alloc),
@@ -160,7 +168,8 @@ impl<P: Load> Spaced<P> {
         requires order { from ≤ to }
         requires within { to ≤ length self.now }
         ensures copies { IfOk result (λ v. v.items ≡ take (to - from) (drop from self.now)) }
-        ensures steps { (h : ℕ) → length self.now < 2 * 6 ^ (h + 1) → steps.new ≤ steps.old + 64 * (h + 1) * (to - from) }
+        ensures counted { steps.old ≤ steps.new }
+        ensures steps { TakesAtMost (λ h. way h * (to - from)) (length self.now) steps.old steps.new }
     {
         let mut copies = Vec::with_capacity(alloc, (to - from) as usize)?;
         for at in from..to {
@@ -182,12 +191,12 @@ impl<P: Load> Spaced<P> {
     ) -> Result<(), NoMemory>
         requires order { from ≤ to }
         requires within { to ≤ length self.old }
-        requires replaced { shift.now.start ≤ shift.now.end }
         requires behind { All (λ p. shift.now.end ≤ p.offset) (drop to self.old) }
         requires codable { IsCodable (spliced from to fresh.items shift.now self.old) }
         ensures ok { OnOk result (self.new ≡ spliced from to fresh.items shift.now self.old) }
         ensures err { OnErr result (self.new ≡ self.old) }
-        ensures steps { (h : ℕ) → length self.old < 2 * 6 ^ (h + 1) → length (spliced from to fresh.items shift.now self.old) < 2 * 6 ^ (h + 1) → steps.new ≤ steps.old + 928 * (h + 1) + 4 * (length fresh.items + 2) }
+        ensures counted { steps.old ≤ steps.new }
+        ensures steps { ChangesAtMost (splicing (length fresh.items)) (length self.old) (length (spliced from to fresh.items shift.now self.old)) steps.old steps.new }
     {
         let base = self.offset_before(from, steps);
         let refill = self.refill(alloc, to, fresh, shift, steps)?;
@@ -206,11 +215,11 @@ impl<P: Load> Spaced<P> {
         steps: &mut Steps,
     ) -> Result<Refill<P>, NoMemory>
         requires within { to ≤ length self.now }
-        requires replaced { shift.now.start ≤ shift.now.end }
         requires behind { All (λ p. shift.now.end ≤ p.offset) (drop to self.now) }
         requires codable { All (λ p. end_at p < 2 ^ 32) (map (shifted shift.now) (drop to self.now)) }
         ensures refill { IfOk result (λ r. IsRefill self.now to fresh.items shift.now r.placed.items r.end) }
-        ensures steps { (h : ℕ) → length self.now < 2 * 6 ^ (h + 1) → steps.new ≤ steps.old + 64 * (h + 1) }
+        ensures counted { steps.old ≤ steps.new }
+        ensures steps { TakesAtMost way (length self.now) steps.old steps.new }
     {
         // The number of things is a u32, and so is each place.
         let _count = self.len();
@@ -253,7 +262,6 @@ impl<'a, P: Load> Found<'a, P> {
 
     /// A copy of what was found, behind a replacement that lies before it.
     fn shifted(&self, alloc: Global, shift: &Shift) -> Result<Placed<P>, NoMemory>
-        requires order { shift.now.start ≤ shift.now.end }
         requires behind { shift.now.end ≤ self.now.offset }
         requires fits { self.now.offset + shift.now.count - (shift.now.end - shift.now.start) < 2 ^ 32 }
         ensures { IfOk result (λ p. p ≡ shifted shift.now (placed_at self.now.offset self.now.entry.now)) }

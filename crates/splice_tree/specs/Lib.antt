@@ -1,3 +1,4 @@
+pub mod Bounds
 pub mod Inlays
 pub mod Laws
 pub mod Sides

@@ -3,9 +3,9 @@ ghost use Rattle.std.specs.Prelude.{◌≡◌, ◌+◌, ◌≤◌, ◌<◌, ◌�
 ghost use Rattle.sum_tree.specs.Firsts.{IsReaching};
 ghost use Rattle.splice_tree.specs.Splices.{Stretch, flipped, measured, to_upper};
 
-use crate::splice::{Load, Splice};
+use crate::splice::Splice;
 use cell_units::Bias;
-use sum_core::{Count, Measure, Summary};
+use sum_core::{Count, Load, Measure, Summary};
 
 /// The place in what is kept and what stands there, for the place `rest` in what is kept and what is taken out.
 pub(crate) fn carry(gap: u32, old: u32, new: u32, rest: u64, bias: Bias) -> u64

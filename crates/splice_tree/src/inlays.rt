@@ -1,14 +1,14 @@
 //! A use of the list at one measure: texts that are laid into a text, by their bytes alone.
 ghost use Rattle.std.specs.Prelude.{ℕ, ◌≡◌, ◌+◌, ◌*◌, ◌^◌, ◌<◌, ◌≤◌, [], length};
 ghost use Rattle.cell_units.specs.declared.place.Bias.{Bias};
+ghost use Rattle.sum_tree.specs.Bounds.{TakesAtMost, way};
 ghost use Rattle.splice_tree.specs.Inlays.{shown_place};
 
-use crate::splice::NoLoad;
 use crate::splice_tree::SpliceTree;
 use cell_units::{Bias, Steps};
 use std::alloc::Global;
 use std::marker::Model;
-use sum_core::{Count, Measure, Summary};
+use sum_core::{Count, Measure, NoLoad, Summary};
 
 /// A number of bytes.
 #[derive(Clone, Copy)]
@@ -90,7 +90,8 @@ impl Inlays {
     pub fn place(&self, offset: u32, bias: Bias, steps: &mut Steps) -> u32
         requires { shown_place bias self.now offset < 2 ^ 32 }
         ensures place { result ≡ shown_place bias self.now offset }
-        ensures steps { (h : ℕ) → length self.now < 2 * 6 ^ (h + 1) → steps.new ≤ steps.old + 64 * (h + 1) }
+        ensures counted { steps.old ≤ steps.new }
+        ensures steps { TakesAtMost way (length self.now) steps.old steps.new }
     {
         self.splices.to_upper::<ByBytes>(offset, bias, steps)
     }
@@ -99,7 +100,8 @@ impl Inlays {
     pub fn back(&self, place: u32, steps: &mut Steps) -> u32
         ensures offset { (bias : Bias) (offset : ℕ) → shown_place bias self.now offset ≡ place → result ≡ offset }
         ensures at_most { result ≤ place }
-        ensures steps { (h : ℕ) → length self.now < 2 * 6 ^ (h + 1) → steps.new ≤ steps.old + 64 * (h + 1) }
+        ensures counted { steps.old ≤ steps.new }
+        ensures steps { TakesAtMost way (length self.now) steps.old steps.new }
     {
         self.splices.to_lower::<ByBytes>(place, Bias::Left, steps)
     }

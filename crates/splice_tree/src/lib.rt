@@ -15,5 +15,6 @@ mod splice_tree;
 pub use inlays::{ByBytes, Bytes, Inlays};
 pub use laws::splice_laws;
 pub use sides::{Lower, Sides, Upper};
-pub use splice::{Load, NoLoad, Splice};
+pub use splice::Splice;
 pub use splice_tree::{Place, SpliceTree};
+pub use sum_core::{Load, NoLoad};

@@ -6,24 +6,7 @@ use crate::sides::Sides;
 use cell_units::NoMemory;
 use std::alloc::Global;
 use std::marker::Model;
-use sum_core::{Item, Summary};
-
-/// What a splice carries beside its sizes.
-pub trait Load: Drop {
-    /// An equal load. The only refusal is want of memory.
-    fn copy(&self, alloc: Global) -> Result<Self, NoMemory>
-        ensures { IfOk result (λ c. c ≡ self.now) };
-}
-
-/// No load.
-#[derive(Drop)]
-pub struct NoLoad;
-
-impl Load for NoLoad {
-    fn copy(&self, _alloc: Global) -> Result<NoLoad, NoMemory> {
-        Ok(NoLoad)
-    }
-}
+use sum_core::{Item, Load, Summary};
 
 /// How much is kept of the lower sequence, how much of it is taken out then, and how much stands in its place.
 #[derive(Drop)]

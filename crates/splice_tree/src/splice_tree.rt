@@ -1,18 +1,20 @@
 //! The list of splices.
-ghost use Rattle.std.specs.Prelude.{ℕ, ◌≡◌, ◌+◌, ◌*◌, ◌^◌, ◌<◌, ◌≤◌, ◌++◌, [], length, take, drop, map, slice_get, IfOk, OnOk, OnErr};
+ghost use Rattle.std.specs.Prelude.{ℕ, ◌≡◌, ◌+◌, ◌*◌, ◌^◌, ◌<◌, ◌≤◌, ◌++◌, [], length, min, take, drop, map, slice_get, IfOk, OnOk, OnErr};
 ghost use Rattle.std.specs.Option.{option_copied};
 ghost use Rattle.sum_core.specs.Sums.{total};
+ghost use Rattle.sum_tree.specs.Bounds.{ChangesAtMost, TakesAtMost, building, way};
 ghost use Rattle.sum_tree.specs.Firsts.{IsFirst};
+ghost use Rattle.splice_tree.specs.Bounds.{splicing};
 ghost use Rattle.splice_tree.specs.Sides.{none, both, BothFit};
 ghost use Rattle.splice_tree.specs.Splices.{Piece, IsRefill, piece_sum, measured, replaced, to_upper, to_lower};
 
 use crate::carry::{carry_down, carry_up};
 use crate::sides::{Lower, Sides, Upper};
-use crate::splice::{Load, Splice};
+use crate::splice::Splice;
 use cell_units::{Bias, NoMemory, Steps};
 use std::alloc::Global;
 use std::marker::Model;
-use sum_core::{Count, Summary};
+use sum_core::{Count, Load, Summary};
 use sum_tree::SumTree;
 
 /// A list of splices.
@@ -66,7 +68,8 @@ impl<S: Summary, P: Load> SpliceTree<S, P> {
         requires fits { BothFit S.fits (total (none S.empty) (both S.joined) (piece_sum S.joined) splices.items) }
         requires small { length splices.items < 2 ^ 32 }
         ensures ok { IfOk result (λ t. t ≡ splices.items) }
-        ensures steps { steps.new ≤ steps.old + 4 * (length splices.items + 1) }
+        ensures counted { steps.old ≤ steps.new }
+        ensures steps { steps.new ≤ steps.old + building (length splices.items) }
     {
         Ok(SpliceTree {
             splices: SumTree::from_vec(alloc, splices, steps)?,
@@ -97,7 +100,8 @@ impl<S: Summary, P: Load> SpliceTree<S, P> {
         ensures first { IsFirst (none S.empty) (both S.joined) (piece_sum S.joined) (λ s. M.number s.lower) self.now target bias result.index }
         ensures before { result.before ≡ total (none S.empty) (both S.joined) (piece_sum S.joined) (take result.index self.now) }
         ensures splice { option_copied result.splice ≡ slice_get self.now result.index }
-        ensures steps { (h : ℕ) → length self.now < 2 * 6 ^ (h + 1) → steps.new ≤ steps.old + 64 * (h + 1) }
+        ensures counted { steps.old ≤ steps.new }
+        ensures steps { TakesAtMost way (length self.now) steps.old steps.new }
     {
         let found = self.splices.find::<Lower<M>>(target, bias, steps);
         Place {
@@ -117,9 +121,26 @@ impl<S: Summary, P: Load> SpliceTree<S, P> {
         ensures first { IsFirst (none S.empty) (both S.joined) (piece_sum S.joined) (λ s. M.number s.upper) self.now target bias result.index }
         ensures before { result.before ≡ total (none S.empty) (both S.joined) (piece_sum S.joined) (take result.index self.now) }
         ensures splice { option_copied result.splice ≡ slice_get self.now result.index }
-        ensures steps { (h : ℕ) → length self.now < 2 * 6 ^ (h + 1) → steps.new ≤ steps.old + 64 * (h + 1) }
+        ensures counted { steps.old ≤ steps.new }
+        ensures steps { TakesAtMost way (length self.now) steps.old steps.new }
     {
         let found = self.splices.find::<Upper<M>>(target, bias, steps);
+        Place {
+            index: found.index,
+            before: found.before,
+            splice: found.item,
+        }
+    }
+
+    /// The splice of this index, or the end.
+    pub fn find_at(&self, index: u32, steps: &mut Steps) -> Place<'_, S, P>
+        ensures index { result.index ≡ min index (length self.now) }
+        ensures before { result.before ≡ total (none S.empty) (both S.joined) (piece_sum S.joined) (take result.index self.now) }
+        ensures splice { option_copied result.splice ≡ slice_get self.now result.index }
+        ensures counted { steps.old ≤ steps.new }
+        ensures steps { TakesAtMost way (length self.now) steps.old steps.new }
+    {
+        let found = self.splices.find_at(index, steps);
         Place {
             index: found.index,
             before: found.before,
@@ -131,7 +152,8 @@ impl<S: Summary, P: Load> SpliceTree<S, P> {
     pub fn to_upper<M: Count<S>>(&self, place: u32, bias: Bias, steps: &mut Steps) -> u32
         requires { to_upper bias (map (measured M.number) self.now) place < 2 ^ 32 }
         ensures place { result ≡ to_upper bias (map (measured M.number) self.now) place }
-        ensures steps { (h : ℕ) → length self.now < 2 * 6 ^ (h + 1) → steps.new ≤ steps.old + 64 * (h + 1) }
+        ensures counted { steps.old ≤ steps.new }
+        ensures steps { TakesAtMost way (length self.now) steps.old steps.new }
     {
         let found = self.find_lower::<M>(place as u64, bias, steps);
         let rest = place as u64 - M::of(found.before.lower) as u64;
@@ -144,7 +166,8 @@ impl<S: Summary, P: Load> SpliceTree<S, P> {
     pub fn to_lower<M: Count<S>>(&self, place: u32, bias: Bias, steps: &mut Steps) -> u32
         requires { to_lower bias (map (measured M.number) self.now) place < 2 ^ 32 }
         ensures place { result ≡ to_lower bias (map (measured M.number) self.now) place }
-        ensures steps { (h : ℕ) → length self.now < 2 * 6 ^ (h + 1) → steps.new ≤ steps.old + 64 * (h + 1) }
+        ensures counted { steps.old ≤ steps.new }
+        ensures steps { TakesAtMost way (length self.now) steps.old steps.new }
     {
         let found = self.find_upper::<M>(place as u64, bias, steps);
         let rest = place as u64 - M::of(found.before.upper) as u64;
@@ -171,7 +194,8 @@ impl<S: Summary, P: Load> SpliceTree<S, P> {
         requires small { length (replaced from to fresh.items gap self.old) < 2 ^ 32 }
         ensures ok { OnOk result (self.new ≡ replaced from to fresh.items gap self.old) }
         ensures err { OnErr result (self.new ≡ self.old) }
-        ensures steps { (h : ℕ) → length self.old < 2 * 6 ^ (h + 1) → length (replaced from to fresh.items gap self.old) < 2 * 6 ^ (h + 1) → steps.new ≤ steps.old + 864 * (h + 1) + 4 * (length fresh.items + 2) }
+        ensures counted { steps.old ≤ steps.new }
+        ensures steps { ChangesAtMost (splicing (length fresh.items)) (length self.old) (length (replaced from to fresh.items gap self.old)) steps.old steps.new }
     {
         let refill = self.refill(alloc, to, fresh, gap, steps)?;
         self.splices
@@ -190,7 +214,8 @@ impl<S: Summary, P: Load> SpliceTree<S, P> {
         requires within { to ≤ length self.now }
         requires gap_fits { (p : Piece S P) → slice_get self.now to ≡ Some p → S.fits (S.joined gap p.old) × S.fits (S.joined gap p.new) }
         ensures refill { IfOk result (λ r. IsRefill self.now to fresh.items gap r.splices.items r.end) }
-        ensures steps { (h : ℕ) → length self.now < 2 * 6 ^ (h + 1) → steps.new ≤ steps.old + 64 * (h + 1) }
+        ensures counted { steps.old ≤ steps.new }
+        ensures steps { TakesAtMost way (length self.now) steps.old steps.new }
     {
         // The number of splices is a u32, and so is each place.
         let _count = self.len();

@@ -25,7 +25,7 @@ pub struct Cursor<'a, T: Item, D: Dimension<T::Sum>> {
 
 impl<'a, T: Item, D: Dimension<T::Sum>> Model for Cursor<'a, T, D> {
     ghost use Rattle.sum_tree.specs.Bounds.{TakesAtMost, way};
-ghost use Rattle.sum_tree.specs.Cursors.{Standing};
+    ghost use Rattle.sum_tree.specs.Cursors.{Standing};
     ghost use Rattle.sum_tree.specs.Paths.{IsCursor, items_seen};
 
     ghost Value = { Standing T };

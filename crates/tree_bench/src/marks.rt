@@ -48,7 +48,6 @@ pub fn build(alloc: Global, count: u32, steps: &mut Steps) -> Result<MarkTree<Ba
 /// A byte put in at an even turn, and one taken out at an odd one.
 fn one_byte(turn: u32, start: u32) -> Shift
     requires { start ≤ 33554432 }
-    ensures order { result.start ≤ result.end }
     ensures small { result.count ≤ 1 }
 {
     if turn % 2 == 0 {

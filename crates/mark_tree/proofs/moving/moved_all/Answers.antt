@@ -7,12 +7,12 @@ use Rattle.mark_tree.specs.Entries.{end_at}
 use Rattle.mark_tree.specs.Order.{move_placed}
 use Rattle.mark_tree.proofs.moving.moved_all.Goals as goal
 
-pub moved_offset-requires-clause-fits : goal.moved_offset-requires-clause-fits
-moved_offset-requires-clause-fits g c =
+pub moved_offset-requires : goal.moved_offset-requires
+moved_offset-requires g c =
     let rest = into_iter_items c.next.new.self in
     let all = subst (λ l. All (λ p. end_at p < 2 ^ 32) (map (move_placed c.args.shift.now) l)) c.in-Some.ensures.steps.0 c.loop-thing.invariant.fits in
     let first : end_at (move_placed c.args.shift.now c.in-Some.thing) < 2 ^ 32 = All-head (λ p. end_at p < 2 ^ 32) (move_placed c.args.shift.now c.in-Some.thing) (map (move_placed c.args.shift.now) rest) all in
-    omega (arith, first)
+    record { fits = omega (arith, first) }
 
 pub loop-thing-preserved : goal.loop-thing-preserved
 loop-thing-preserved g c =

@@ -2,10 +2,13 @@ use Rattle.std.proofs.Common.{◌+◌, sym, subst, arith}
 use Rattle.tree_bench.proofs.Marked.{AreWithin, within-moved, within-sorted}
 use Rattle.tree_bench.proofs.marks.shift_each.Goals as goal
 
-pub apply-requires-clause-fits : goal.apply-requires-clause-fits
-apply-requires-clause-fits c k d lt =
+pub apply-requires : goal.apply-requires
+apply-requires c =
     let turn = c.loop-turn.turn in
-    omega (arith, within-moved (33554432 + turn) (33554432 + (turn + 1)) c.one_byte-shift.result c.loop-turn.tree (omega (arith, c.one_byte-shift.ensures.small)) c.loop-turn.invariant k d lt)
+    record {
+      fits = λ k d lt.
+          omega (arith, within-moved (33554432 + turn) (33554432 + (turn + 1)) c.one_byte-shift.result c.loop-turn.tree (omega (arith, c.one_byte-shift.ensures.small)) c.loop-turn.invariant k d lt);
+    }
 
 pub loop-turn-preserved : goal.loop-turn-preserved
 loop-turn-preserved c =

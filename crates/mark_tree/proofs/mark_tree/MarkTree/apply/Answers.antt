@@ -38,4 +38,4 @@ returns-clause-steps g c h few =
     let same : length ps ≡ length c.args.self.now = sym (length-map mark_of ps) ∙ ap length c.self.view_is in
     let met : count_by (meets_offset c.args.shift) ps ≡ count_by (is_met c.args.shift) c.args.self.now =
     count-of (meets_offset c.args.shift) (is_met c.args.shift) (λ p. refl) ps ∙ ap (count_by (is_met c.args.shift)) c.self.view_is in
-    subst (λ n. c.move_marks.new.steps ≤ c.args.steps.now + 1200 * (h + 1) * (n + 1)) met (c.move_marks.ensures.steps h (omega (arith, few, same)))
+    subst (λ n. c.move_marks.new.steps ≤ c.args.steps.now + 170 * (h + 1) * (n + 1)) met (c.move_marks.ensures.steps h (omega (arith, few, same)))

@@ -1,4 +1,4 @@
-use Rattle.std.proofs.Common.{◌≡◌, ◌+◌, ◌*◌, ◌≤◌, ◌∙◌, ap, sym, subst, length, map, IfErr, arith}
+use Rattle.std.proofs.Common.{◌≡◌, ◌+◌, ◌*◌, ◌≤◌, ◌∷◌, ◌++◌, ◌∙◌, take, drop, ap, sym, subst, length, map, IfErr, arith}
 use Rattle.std.specs.List.{All, list_any}
 use Rattle.cell_units.specs.declared.fault.Refusal.TheVariants.{IdInUse}
 use Rattle.cell_units.specs.Sorting.{insert_by}
@@ -6,10 +6,10 @@ use Rattle.mark_tree.specs.declared.entry.Placed.{Placed}
 use Rattle.mark_tree.specs.Marks.{IsRefusedFor, mark_le, has_id}
 use Rattle.mark_tree.specs.Order.{placed_le}
 use Rattle.mark_tree.specs.Views.{mark_of}
-use Rattle.mark_tree.proofs.MarkViews.{IsFlat, insert-of, any-of, flat-added}
+use Rattle.mark_tree.proofs.MarkViews.{IsFlat, insert-of, any-of, around-of, flat-added}
 use Rattle.mark_tree.proofs.Changing.{every-from_all}
 use Rattle.mark_tree.proofs.Moved.{length-map}
-use Rattle.mark_tree.proofs.Splicing.{either, map-at_ok, map-at_err, ok-weaker}
+use Rattle.mark_tree.proofs.Splicing.{either, map-at_ok, map-at_err, ok-maps, ok-weaker}
 use Rattle.mark_tree.proofs.mark_tree.MarkTree.insert.Goals as goal
 
 pub add-requires-clause-ordered : goal.add-requires-clause-ordered
@@ -31,6 +31,12 @@ returns-clause-ok g c =
     map-at_ok (map mark_of) c.add.result c.add.new.self (insert_by placed_le p ps) (insert_by mark_le c.args.mark c.args.self.now) c.add.ensures.ok
     (insert-of p ps (λ i. 0) (every-from_all IsFlat ps c.self.invariant.flat) ∙ ap (insert_by mark_le c.args.mark) c.self.view_is)
 
+pub returns-clause-place : goal.returns-clause-place
+returns-clause-place g c =
+    let ps = c.self.inside.marks in
+    let p : Placed g.row.P.Denot = record { offset = c.args.mark.offset; bias = c.args.mark.bias; length = 0; id = c.args.mark.id; load = c.args.mark.load } in
+    ok-maps (λ at. c.add.new.self ≡ take at ps ++ p ∷ drop at ps) (λ at. map mark_of c.add.new.self ≡ take at c.args.self.now ++ c.args.mark ∷ drop at c.args.self.now) c.add.result (λ at e. ap (map mark_of) e ∙ around-of at p ps ∙ ap (λ l. take at l ++ c.args.mark ∷ drop at l) c.self.view_is) c.add.ensures.place
+
 pub returns-clause-fresh : goal.returns-clause-fresh
 returns-clause-fresh g c =
     let same = any-of c.args.mark.id c.self.inside.marks ∙ ap (list_any (has_id c.args.mark.id)) c.self.view_is in
@@ -46,4 +52,4 @@ returns-clause-err g c = map-at_err (map mark_of) c.add.result c.add.new.self c.
 pub returns-clause-steps : goal.returns-clause-steps
 returns-clause-steps g c h few =
     let same : length c.self.inside.marks ≡ length c.args.self.now = sym (length-map mark_of c.self.inside.marks) ∙ ap length c.self.view_is in
-    subst (λ n. c.add.new.steps ≤ c.args.steps.now + n + 3000 * (h + 1)) same (c.add.ensures.steps h (omega (arith, few, same)))
+    subst (λ n. 5 * c.add.new.steps ≤ 5 * c.args.steps.now + ((n + 1) + 5 * (200 * (h + 1)))) same (c.add.ensures.steps h (omega (arith, few, same)))

@@ -1,10 +1,10 @@
-use Rattle.std.proofs.Common.{◌≡◌, ◌∙◌, not, ap, sym, subst, map, filter, IfErr, OnOk}
-use Rattle.std.specs.List.{All, list_any}
+use Rattle.std.proofs.Common.{◌≡◌, ◌+◌, ◌++◌, ◌∙◌, not, ap, sym, subst, map, filter, take, drop, IfErr, IfOk, OnOk, Some}
+use Rattle.std.specs.List.{All, list_any, slice_get}
 use Rattle.cell_units.specs.declared.fault.Refusal.TheVariants.{UnknownId}
 use Rattle.mark_tree.specs.Marks.{IsRefusedFor, has_id, lacks_id}
 use Rattle.mark_tree.specs.Order.{lacks_placed_id}
 use Rattle.mark_tree.specs.Views.{mark_of}
-use Rattle.mark_tree.proofs.MarkViews.{IsFlat, any-of, filter-of}
+use Rattle.mark_tree.proofs.MarkViews.{IsFlat, any-of, filter-of, slice_get-of, without-of}
 use Rattle.mark_tree.proofs.Splicing.{either}
 use Rattle.mark_tree.proofs.mark_tree.MarkTree.remove.Goals as goal
 use Rattle.mark_tree.proofs.mark_tree.MarkTree.remove.Goals.{in-Ok, in-Err}
@@ -27,6 +27,24 @@ returns-clause-ok g c =
     elim c.match-take_id.branch [
       | in-Ok w ↦ subst (λ r. OnOk r X) (sym w.result-is) (ap (map mark_of) w.in-Ok.ensures.ok ∙ filter-of c.args.id c.self.inside.marks ∙ ap (filter (lacks_id c.args.id)) c.self.view_is)
       | in-Err w ↦ subst (λ r. OnOk r X) (sym w.result-is) tt
+    ]
+
+pub returns-clause-mark : goal.returns-clause-mark
+returns-clause-mark g c =
+    let ps = c.self.inside.marks in
+    elim c.match-take_id.branch [
+      | in-Ok w ↦ subst (λ r. IfOk r (λ q. slice_get c.args.self.now q.0 ≡ Some q.1)) (sym w.result-is)
+          (ap (λ l. slice_get l w.in-Ok.taken.place) (sym c.self.view_is) ∙ slice_get-of ps w.in-Ok.taken.place w.in-Ok.taken.thing w.in-Ok.ensures.thing)
+      | in-Err w ↦ subst (λ r. IfOk r (λ q. slice_get c.args.self.now q.0 ≡ Some q.1)) (sym w.result-is) tt
+    ]
+
+pub returns-clause-rest : goal.returns-clause-rest
+returns-clause-rest g c =
+    let ps = c.self.inside.marks in
+    elim c.match-take_id.branch [
+      | in-Ok w ↦ subst (λ r. IfOk r (λ q. map mark_of c.take_id.new.self ≡ take q.0 c.args.self.now ++ drop (q.0 + 1) c.args.self.now)) (sym w.result-is)
+          (ap (map mark_of) w.in-Ok.ensures.rest ∙ without-of w.in-Ok.taken.place ps ∙ ap (λ l. take w.in-Ok.taken.place l ++ drop (w.in-Ok.taken.place + 1) l) c.self.view_is)
+      | in-Err w ↦ subst (λ r. IfOk r (λ q. map mark_of c.take_id.new.self ≡ take q.0 c.args.self.now ++ drop (q.0 + 1) c.args.self.now)) (sym w.result-is) tt
     ]
 
 pub returns-clause-refused : goal.returns-clause-refused

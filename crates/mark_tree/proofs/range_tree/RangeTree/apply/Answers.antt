@@ -40,4 +40,4 @@ returns-clause-steps c h few =
     let ps = c.self.inside.ranges in
     let same : length ps ≡ length c.args.self.now = sym (length-map range_of ps) ∙ ap length c.self.view_is in
     let met : count_by (meets_extent c.args.shift) ps ≡ count_by (is_range_met c.args.shift) c.args.self.now = count-met c.args.shift ps ∙ ap (count_by (is_range_met c.args.shift)) c.self.view_is in
-    subst (λ n. c.move_ranges.new.steps ≤ c.args.steps.now + 1400 * (h + 1) * (n + 1)) met (c.move_ranges.ensures.steps h (omega (arith, few, same)))
+    subst (λ n. c.move_ranges.new.steps ≤ c.args.steps.now + 250 * (h + 1) * (n + 1)) met (c.move_ranges.ensures.steps h (omega (arith, few, same)))

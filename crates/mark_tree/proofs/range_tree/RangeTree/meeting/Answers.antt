@@ -11,4 +11,4 @@ returns-clause-met c =
 pub returns-clause-steps : goal.returns-clause-steps
 returns-clause-steps c h few =
     let same : length c.self.inside.ranges ≡ length c.args.self.now = sym (length-map range_of c.self.inside.ranges) ∙ ap length c.self.view_is in
-    subst (λ l. c.all_met.new.steps ≤ c.args.steps.now + 320 * (h + 1) * (count_by (has_in_common c.args.start c.args.end) l + 1)) c.self.view_is (c.all_met.ensures.steps h (omega (arith, few, same)))
+    subst (λ l. c.all_met.new.steps ≤ c.args.steps.now + 82 * (h + 1) * (count_by (has_in_common c.args.start c.args.end) l + 1)) c.self.view_is (c.all_met.ensures.steps h (omega (arith, few, same)))

@@ -8,6 +8,7 @@ use Rattle.mark_tree.specs.Ranges.{has_range_id, lacks_range_id}
 use Rattle.mark_tree.specs.Order.{lacks_placed_id}
 use Rattle.mark_tree.specs.RangeViews.{range_of, IsRange}
 use Rattle.mark_tree.proofs.RangeViewed.{any-range, filter-range, contains-range}
+use Rattle.mark_tree.proofs.Finding.{contained}
 use Rattle.mark_tree.proofs.Splicing.{either}
 use Rattle.mark_tree.proofs.range_tree.RangeTree.remove.Goals as goal
 use Rattle.mark_tree.proofs.range_tree.RangeTree.remove.Goals.{in-Ok, in-Err}
@@ -17,7 +18,7 @@ take_id-requires c = record { ordered = c.self.invariant.ordered }
 
 pub overflow_add-result : goal.overflow_add-result
 overflow_add-result c =
-    let fits : end_at c.in-Ok.placed < 2 ^ 32 = All-contains (λ p. end_at p < 2 ^ 32) c.self.inside.ranges c.in-Ok.placed c.len-count.ensures.codable.ends c.in-Ok.ensures.thing in
+    let fits : end_at c.in-Ok.taken.thing < 2 ^ 32 = All-contains (λ p. end_at p < 2 ^ 32) c.self.inside.ranges c.in-Ok.taken.thing c.len-count.ensures.codable.ends (contained c.self.inside.ranges c.in-Ok.taken.place c.in-Ok.taken.thing c.in-Ok.ensures.thing) in
     omega arith
 
 pub invariant_of-self : goal.invariant_of-self
@@ -39,7 +40,7 @@ returns-clause-ok c =
 pub returns-clause-range : goal.returns-clause-range
 returns-clause-range c =
     elim c.match-take_id.branch [
-      | in-Ok w ↦ subst (λ r. IfOk r (λ q. Contains c.args.self.now q)) (sym w.result-is) (subst (λ l. Contains l (range_of w.in-Ok.placed)) c.self.view_is (contains-range w.in-Ok.placed c.self.inside.ranges w.in-Ok.ensures.thing))
+      | in-Ok w ↦ subst (λ r. IfOk r (λ q. Contains c.args.self.now q)) (sym w.result-is) (subst (λ l. Contains l (range_of w.in-Ok.taken.thing)) c.self.view_is (contains-range w.in-Ok.taken.thing c.self.inside.ranges (contained c.self.inside.ranges w.in-Ok.taken.place w.in-Ok.taken.thing w.in-Ok.ensures.thing)))
       | in-Err w ↦ subst (λ r. IfOk r (λ q. Contains c.args.self.now q)) (sym w.result-is) tt
     ]
 

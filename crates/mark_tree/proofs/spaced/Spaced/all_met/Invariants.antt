@@ -6,7 +6,8 @@ abbrev pub invariant-loop-ranges : goal.invariant-loop-ranges
 invariant-loop-ranges g l = record {
   within : l.at ≤ length l.self;
   rest : met_from l.start l.end 0 l.self ≡ l.ranges.items ++ met_from l.start l.end l.at l.self;
-  steps : (h : ℕ) → length l.self < 2 * 6 ^ (h + 1) → l.steps ≤ l.initial.steps + 320 * (h + 1) * length l.ranges.items;
+  counted : l.initial.steps ≤ l.steps;
+  steps : (h : ℕ) → length l.self < 2 * 6 ^ (h + 1) → l.steps ≤ l.initial.steps + 82 * (h + 1) * length l.ranges.items;
 }
 
 abbrev pub decreases-loop-ranges : goal.decreases-loop-ranges

@@ -34,7 +34,7 @@ returns-in_err-move_run-clause-steps g c h few =
     let small : length c.loop-from.self < 2 * 6 ^ (h + 1) = omega (arith, few, c.loop-from.invariant.moved.same) in
     omega (
       arith,
-      round-steps h (to - from) (count_by (meets_extent s) (run to first old)) (count_by (meets_extent s) (run at first old)) (c.args.steps.now + 1400 * (h + 1) * count_by (meets_extent s) (take first old)) c.loop-from.steps c.first_reaching.new.steps c.group_end-to.new.steps c.move_run.new.steps
+      round-steps h (to - from) (count_by (meets_extent s) (run to first old)) (count_by (meets_extent s) (run at first old)) (c.args.steps.now + 250 * (h + 1) * count_by (meets_extent s) (take first old)) c.loop-from.steps c.first_reaching.new.steps c.group_end-to.new.steps c.move_run.new.steps
           (omega arith) (c.loop-from.invariant.steps h few) (c.in_ok-from.ensures.steps h small) (c.group_end-to.ensures.steps h small) (c.move_run.ensures.steps h small (omega (arith, few, moved.same))) met,
     )
 
@@ -51,8 +51,9 @@ loop-from-preserved g c =
     let met = round-met s first at from to old c.loop-from.self c.requires c.loop-from.invariant.moved c.in_ok-from.ensures.place c.if-from-first.false c.group_end-to.ensures.group in
     record {
       moved = subst (IsMovedTo s first old to) (sym c.in_ok-move_run.ensures.ok) moved;
+      counted = omega arith;
       steps = λ h few.
           let small : length c.loop-from.self < 2 * 6 ^ (h + 1) = omega (arith, few, c.loop-from.invariant.moved.same) in
-          round-steps h (to - from) (count_by (meets_extent s) (run to first old)) (count_by (meets_extent s) (run at first old)) (c.args.steps.now + 1400 * (h + 1) * count_by (meets_extent s) (take first old)) c.loop-from.steps c.first_reaching.new.steps c.group_end-to.new.steps c.move_run.new.steps
+          round-steps h (to - from) (count_by (meets_extent s) (run to first old)) (count_by (meets_extent s) (run at first old)) (c.args.steps.now + 250 * (h + 1) * count_by (meets_extent s) (take first old)) c.loop-from.steps c.first_reaching.new.steps c.group_end-to.new.steps c.move_run.new.steps
           (omega arith) (c.loop-from.invariant.steps h few) (c.in_ok-from.ensures.steps h small) (c.group_end-to.ensures.steps h small) (c.in_ok-move_run.ensures.steps h small (omega (arith, few, moved.same))) met;
     }

@@ -7,7 +7,8 @@ use Rattle.mark_tree.proofs.spaced.Spaced.move_before.Given as goal
 abbrev pub invariant-loop-from : goal.invariant-loop-from
 invariant-loop-from g l = record {
   moved : IsMovedTo l.shift l.first l.initial.self l.at l.self;
-  steps : (h : ℕ) → length l.initial.self < 2 * 6 ^ (h + 1) → l.steps + 1400 * (h + 1) * count_by (meets_extent l.shift) (run l.at l.first l.initial.self) ≤ l.initial.steps + 1400 * (h + 1) * count_by (meets_extent l.shift) (take l.first l.initial.self);
+  counted : l.initial.steps ≤ l.steps;
+  steps : (h : ℕ) → length l.initial.self < 2 * 6 ^ (h + 1) → l.steps + 250 * (h + 1) * count_by (meets_extent l.shift) (run l.at l.first l.initial.self) ≤ l.initial.steps + 250 * (h + 1) * count_by (meets_extent l.shift) (take l.first l.initial.self);
 }
 
 abbrev pub decreases-loop-from : goal.decreases-loop-from

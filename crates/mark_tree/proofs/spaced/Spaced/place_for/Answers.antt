@@ -2,9 +2,9 @@ use Rattle.std.proofs.Common.{◌≡◌, ◌+◌, ◌-◌, ◌*◌, ◌/◌, ◌
 use Rattle.std.specs.Ordering.{is_lt}
 use Rattle.std.proofs.Math.Nat.{mul-le-mul_left}
 use Rattle.mark_tree.specs.declared.entry.Placed.{Placed}
-use Rattle.mark_tree.specs.Order.{placed_le, key_of}
-use Rattle.mark_tree.proofs.Finding.{steps-more, place-at, above-before, halved}
-use Rattle.mark_tree.proofs.Order.{le-from_key, le-trans, not_le-from_key, key_cmp, sorted-placed}
+use Rattle.mark_tree.specs.Order.{placed_le, key_le, key_of}
+use Rattle.mark_tree.proofs.Finding.{steps-more, above-before, halved}
+use Rattle.mark_tree.proofs.Order.{key_le-from, key_le-trans, not_key_le-from, key_cmp, sorted-placed}
 use Rattle.mark_tree.proofs.spaced.Spaced.place_for.Goals as goal
 
 pub loop-low-init : goal.loop-low-init
@@ -16,6 +16,7 @@ loop-low-init g c = record {
   left = 32;
   few = omega arith;
   narrow = omega (arith, c.len-high.type_inv);
+  counted = omega arith;
   steps = λ h few. omega arith;
 }
 
@@ -30,12 +31,13 @@ loop-low-preserved g c =
       order = omega arith;
       within = omega (arith, c.loop-low-test.true, c.loop-low.invariant.within);
       less = c.loop-low.invariant.less;
-      not_less = λ d lt. le-from_key c.args.fresh.now (get_or c.args.self.now middle d)
-          (subst (λ k. is_lt (key_cmp k (key_of c.args.fresh.now)) ≡ false) (c.key_at.ensures.key d) (subst (λ k. is_lt (key_cmp c.key_at.result k) ≡ false) c.key-key.ensures (ap is_lt (sym c.cmp.ensures) ∙ sym c.is_lt-is_less.ensures ∙ c.if-is_less.false)));
+      not_less = λ d lt. key_le-from c.args.key (key_of (get_or c.args.self.now middle d))
+          (subst (λ k. is_lt (key_cmp k c.args.key) ≡ false) (c.key_at.ensures.key d) (ap is_lt (sym c.cmp.ensures) ∙ sym c.is_lt-is_less.ensures ∙ c.if-is_less.false));
       left = left - 1;
       few = omega (arith, c.loop-low.invariant.few);
       narrow = omega (arith, next.1);
-      steps = λ h few. steps-more (64 * (h + 1)) (32 - left) (32 - (left - 1)) c.args.steps.now c.loop-low.steps c.key_at.new.steps (omega (arith, next.0, c.loop-low.invariant.few)) (c.loop-low.invariant.steps h few) (c.key_at.ensures.steps h few);
+      counted = omega arith;
+      steps = λ h few. steps-more (h + 1) (32 - left) (32 - (left - 1)) c.args.steps.now c.loop-low.steps c.key_at.new.steps (omega (arith, next.0, c.loop-low.invariant.few)) (c.loop-low.invariant.steps h few) (c.key_at.ensures.steps h few);
     }
 
 pub loop-low-preserved-then-is_less : goal.loop-low-preserved-then-is_less
@@ -46,29 +48,33 @@ loop-low-preserved-then-is_less g c =
     let left = c.loop-low.invariant.left in
     let next = halved (high - low) left (omega (arith, c.loop-low-test.true)) c.loop-low.invariant.narrow in
     let within : middle < length c.args.self.now = omega (arith, c.loop-low-test.true, c.loop-low.invariant.within) in
-    let here : (d : Placed g.row.P.Denot) → placed_le c.args.fresh.now (get_or c.args.self.now middle d) ≡ false =
-    λ d. not_le-from_key c.args.fresh.now (get_or c.args.self.now middle d)
-    (subst (λ k. is_lt (key_cmp k (key_of c.args.fresh.now)) ≡ true) (c.key_at.ensures.key d) (subst (λ k. is_lt (key_cmp c.key_at.result k) ≡ true) c.key-key.ensures (ap is_lt (sym c.cmp.ensures) ∙ sym c.is_lt-is_less.ensures ∙ c.if-is_less.true))) in
+    let here : (d : Placed g.row.P.Denot) → key_le c.args.key (key_of (get_or c.args.self.now middle d)) ≡ false =
+    λ d. not_key_le-from c.args.key (key_of (get_or c.args.self.now middle d))
+    (subst (λ k. is_lt (key_cmp k c.args.key) ≡ true) (c.key_at.ensures.key d) (ap is_lt (sym c.cmp.ensures) ∙ sym c.is_lt-is_less.ensures ∙ c.if-is_less.true)) in
     record {
       order = omega (arith, c.loop-low-test.true);
       within = c.loop-low.invariant.within;
-      less = λ k d lt. below_more (λ n. placed_le c.args.fresh.now (get_or c.args.self.now n d) ≡ false) middle
-          (above-before placed_le le-trans c.args.fresh.now c.args.self.now (sorted-placed c.args.self.now c.requires.ordered.sorted) middle d within (here d)) (here d) k lt;
+      less = λ k d lt. below_more (λ n. key_le c.args.key (key_of (get_or c.args.self.now n d)) ≡ false) middle
+          (above-before placed_le (λ j p. key_le j (key_of p)) (λ j p q. key_le-trans j (key_of p) (key_of q)) c.args.key c.args.self.now (sorted-placed c.args.self.now c.requires.ordered.sorted) middle d within (here d)) (here d) k lt;
       not_less = c.loop-low.invariant.not_less;
       left = left - 1;
       few = omega (arith, c.loop-low.invariant.few);
       narrow = omega (arith, next.1);
-      steps = λ h few. steps-more (64 * (h + 1)) (32 - left) (32 - (left - 1)) c.args.steps.now c.loop-low.steps c.key_at.new.steps (omega (arith, next.0, c.loop-low.invariant.few)) (c.loop-low.invariant.steps h few) (c.key_at.ensures.steps h few);
+      counted = omega arith;
+      steps = λ h few. steps-more (h + 1) (32 - left) (32 - (left - 1)) c.args.steps.now c.loop-low.steps c.key_at.new.steps (omega (arith, next.0, c.loop-low.invariant.few)) (c.loop-low.invariant.steps h few) (c.key_at.ensures.steps h few);
     }
 
 pub returns-clause-place : goal.returns-clause-place
 returns-clause-place g c =
     let turn : c.loop-low.high ≡ c.loop-low.low = omega (arith, c.loop-low-test.false, c.loop-low.invariant.order) in
-    place-at placed_le c.args.fresh.now c.args.self.now c.loop-low.low (omega (arith, c.loop-low.invariant.order, c.loop-low.invariant.within)) c.loop-low.invariant.less
-    (λ d lt. subst (λ n. placed_le c.args.fresh.now (get_or c.args.self.now n d) ≡ true) turn (c.loop-low.invariant.not_less d (omega (arith, lt, turn))))
+    record {
+      within = omega (arith, c.loop-low.invariant.order, c.loop-low.invariant.within);
+      before = λ k d lt. c.loop-low.invariant.less k d lt;
+      from = λ d lt. subst (λ n. key_le c.args.key (key_of (get_or c.args.self.now n d)) ≡ true) turn (c.loop-low.invariant.not_less d (omega (arith, lt, turn)));
+    }
 
 pub returns-clause-steps : goal.returns-clause-steps
 returns-clause-steps g c h few =
     let spent = c.loop-low.invariant.steps h few in
     let most : 32 - c.loop-low.invariant.left ≤ 32 = omega arith in
-    omega (arith, spent, mul-le-mul_left (64 * (h + 1)) most)
+    omega (arith, spent, mul-le-mul_left (h + 1) most)

@@ -27,7 +27,7 @@ replace-requires-clause-fits g c =
     let made = take c.args.from es ++ c.in_ok-entries.entries.items ++ drop c.in_ok-refill.refill.end es in
     let all = spliced c.args.from c.args.to c.args.fresh.items c.args.shift.now c.args.self.now in
     let stands : placed_from 0 made ≡ all = splice-stands es c.args.self.now c.args.from c.args.to c.args.fresh.items c.args.shift.now c.in_ok-refill.refill.placed.items c.in_ok-refill.refill.end c.offset_before-base.result
-    c.self.view_is c.offset_before-base.ensures.offset c.requires.replaced c.in_ok-refill.ensures.refill c.requires.codable.spaced c.in_ok-entries.entries.items c.in_ok-entries.ensures in
+    c.self.view_is c.offset_before-base.ensures.offset c.args.shift.now.ordered c.in_ok-refill.ensures.refill c.requires.codable.spaced c.in_ok-entries.entries.items c.in_ok-entries.ensures in
     (omega (arith, items-over made, kept-small made all stands c.requires.codable), kept-fits made all stands c.requires.codable)
 
 pub replace-requires-clause-small : goal.replace-requires-clause-small
@@ -36,7 +36,7 @@ replace-requires-clause-small g c =
     let made = take c.args.from es ++ c.in_ok-entries.entries.items ++ drop c.in_ok-refill.refill.end es in
     let all = spliced c.args.from c.args.to c.args.fresh.items c.args.shift.now c.args.self.now in
     let stands : placed_from 0 made ≡ all = splice-stands es c.args.self.now c.args.from c.args.to c.args.fresh.items c.args.shift.now c.in_ok-refill.refill.placed.items c.in_ok-refill.refill.end c.offset_before-base.result
-    c.self.view_is c.offset_before-base.ensures.offset c.requires.replaced c.in_ok-refill.ensures.refill c.requires.codable.spaced c.in_ok-entries.entries.items c.in_ok-entries.ensures in
+    c.self.view_is c.offset_before-base.ensures.offset c.args.shift.now.ordered c.in_ok-refill.ensures.refill c.requires.codable.spaced c.in_ok-entries.entries.items c.in_ok-entries.ensures in
     kept-small made all stands c.requires.codable
 
 pub invariant_of-self : goal.invariant_of-self
@@ -45,7 +45,7 @@ invariant_of-self g c =
     let made = take c.args.from es ++ c.in_ok-entries.entries.items ++ drop c.in_ok-refill.refill.end es in
     let all = spliced c.args.from c.args.to c.args.fresh.items c.args.shift.now c.args.self.now in
     let stands : placed_from 0 made ≡ all = splice-stands es c.args.self.now c.args.from c.args.to c.args.fresh.items c.args.shift.now c.in_ok-refill.refill.placed.items c.in_ok-refill.refill.end c.offset_before-base.result
-    c.self.view_is c.offset_before-base.ensures.offset c.requires.replaced c.in_ok-refill.ensures.refill c.requires.codable.spaced c.in_ok-entries.entries.items c.in_ok-entries.ensures in
+    c.self.view_is c.offset_before-base.ensures.offset c.args.shift.now.ordered c.in_ok-refill.ensures.refill c.requires.codable.spaced c.in_ok-entries.entries.items c.in_ok-entries.ensures in
     either (λ l. end_of (extent_over l) < 2 ^ 32) c.replace.result c.replace.new.self made es c.replace.ensures.ok c.replace.ensures.err (kept-fits made all stands c.requires.codable) c.self.invariant
 
 pub returns-clause-ok : goal.returns-clause-ok
@@ -54,7 +54,7 @@ returns-clause-ok g c =
     let made = take c.args.from es ++ c.in_ok-entries.entries.items ++ drop c.in_ok-refill.refill.end es in
     let all = spliced c.args.from c.args.to c.args.fresh.items c.args.shift.now c.args.self.now in
     let stands : placed_from 0 made ≡ all = splice-stands es c.args.self.now c.args.from c.args.to c.args.fresh.items c.args.shift.now c.in_ok-refill.refill.placed.items c.in_ok-refill.refill.end c.offset_before-base.result
-    c.self.view_is c.offset_before-base.ensures.offset c.requires.replaced c.in_ok-refill.ensures.refill c.requires.codable.spaced c.in_ok-entries.entries.items c.in_ok-entries.ensures in
+    c.self.view_is c.offset_before-base.ensures.offset c.args.shift.now.ordered c.in_ok-refill.ensures.refill c.requires.codable.spaced c.in_ok-entries.entries.items c.in_ok-entries.ensures in
     map-at_ok (placed_from 0) c.replace.result c.replace.new.self made all c.replace.ensures.ok stands
 
 pub returns-clause-steps : goal.returns-clause-steps
@@ -63,7 +63,7 @@ returns-clause-steps g c h few few' =
     let made = take c.args.from es ++ c.in_ok-entries.entries.items ++ drop c.in_ok-refill.refill.end es in
     let all = spliced c.args.from c.args.to c.args.fresh.items c.args.shift.now c.args.self.now in
     let stands : placed_from 0 made ≡ all = splice-stands es c.args.self.now c.args.from c.args.to c.args.fresh.items c.args.shift.now c.in_ok-refill.refill.placed.items c.in_ok-refill.refill.end c.offset_before-base.result
-    c.self.view_is c.offset_before-base.ensures.offset c.requires.replaced c.in_ok-refill.ensures.refill c.requires.codable.spaced c.in_ok-entries.entries.items c.in_ok-entries.ensures in
+    c.self.view_is c.offset_before-base.ensures.offset c.args.shift.now.ordered c.in_ok-refill.ensures.refill c.requires.codable.spaced c.in_ok-entries.entries.items c.in_ok-entries.ensures in
     let old : length es < 2 * 6 ^ (h + 1) = omega (arith, few, length-placed 0 es, ap length c.self.view_is) in
     let new : length made < 2 * 6 ^ (h + 1) = omega (arith, few', length-placed 0 made, ap length stands) in
     let coded : length c.in_ok-entries.entries.items ≤ length c.args.fresh.items + 1 = omega (arith, ap length c.in_ok-entries.ensures, length-coded c.offset_before-base.result c.in_ok-refill.refill.placed.items, c.in_ok-refill.ensures.refill.few) in

@@ -4,7 +4,7 @@ use Rattle.mark_tree.specs.Order.{has_placed_id, lacks_placed_id, IsOrdered}
 use Rattle.std.proofs.lemmas.Option.{get_or_from_slice_get}
 use Rattle.std.proofs.lemmas.Bool.Decides.{nat_tests}
 use Rattle.mark_tree.proofs.Finding.{position-some}
-use Rattle.mark_tree.proofs.Changing.{no_shift, spliced-taken, codable-taken, ordered-taken, length-taken, take-steps}
+use Rattle.mark_tree.proofs.Changing.{no_shift, spliced-out, spliced-taken, codable-taken, ordered-taken, length-taken, take-steps}
 use Rattle.mark_tree.proofs.spaced.Spaced.take_id.Goals as goal
 
 same_id : (m n : ℕ) → (m == n) ≡ true → m ≡ n
@@ -39,15 +39,17 @@ returns-clause-ok g c =
     c.in_ok-splice.ensures.ok ∙ ap (λ l. spliced c.in-Some.at (c.in-Some.at + 1) l no_shift c.args.self.now) c.new.ensures.items ∙ spliced-taken c.in-Some.at c.args.id c.args.self.now found.0 found.1 (c.requires.ordered.distinct c.args.id)
 
 pub returns-clause-thing : goal.returns-clause-thing
-returns-clause-thing g c =
-    let found = position-some (has_placed_id c.args.id) c.args.self.now c.in-Some.at (sym c.find_id.ensures.found ∙ c.in-Some.is) in
-    (c.in-Some.at, found.0, get_or_from_slice_get c.args.self.now c.in-Some.at c.in_ok-taken.taken c.in_ok-taken.taken c.in_ok-taken.ensures.copy)
+returns-clause-thing g c = c.in_ok-thing.ensures.copy
+
+pub returns-clause-rest : goal.returns-clause-rest
+returns-clause-rest g c =
+    c.in_ok-splice.ensures.ok ∙ ap (λ l. spliced c.in-Some.at (c.in-Some.at + 1) l no_shift c.args.self.now) c.new.ensures.items ∙ spliced-out c.in-Some.at c.args.self.now
 
 pub returns-clause-id : goal.returns-clause-id
 returns-clause-id g c =
     let found = position-some (has_placed_id c.args.id) c.args.self.now c.in-Some.at (sym c.find_id.ensures.found ∙ c.in-Some.is) in
-    let taken = c.in_ok-taken.taken in
-    let there = get_or_from_slice_get c.args.self.now c.in-Some.at taken taken c.in_ok-taken.ensures.copy in
+    let taken = c.in_ok-thing.thing in
+    let there = get_or_from_slice_get c.args.self.now c.in-Some.at taken taken c.in_ok-thing.ensures.copy in
     same_id taken.id c.args.id (subst (λ p. has_placed_id c.args.id p ≡ true) there (found.1 taken))
 
 pub returns-clause-ordered : goal.returns-clause-ordered
@@ -63,5 +65,5 @@ returns-clause-steps g c h few =
     ap (λ l. spliced c.in-Some.at (c.in-Some.at + 1) l no_shift c.args.self.now) c.new.ensures.items ∙ spliced-taken c.in-Some.at c.args.id c.args.self.now found.0 found.1 (c.requires.ordered.distinct c.args.id) in
     let new : length (spliced c.in-Some.at (c.in-Some.at + 1) c.new.result.items no_shift c.args.self.now) < 2 * 6 ^ (h + 1) =
     omega (arith, few, ap length made, length-taken c.args.id c.args.self.now) in
-    take-steps h (length c.args.self.now) c.args.steps.now c.find_id.new.steps c.copy_at.new.steps c.splice.new.steps c.find_id.ensures.steps (c.in_ok-taken.ensures.steps h few)
+    take-steps h (length c.args.self.now) c.args.steps.now c.find_id.new.steps c.copy_at.new.steps c.splice.new.steps c.find_id.ensures.steps (c.in_ok-thing.ensures.steps h few)
     (omega (arith, c.in_ok-splice.ensures.steps h few new, ap length c.new.ensures.items))

@@ -1,0 +1,39 @@
+-- How many steps calls on marks and ranges take at most. Like those of sum trees, they are costs of a height h that the tree
+-- can't exceed.
+use Rattle.std.specs.Prelude.{ℕ, ◌+◌, ◌*◌, ◌^◌, ◌<◌, ◌≤◌}
+
+-- A call by an id may look at every entry of a list of n, on a fifth as many nodes, and takes at most `cost h` steps beside.
+abbrev pub SearchesAndTakes : (ℕ → ℕ) → ℕ → ℕ → ℕ → Type 0
+SearchesAndTakes cost n old new = (h : ℕ) → n < 2 * 6 ^ (h + 1) → 5 * new ≤ 5 * old + (n + 5 * cost h)
+
+-- A place in order is found by halving: at most 32 ways down.
+abbrev pub halving : ℕ → ℕ
+halving h = 32 * (h + 1)
+
+-- k things in the place of others: two ways down to what stands before and behind, and one replacement of k + 1 entries.
+abbrev pub splicing : ℕ → ℕ → ℕ
+splicing k h = 162 * h + (89 + 4 * (k + 2))
+
+-- One thing added or taken off: its place is found and its neighbours are spliced.
+abbrev pub changing : ℕ → ℕ
+changing h = 200 * (h + 1)
+
+-- A replacement of text cuts the list once, and sets each of the marks that it meets anew.
+abbrev pub moving : ℕ → ℕ → ℕ
+moving met h = 170 * (h + 1) * (met + 1)
+
+-- The first range that reaches an offset is found by a cut and two ways down.
+abbrev pub reaching : ℕ → ℕ
+reaching h = 81 * (h + 1)
+
+-- A replacement of text sets each of the ranges that it meets anew, start by start.
+abbrev pub shrinking : ℕ → ℕ → ℕ
+shrinking met h = 250 * (h + 1) * (met + 1)
+
+-- the next range that is met: it is the first that reaches the start
+abbrev pub next_meeting : ℕ → ℕ
+next_meeting h = 82 * (h + 1)
+
+-- Each range that is met is found from the one before it.
+abbrev pub meeting : ℕ → ℕ → ℕ
+meeting met h = 82 * (h + 1) * (met + 1)
