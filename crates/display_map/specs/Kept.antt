@@ -125,3 +125,8 @@ pub record KeepsHistory (h : History) (text : List ℕ) (tab width : ℕ) (wraps
   pub jobs_few : jobs ≤ length h.events
   pub first_within : first ≤ length wraps
   pub first_waits : NoneWaits wraps first
+
+-- what a view keeps of its history: the record, and how many versions were published
+pub record KeepsView (h : History) (text : List ℕ) (tab : ℕ) (wraps : List Wrap) (versions : ℕ) : Type 0 where
+  pub record_is : Keeps (present_of h) text tab wraps
+  pub versions_are : versions_of h.events ≡ versions

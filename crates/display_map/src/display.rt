@@ -274,6 +274,7 @@ impl Display {
             text: Arc::try_clone(&self.text)?,
             wraps: Arc::try_clone(&self.wraps)?,
             tab: self.tab,
+            versions: self.versions,
         })
     }
 

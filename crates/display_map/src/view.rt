@@ -1,17 +1,22 @@
 //! Views: what a display showed at one moment.
-ghost use Rattle.std.specs.Prelude.{◌≡◌, ◌^◌, ◌<◌, ◌≤◌, length, slice_get, flat_map, IfOk};
+ghost use Rattle.std.specs.Prelude.{◌≡◌, ◌^◌, ◌<◌, ◌≤◌, None, length, take, drop, slice_get, slice_range, flat_map, IfOk, OnOk, IfErr};
 ghost use Rattle.cell_units.specs.BufferLines.{buffer_lines};
 ghost use Rattle.plain_rows.specs.Rows.{rows_of};
 ghost use Rattle.display_map.specs.Kept.{AreWrapped, wrapped_rows};
-ghost use Rattle.display_map.specs.Replay.{present_of};
-ghost use Rattle.display_map.specs.Shown.{shown_row};
+ghost use Rattle.cell_units.specs.Text.{IsBoundary};
+ghost use Rattle.plain_rows.specs.Plain.{record_of};
+ghost use Rattle.plain_rows.specs.Spots.{back, clip, show};
+ghost use Rattle.display_map.specs.Faults.{IsRefusedAs};
+ghost use Rattle.display_map.specs.Replay.{present_of, versions_of};
+ghost use Rattle.display_map.specs.Shown.{mark_runs, show_refusal, shown_row, shown_rows, unstamped};
 
 use crate::buffer::Buffer;
 use crate::journal::Journal;
 use crate::paint;
-use crate::shown::Shown;
+use crate::shown::{MarkRun, Shown};
 use crate::wrap::{self, Wrap};
-use cell_units::{NoMemory, Steps};
+use cell_units::{Bias, Fault, NoMemory, Refusal, Spot, Steps, Text};
+use plain_rows::Plain;
 use std::alloc::Global;
 use std::marker::Model;
 use std::sync::Arc;
@@ -24,6 +29,8 @@ pub struct View {
     pub(crate) text: Arc<Buffer>,
     pub(crate) wraps: Arc<Vec<Wrap>>,
     pub(crate) tab: u32,
+    /// How many versions were published.
+    pub(crate) versions: u32,
 }
 
 impl Model for View {
@@ -32,12 +39,11 @@ impl Model for View {
     ghost Value = { History };
 
     ghost use Rattle.std.specs.Arc.{arc_value};
-    ghost use Rattle.display_map.specs.Kept.{Keeps};
-    ghost use Rattle.display_map.specs.Replay.{present_of};
+    ghost use Rattle.display_map.specs.Kept.{KeepsView};
 
     ghost view = { λ v. record { opening = arc_value v.opening; events = v.journal } };
 
-    ghost invariant = { λ v. Keeps (present_of (record { opening = arc_value v.opening; events = v.journal })) (arc_value v.text) v.tab (arc_value v.wraps).items };
+    ghost invariant = { λ v. KeepsView (record { opening = arc_value v.opening; events = v.journal }) (arc_value v.text) v.tab (arc_value v.wraps).items v.versions };
 }
 
 /// The row of this number of a text whose lines stand wrapped so.
@@ -78,5 +84,100 @@ impl View {
         ensures { IfOk result (λ shown. shown_row shown ≡ slice_get (rows_of (present_of self.now)) row) }
     {
         row_of(alloc, &self.text, self.tab, &self.wraps, row)
+    }
+
+    /// The rows from number `first` on, as many as there are up to `count`.
+    pub fn rows(
+        &self,
+        _alloc: Global,
+        _first: u32,
+        _count: u32,
+        _steps: &mut Steps,
+    ) -> Result<Vec<Shown>, NoMemory>
+        ensures { IfOk result (λ shown. shown_rows shown.items ≡ take _count (drop _first (rows_of (present_of self.now)))) }
+    {
+        Err(NoMemory)
+    }
+
+    /// Where an offset of the text is shown. `BadRange` where it is past the end or within a character.
+    pub fn show(
+        &self,
+        _alloc: Global,
+        offset: u32,
+        _bias: Bias,
+        _steps: &mut Steps,
+    ) -> Result<Spot, Fault>
+        ensures shown { IfOk result (λ spot. spot ≡ show (present_of self.now) offset _bias) }
+        ensures accepted { OnOk result (show_refusal (present_of self.now) offset ≡ None) }
+        ensures refused { IfErr result (IsRefusedAs (show_refusal (present_of self.now) offset)) }
+    {
+        if self.text.as_str().is_char_boundary(offset as usize) {
+            Err(Fault::NoMemory)
+        } else {
+            Err(Fault::Refused(Refusal::BadRange))
+        }
+    }
+
+    /// The nearest spot at which some offset is shown.
+    pub fn clip(
+        &self,
+        _alloc: Global,
+        _spot: Spot,
+        _bias: Bias,
+        _steps: &mut Steps,
+    ) -> Result<Spot, NoMemory>
+        ensures { IfOk result (λ nearest. nearest ≡ clip (present_of self.now) _spot _bias) }
+    {
+        Err(NoMemory)
+    }
+
+    /// The least offset (Left) or the greatest (Right) that is shown at the nearest such spot.
+    pub fn back(
+        &self,
+        _alloc: Global,
+        _spot: Spot,
+        _bias: Bias,
+        _steps: &mut Steps,
+    ) -> Result<u32, NoMemory>
+        ensures { IfOk result (λ offset. offset ≡ back (present_of self.now) _spot _bias) }
+    {
+        Err(NoMemory)
+    }
+
+    /// The lines that stand wrapped: maximal runs of neighbours at one width.
+    pub fn marks(&self, _alloc: Global, _steps: &mut Steps) -> Result<Vec<MarkRun>, NoMemory>
+        ensures { IfOk result (λ runs. runs.items ≡ mark_runs (present_of self.now)) }
+    {
+        Err(NoMemory)
+    }
+
+    /// How many versions were published up to this view.
+    pub fn versions(&self) -> u64
+        ensures { result ≡ versions_of self.now.events }
+    {
+        u64::from(self.versions)
+    }
+
+    /// The record as plain lists.
+    pub fn plain(&self, _alloc: Global, _steps: &mut Steps) -> Result<Plain, NoMemory>
+        ensures { IfOk result (λ plain. record_of plain ≡ unstamped (present_of self.now)) }
+    {
+        Err(NoMemory)
+    }
+
+    /// The bytes of the text from `start` up to `end`, two boundaries in order.
+    pub fn slice(
+        &self,
+        alloc: Global,
+        start: u32,
+        end: u32,
+        _steps: &mut Steps,
+    ) -> Result<Text, NoMemory>
+        requires start { IsBoundary (present_of self.now).text start }
+        requires end { IsBoundary (present_of self.now).text end }
+        requires order { start ≤ end }
+        ensures { IfOk result (λ text. text ≡ slice_range (present_of self.now).text start end) }
+    {
+        Text::from_str(alloc, &self.text.as_str()[start as usize..end as usize])
     }
 }

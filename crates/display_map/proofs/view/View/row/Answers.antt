@@ -15,6 +15,6 @@ returns c =
     let wraps = c.deref-3.ensures.value ∙ ap (λ w. w.items) c.deref-2.ensures in
     let is : flat_map (λ rows. rows) (wrapped_rows v.tab (buffer_lines c.deref.result.now) c.deref-3.result.now) ≡ rows_of (present_of c.args.self.now) =
     (λ i. flat_map (λ rows. rows) (wrapped_rows v.tab (buffer_lines (c.deref.ensures i)) (wraps i)))
-    ∙ sym (rows_kept (present_of h) (arc_value v.text) v.tab (arc_value v.wraps).items c.self.invariant)
+    ∙ sym (rows_kept (present_of h) (arc_value v.text) v.tab (arc_value v.wraps).items c.self.invariant.record_is)
     ∙ ap (λ (h : History). rows_of (present_of h)) c.self.view_is in
     subst (λ (rows : List Row). IfOk c.row_of.result (λ shown. shown_row shown ≡ slice_get rows c.args.row)) is c.row_of.ensures

@@ -14,8 +14,8 @@ row_count-requires c =
     omega (
       arith,
       ap rows_in wraps,
-      rows_in-le (present_of h) (arc_value v.text) v.tab (arc_value v.wraps).items c.self.invariant,
-      c.self.invariant.text_short,
+      rows_in-le (present_of h) (arc_value v.text) v.tab (arc_value v.wraps).items c.self.invariant.record_is,
+      c.self.invariant.record_is.text_short,
     )
 
 pub returns : goal.returns
@@ -25,5 +25,5 @@ returns c =
     let wraps = c.deref-2.ensures.value ∙ ap (λ w. w.items) c.deref.ensures in
     c.row_count.ensures
     ∙ ap rows_in wraps
-    ∙ sym (rows_in_kept (present_of h) (arc_value v.text) v.tab (arc_value v.wraps).items c.self.invariant)
+    ∙ sym (rows_in_kept (present_of h) (arc_value v.text) v.tab (arc_value v.wraps).items c.self.invariant.record_is)
     ∙ ap (λ (h : History). length (rows_of (present_of h))) c.self.view_is
