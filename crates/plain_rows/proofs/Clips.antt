@@ -2,7 +2,7 @@
 use Rattle.std.proofs.Common.{◌≡◌, ℕ, ◌+◌, ◌==◌, inl, inr, Bool, true, false, if◌then◌else◌, List, [], ◌∷◌, length, filter, flat_map, nat_lt, unwrap_or, zero-add, Option, Some, None, ap, ◌∙◌, subst, arith}
 use Rattle.std.specs.List.{Contains, range_with_len}
 use Rattle.std.specs.Option.{option_or}
-use Rattle.std.proofs.lemmas.Bool.{lt-ltb, or_left}
+use Rattle.std.proofs.lemmas.Bool.{cases_Bool, lt-ltb, or_left}
 use Rattle.std.proofs.lemmas.Bool.Decides.{nat_tests}
 use Rattle.std.proofs.lemmas.List.FromFn.{get_or-range_with_len, length-range_with_len}
 use Rattle.cell_units.specs.declared.place.Bias.{Bias}
@@ -11,7 +11,7 @@ use Rattle.cell_units.specs.declared.place.Spot.{Spot}
 use Rattle.cell_units.specs.Text.{is_boundary}
 use Rattle.cell_units.specs.Record.{Record}
 use Rattle.plain_rows.specs.Spots.{at_or_after, at_or_before, clip, greatest, least, origin, past, positions, show, spot_le, valid_spots}
-use Rattle.plain_rows.specs.Laws.{IsGreatest, IsLeast, IsNearestBefore, IsValidSpot}
+use Rattle.plain_rows.specs.Laws.{GreatestBefore, IsGreatest, IsLeast, IsNearestBefore, IsValidSpot, LeastOfAll}
 use Rattle.plain_rows.proofs.Lists.{IsFirst, all-contained, contains-cases, contains-filtered, contains-first, contains-later, contains-mapped, contains-none, contains-some, contains-unfiltered, first_by-first}
 
 spot_le-refl : (s : Spot) → spot_le s s ≡ true
@@ -144,6 +144,22 @@ left_nearest spots d s m h = go (greatest (at_or_before d spots)) (greatest-firs
   go (Some t) k = ((contains-unfiltered (λ t. spot_le t d) spots t k.0).1, all-contained (λ u. spot_ge t u ≡ true) (at_or_before d spots) s k.1 kept)
   go None k = absurd (contains-none s (subst (λ (l : List Spot). Contains l s) k kept))
 
-pub clip-nearest_before : (r : Record) (d : Spot) → IsNearestBefore r d (clip r d Left)
+-- the nearest one is the greatest at or before d, or the least where there is none
+left-nearest : (spots : List Spot) (d w : Spot) → Contains spots w → IsNearestBefore spots d (left_of spots d)
+left-nearest spots d w m = go (greatest (at_or_before d spots)) (greatest-first (at_or_before d spots)) (least spots) (least-first spots) where
+  behind : at_or_before d spots ≡ [] → (t : Spot) → Contains spots t → spot_le t d ≡ false
+  behind none t k = elim (cases_Bool (spot_le t d)) [
+    | inl le ↦ absurd (contains-none t (subst (λ (l : List Spot). Contains l t) none (contains-filtered (λ s. spot_le s d) spots t k le)))
+    | inr past ↦ past
+  ]
+
+  go : (a : Option Spot) → IsFirst spot_ge (at_or_before d spots) a → (b : Option Spot) → IsFirst spot_le spots b → IsNearestBefore spots d (unwrap_or (option_or a b) origin)
+  go (Some s) h b k =
+      let is = contains-unfiltered (λ s. spot_le s d) spots s h.0 in
+      GreatestBefore s is.0 is.1 (λ t n le. all-contained (λ u. spot_ge s u ≡ true) (at_or_before d spots) t h.1 (contains-filtered (λ s. spot_le s d) spots t n le))
+  go None h (Some s) k = LeastOfAll s k (behind h)
+  go None h None k = absurd (contains-none w (subst (λ (l : List Spot). Contains l w) k m))
+
+pub clip-nearest_before : (r : Record) (d : Spot) → IsNearestBefore (valid_spots r) d (clip r d Left)
 unfolding clip
-clip-nearest_before r d s m h = left_nearest (valid_spots r) d s m h
+clip-nearest_before r d = left-nearest (valid_spots r) d (show r (length r.text) Left) (some-valid r)

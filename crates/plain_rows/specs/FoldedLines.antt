@@ -1,7 +1,7 @@
 -- Display lines laid out as parts of a text and of its inlays.
-use Rattle.std.specs.Prelude.{ℕ, ◌≡◌, ◌≢◌, ◌+◌, ◌<◌, ◌≤◌, Bool, true, false, IsTrue, List, [], ◌∷◌, All, length, map, flat_map, slice_range, slice_index_or}
-use Rattle.std.specs.List.{AllPairs}
-use Rattle.std.specs.Str.{IsUtf8}
+use Rattle.std.specs.Prelude.{ℕ, ◌≡◌, ◌≢◌, ◌+◌, ◌-◌, ◌<◌, ◌≤◌, ◌==◌, ◌||◌, not, Bool, true, false, List, [], ◌∷◌, All, length, map, flat_map, slice_range, slice_index_or}
+use Rattle.std.specs.List.{AllPairs, prefix_len}
+use Rattle.std.specs.Str.{IsCharBoundary, IsUtf8}
 use Rattle.cell_units.specs.declared.place.Bias.TheVariants.{Left}
 use Rattle.cell_units.specs.Text.{IsBoundary, IsText, carriage_return, is_feed, line_feed}
 use Rattle.cell_units.specs.Record as records
@@ -12,19 +12,19 @@ use Rattle.plain_rows.specs.declared.folded_lines.Joined.{Joined}
 use Rattle.plain_rows.specs.declared.folded_lines.Part.{Part}
 use Rattle.plain_rows.specs.declared.folded_lines.Part.TheVariants.{Buffer, Inlay, Placeholder, Feed, InlayFeed}
 use Rattle.plain_rows.specs.declared.folded_lines.PlainSource.{PlainSource}
-use Rattle.plain_rows.specs.Plain.{source_of}
+use Rattle.plain_rows.specs.Plain.{listed_source}
 
 -- ---- what is laid out
 
 abbrev pub seen : PlainSource → Source
-seen source = source_of source.text.now source.inlays.now source.folds.now
+seen source = listed_source source.text.now source.inlays.now source.folds.now
 
 -- by a number that doesn't fall
 abbrev pub AreInOrder : {X : Type 0} → (X → ℕ) → List X → Type 0
 AreInOrder key xs = AllPairs (λ x y. key x ≤ key y) xs
 
--- A text of which inlays and folds are in order, stand between characters and are within the limits. No inlay is empty, no
--- two have one id, and no fold is empty.
+-- What laying out uses of a well-formed source: inlays and folds are in order, stand between characters and are within the
+-- limits; no inlay is empty, no two have one id, and no fold is empty.
 pub record IsLawfulSource (source : Source) : Type 0 where
   pub text : IsText source.text
   pub text_size : length source.text ≤ 33554432
@@ -78,40 +78,60 @@ is_end (Feed offset) = true
 is_end (InlayFeed number offset) = true
 is_end _ = false
 
--- the second goes on where the first ends, and is not of one piece with it
-abbrev pub AreApart : Part → Part → Type 0
-AreApart (Buffer _ _) (Buffer _ _) = ⊥
-AreApart (Inlay number _ _ _) (Inlay other _ _ _) = number < other
-AreApart _ _ = Unit {0}
+abbrev pub is_buffer : Part → Bool
+is_buffer (Buffer start end) = true
+is_buffer _ = false
 
-abbrev pub Follows : Part → Part → Type 0
-Follows p q = (part_end p ≡ part_start q) × AreApart p q
+-- the number of the first inlay that may stand behind the part
+abbrev pub next_inlay : Part → ℕ
+next_inlay (Inlay number offset start end) = number + 1
+next_inlay _ = 0
 
--- each part follows the one before it
+-- a part is not of one piece with the one before it
+abbrev pub IsApart : Part → Part → Type 0
+IsApart p (Buffer start end) = is_buffer p ≡ false
+IsApart p (Inlay number offset start end) = next_inlay p ≤ number
+IsApart p _ = Unit {0}
+
+-- each part goes on where the one before it ends
 abbrev pub IsChain : Part → List Part → Type 0
 IsChain p [] = Unit {0}
-IsChain p (q ∷ qs) = Follows p q × IsChain q qs
+IsChain p (q ∷ qs) = (part_end p ≡ part_start q) × IsApart p q × IsChain q qs
 
 -- what stands before the first part
 abbrev pub before_all : Part
 before_all = InlayFeed 0 0
 
--- neither a line feed nor a carriage return
-abbrev pub HasNoBreak : List ℕ → Type 0
-HasNoBreak bytes = All (λ b. (is_feed b ≡ false) × (b ≢ carriage_return)) bytes
+abbrev pub last_part : Part → List Part → Part
+last_part p [] = p
+last_part p (q ∷ qs) = last_part q qs
 
--- the part is some characters of its text, without a break
+abbrev pub is_return : ℕ → Bool
+is_return b = b == carriage_return
+
+-- a line feed or a carriage return
+abbrev pub is_break : ℕ → Bool
+is_break b = is_feed b || is_return b
+
+-- some characters of a text without a break
+pub record IsRun (text : List ℕ) (start end : ℕ) : Type 0 where
+  pub some : start < end
+  pub starts : IsCharBoundary text start
+  pub ends : IsCharBoundary text end
+  pub whole : prefix_len (λ b. not (is_break b)) (slice_range text start end) ≡ end - start
+
+-- the part lies within its text
 abbrev pub Lies : Source → Part → Type 0
-Lies source (Buffer start end) =
-    (start < end) × IsBoundary source.text start × IsBoundary source.text end
-    × HasNoBreak (slice_range source.text start end)
+Lies source (Buffer start end) = IsRun source.text start end
 Lies source (Inlay number offset start end) =
-    let text = (inlay_at source number).text in
-    (number < length source.inlays) × (start < end) × IsBoundary text start × IsBoundary text end
-    × HasNoBreak (slice_range text start end)
+    (number < length source.inlays) × IsRun (inlay_at source number).text start end
 Lies source (Placeholder start end) = start < end
 Lies source (Feed offset) = Unit {0}
-Lies source (InlayFeed number offset) = number < length source.inlays
+Lies source (InlayFeed number offset) = Unit {0}
+
+abbrev pub EachLies : Source → List Part → Type 0
+EachLies source [] = Unit {0}
+EachLies source (p ∷ ps) = Lies source p × EachLies source ps
 
 -- ---- lines
 
@@ -123,17 +143,26 @@ pub record LaidOut : Type 0 where
 abbrev pub joined_folds : List Joined → List records.Fold
 joined_folds joined = map (λ j. record { start = j.start; end = j.end; id = 0 }) joined
 
--- disjoint ranges in order, none empty, which hide what the folds hide
+-- ranges in order from an offset on, disjoint and none empty
+abbrev pub AreRanges : ℕ → List Joined → Type 0
+AreRanges o [] = Unit {0}
+AreRanges o (j ∷ js) = (o ≤ j.start) × (j.start < j.end) × AreRanges j.end js
+
+-- such ranges hide what the folds hide
 pub record Joins (folds : List records.Fold) (joined : List Joined) : Type 0 where
-  pub some : All (λ (j : Joined). j.start < j.end) joined
-  pub apart : AllPairs (λ (i j : Joined). i.end ≤ j.start) joined
+  pub apart : AreRanges 0 joined
   pub inside_same : (o : ℕ) → inside (joined_folds joined) o ≡ inside folds o
   pub covered_same : (o : ℕ) → covered (joined_folds joined) o ≡ covered folds o
 
--- the parts show what the text shows with its inlays and folds
+-- the parts are one chain of all that the text shows with its inlays and folds
+pub record AreShown (source : Source) (parts : List Part) : Type 0 where
+  pub shows : flat_map (part_tokens source) parts ≡ folded source.text source.inlays source.folds
+  pub lie : EachLies source parts
+  pub chain : IsChain before_all parts
+  pub closed : is_end (last_part before_all parts) ≡ true
+
+-- what is laid out are the display lines of the source
 pub record AreLinesOf (source : Source) (laid : LaidOut) : Type 0 where
   pub lawful : IsLawfulSource source
-  pub shows : flat_map (part_tokens source) laid.parts ≡ folded source.text source.inlays source.folds
-  pub lie : All (Lies source) laid.parts
-  pub chain : IsChain before_all laid.parts
+  pub shown : AreShown source laid.parts
   pub joins : Joins source.folds laid.joined

@@ -17,10 +17,10 @@ IsLeast spots s = Contains spots s × All (λ t. IsTrue (spot_le s t)) spots
 abbrev pub IsGreatest : List Spot → Spot → Type 0
 IsGreatest spots s = Contains spots s × All (λ t. IsTrue (spot_le t s)) spots
 
--- where a valid spot is at or before d, the nearest one is too, and is the greatest such
-abbrev pub IsNearestBefore : Record → Spot → Spot → Type 0
-IsNearestBefore r d nearest =
-    (s : Spot) → IsValidSpot r s → IsTrue (spot_le s d) → IsTrue (spot_le nearest d) × IsTrue (spot_le s nearest)
+-- what Left takes: the greatest at or before d; where there is none, the least
+pub data IsNearestBefore (spots : List Spot) (d : Spot) : Spot → Type 0 where
+  GreatestBefore : (s : Spot) → Contains spots s → IsTrue (spot_le s d) → ((t : Spot) → Contains spots t → IsTrue (spot_le t d) → IsTrue (spot_le t s)) → IsNearestBefore spots d s
+  LeastOfAll : (s : Spot) → IsLeast spots s → ((t : Spot) → Contains spots t → spot_le t d ≡ false) → IsNearestBefore spots d s
 
 -- d is past each spot of its row
 abbrev pub IsPastRow : List Spot → Spot → Type 0

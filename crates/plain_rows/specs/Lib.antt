@@ -2,6 +2,6 @@ pub mod Rows
 pub mod Spots
 pub mod Worked
 pub mod Laws
-pub mod Lawful
 pub mod Plain
 pub mod FoldedLines
+pub mod inside

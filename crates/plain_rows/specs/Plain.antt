@@ -20,8 +20,8 @@ abbrev pub block_of : PlainBlock → Block
 block_of b = record { offset = b.offset; id = b.id; side = b.side; lines = b.lines.items }
 
 -- a text with inlays in it and folds over it
-abbrev pub source_of : List ℕ → List PlainInlay → List PlainFold → Source
-source_of text inlays folds =
+abbrev pub listed_source : List ℕ → List PlainInlay → List PlainFold → Source
+listed_source text inlays folds =
     record { text = text; inlays = map inlay_of inlays; folds = map fold_of folds }
 
 -- no row, spot or offset depends on stamps: here they count the lines

@@ -1,14 +1,19 @@
 //! The display lines of a text with inlays in it and folds over it, laid out without a copy of the text.
-ghost use Rattle.std.specs.Prelude.{◌≡◌, ◌<◌, ◌≤◌, Some, length, map, slice_get, IfOk};
+ghost use Rattle.std.specs.Prelude.{◌≡◌, ◌^◌, ◌<◌, ◌≤◌, Some, [], All, count_by, filter, length, map, slice_get, slice_index_or, sum_by, IfOk};
+ghost use Rattle.cell_units.specs.Cutting.{cut_lines};
+ghost use Rattle.cell_units.specs.Inlaid.{placeholder};
 ghost use Rattle.cell_units.specs.Folded.{line_of, place_in_line};
+ghost use Rattle.cell_units.specs.Lawful.{IsWellFormed};
 ghost use Rattle.cell_units.specs.Layers.{Source, shown_lines};
-ghost use Rattle.cell_units.specs.Record.{Record};
-ghost use Rattle.plain_rows.specs.FoldedLines.{AreLinesOf, AreInOrder, IsLawfulSource, seen};
-ghost use Rattle.plain_rows.specs.Plain.{block_of};
-ghost use Rattle.plain_rows.specs.Rows.{line_of_block};
+ghost use Rattle.plain_rows.specs.FoldedLines.{AreLinesOf, IsLawfulSource, Lies, is_end, seen};
+ghost use Rattle.plain_rows.specs.inside.PartPieces.{IsLaidOut, ends_from, line_from, piece_in};
+ghost use Rattle.plain_rows.specs.inside.Passed.{IsAround, IsSamePlace, part_bytes, part_passed, passed_bytes};
 
-use crate::plain::{PlainBlock, PlainFold, PlainInlay};
-use cell_units::{Bias, NoMemory, Piece};
+use crate::joining::joined_folds;
+use crate::laying::lay_out;
+use crate::plain::{PlainFold, PlainInlay};
+use cell_units::limits::TEXT_LIMIT;
+use cell_units::{Bias, NoMemory, Piece, PieceKind, Text};
 use std::alloc::Global;
 use std::marker::Model;
 
@@ -58,12 +63,184 @@ pub struct Joined {
     pub end: u32,
 }
 
+/// A line's end, with the number of the parts up to it.
+#[derive(Clone, Copy)]
+pub struct LineEnd {
+    pub parts: usize,
+    pub feed: Part,
+}
+
+impl Part {
+    /// Whether it is the end of a line.
+    fn is_end(&self) -> bool
+        ensures { result ≡ is_end self.now }
+    {
+        matches!(self, Part::Feed { .. } | Part::InlayFeed { .. })
+    }
+
+    /// Whether it begins before the position, which is not strictly inside a joined fold.
+    fn is_passed(&self, offset: u32, bias: Bias) -> bool
+        ensures { result ≡ part_passed offset bias self.now }
+    {
+        match self {
+            Part::Buffer { start, .. } | Part::Placeholder { start, .. } => *start < offset,
+            Part::Feed { offset: at } => *at < offset,
+            Part::Inlay { offset: at, .. } | Part::InlayFeed { offset: at, .. } => {
+                *at < offset || (*at == offset && bias == Bias::Right)
+            }
+        }
+    }
+
+    /// How many of its bytes stand before the position, which is not strictly inside a joined fold.
+    fn passed_bytes(&self, offset: u32, bias: Bias) -> u32
+        ensures value { result ≡ passed_bytes offset bias self.now }
+        ensures most { result ≤ part_bytes self.now }
+    {
+        if !self.is_passed(offset, bias) {
+            return 0;
+        }
+        match self {
+            Part::Buffer { start, end } => offset.min(*end).saturating_sub(*start),
+            Part::Inlay { start, end, .. } => end.saturating_sub(*start),
+            Part::Placeholder { .. } => 3,
+            Part::Feed { .. } | Part::InlayFeed { .. } => 1,
+        }
+    }
+}
+
+/// Of each line its end.
+fn line_ends(alloc: Global, parts: &[Part]) -> Result<Vec<LineEnd>, NoMemory>
+    ensures { IfOk result (λ ends. ends.items ≡ ends_from 0 parts.now) }
+{
+    let mut ends = Vec::new(alloc);
+    for (i, part) in parts.iter().enumerate() {
+        if part.is_end() {
+            ends.push(LineEnd {
+                parts: i + 1,
+                feed: *part,
+            })?;
+        }
+    }
+    Ok(ends)
+}
+
+/// How many bytes of the parts stand before the position, which is not strictly inside a joined fold.
+fn bytes_before(parts: &[Part], offset: u32, bias: Bias) -> u32
+    requires { sum_by part_bytes parts.now < 2 ^ 32 }
+    ensures { result ≡ sum_by (passed_bytes offset bias) parts.now }
+{
+    let mut bytes = 0;
+    for part in parts {
+        bytes += part.passed_bytes(offset, bias);
+    }
+    bytes
+}
+
+/// The piece that a part is.
+fn piece(alloc: Global, source: &PlainSource, part: &Part) -> Result<Piece, NoMemory>
+    requires lawful { IsLawfulSource (seen source.now) }
+    requires lies { Lies (seen source.now) part.now }
+    ensures { IfOk result (λ piece. piece ≡ piece_in (seen source.now) part.now) }
+{
+    match part {
+        Part::Buffer { start, end } => {
+            buffer_piece(
+                alloc,
+                &source.text[*start as usize..*end as usize],
+                *start,
+                *end,
+            )
+        }
+        Part::Inlay {
+            number,
+            offset,
+            start,
+            end,
+        } => {
+            let text = source.inlays[*number as usize].text.as_str();
+            inlay_piece(alloc, &text[*start as usize..*end as usize], *offset)
+        }
+        Part::Placeholder { start, end } => placeholder_piece(alloc, *start, *end),
+        Part::Feed { offset } => buffer_piece(alloc, "", *offset, *offset),
+        Part::InlayFeed { offset, .. } => inlay_piece(alloc, "", *offset),
+    }
+}
+
+/// Bytes of the buffer as a piece.
+fn buffer_piece(alloc: Global, text: &str, start: u32, end: u32) -> Result<Piece, NoMemory>
+    ensures { IfOk result (λ piece. piece ≡ record { kind = PieceKind.Buffer; text = text.now; start = start; end = end }) }
+{
+    Ok(Piece {
+        kind: PieceKind::Buffer,
+        text: Text::from_str(alloc, text)?,
+        start,
+        end,
+    })
+}
+
+/// A part of an inlay at the offset as a piece.
+fn inlay_piece(alloc: Global, text: &str, offset: u32) -> Result<Piece, NoMemory>
+    ensures { IfOk result (λ piece. piece ≡ record { kind = PieceKind.Inlay; text = text.now; start = offset; end = offset }) }
+{
+    Ok(Piece {
+        kind: PieceKind::Inlay,
+        text: Text::from_str(alloc, text)?,
+        start: offset,
+        end: offset,
+    })
+}
+
+/// A placeholder as a piece.
+fn placeholder_piece(alloc: Global, start: u32, end: u32) -> Result<Piece, NoMemory>
+    ensures { IfOk result (λ piece. piece ≡ record { kind = PieceKind.Placeholder; text = placeholder; start = start; end = end }) }
+{
+    Ok(Piece {
+        kind: PieceKind::Placeholder,
+        text: Text::from_str(alloc, "\u{22ef}")?,
+        start,
+        end,
+    })
+}
+
+/// How many parts stand before the line of this number.
+fn line_start(ends: &[LineEnd], line: usize) -> usize
+    requires { line ≤ length ends.now }
+    ensures { result ≡ line_from 0 ends.now line }
+{
+    if line == 0 { 0 } else { ends[line - 1].parts }
+}
+
+/// The parts of the line of this number with its end; none past the last line.
+fn line_parts<'a>(parts: &'a [Part], ends: &[LineEnd], line: usize) -> &'a [Part]
+    requires laid { IsLaidOut parts.now ends.now }
+    ensures parts { result.now ≡ slice_index_or (cut_lines is_end parts.now) line [] }
+    ensures size { sum_by part_bytes result.now < 2 ^ 32 }
+{
+    if line >= ends.len() {
+        return &[];
+    }
+    let start = line_start(ends, line);
+    &parts[start..ends[line].parts]
+}
+
+/// The pieces that parts are.
+fn line_pieces(alloc: Global, source: &PlainSource, parts: &[Part]) -> Result<Vec<Piece>, NoMemory>
+    requires lawful { IsLawfulSource (seen source.now) }
+    requires lie { All (Lies (seen source.now)) parts.now }
+    ensures { IfOk result (λ pieces. pieces.items ≡ map (piece_in (seen source.now)) parts.now) }
+{
+    let mut pieces = Vec::new(alloc);
+    for part in parts {
+        pieces.push(piece(alloc, source, part)?)?;
+    }
+    Ok(pieces)
+}
+
 /// The display lines of a text with inlays and folds. Each is a run of parts, which are ranges: no byte is copied.
 #[derive(Drop)]
 pub struct FoldedLines {
     parts: Vec<Part>,
-    /// Of each line the number of parts up to its end.
-    ends: Vec<usize>,
+    ends: Vec<LineEnd>,
     joined: Vec<Joined>,
 }
 
@@ -72,66 +249,112 @@ impl Model for FoldedLines {
 
     ghost Value = { LaidOut };
 
+    ghost use Rattle.plain_rows.specs.inside.PartPieces.{IsLaidOut};
+
     ghost view = { λ l. record { parts = l.parts.items; joined = l.joined.items } };
+
+    ghost invariant = { λ l. IsLaidOut l.parts.items l.ends.items };
 }
 
 impl FoldedLines {
     /// Lays out the display lines of the source, in one pass over text, inlays and folds.
-    pub fn new(_alloc: Global, _source: &PlainSource) -> Result<FoldedLines, NoMemory>
-        requires { IsLawfulSource (seen _source.now) }
-        ensures { IfOk result (λ lines. AreLinesOf (seen _source.now) lines) }
+    pub fn new(alloc: Global, source: &PlainSource) -> Result<FoldedLines, NoMemory>
+        requires formed { IsWellFormed (seen source.now) }
+        requires size { length source.now.text.now ≤ TEXT_LIMIT }
+        ensures { IfOk result (λ lines. AreLinesOf (seen source.now) lines) }
     {
-        Err(NoMemory)
+        let joined = joined_folds(alloc, source.folds)?;
+        let parts = lay_out(alloc, source, joined.as_slice())?;
+        let ends = line_ends(alloc, parts.as_slice())?;
+        Ok(FoldedLines {
+            parts,
+            ends,
+            joined,
+        })
     }
 
     /// How many display lines there are.
-    pub fn lines(&self) -> Result<u32, NoMemory>
-        ensures { IfOk result (λ lines. (source : Source) → AreLinesOf source self.now → lines ≡ length (shown_lines source)) }
+    pub fn lines(&self) -> u32
+        ensures { (source : Source) → AreLinesOf source self.now → result ≡ length (shown_lines source) }
     {
-        Err(NoMemory)
+        self.ends.len() as u32
+    }
+
+    /// The parts of the line of this number, of which the last is its end; none past the last line.
+    fn line(&self, line: usize) -> &[Part]
+        ensures parts { result.now ≡ slice_index_or (cut_lines is_end self.now.parts) line [] }
+        ensures size { sum_by part_bytes result.now < 2 ^ 32 }
+    {
+        line_parts(self.parts.as_slice(), self.ends.as_slice(), line)
     }
 
     /// The pieces of a display line of the source that was laid out.
     pub fn pieces(
         &self,
-        _alloc: Global,
-        _source: &PlainSource,
-        _line: u32,
+        alloc: Global,
+        source: &PlainSource,
+        line: u32,
     ) -> Result<Vec<Piece>, NoMemory>
-        requires lines { AreLinesOf (seen _source.now) self.now }
-        requires within { _line < length (shown_lines (seen _source.now)) }
-        ensures { IfOk result (λ pieces. slice_get (shown_lines (seen _source.now)) _line ≡ Some pieces.items) }
+        requires lines { AreLinesOf (seen source.now) self.now }
+        requires within { line < length (shown_lines (seen source.now)) }
+        ensures { IfOk result (λ pieces. slice_get (shown_lines (seen source.now)) line ≡ Some pieces.items) }
     {
-        Err(NoMemory)
+        let parts = self.line(line as usize);
+        line_pieces(alloc, source, &parts[..parts.len() - 1])
+    }
+
+    /// The joined fold that an offset is strictly inside.
+    fn fold_around(&self, offset: u32) -> Option<Joined>
+        ensures { (source : Source) → AreLinesOf source self.now → IsAround source offset result }
+    {
+        let joined = self.joined.as_slice();
+        let index = joined.partition_point(|fold| fold.end <= offset);
+        if index < joined.len() && joined[index].start < offset {
+            return Some(joined[index]);
+        }
+        None
+    }
+
+    /// The position that stands at the same place and is not strictly inside a joined fold: one inside is at its
+    /// placeholder's start (Left) or end (Right).
+    fn outside(&self, offset: u32, bias: Bias) -> (u32, Bias)
+        ensures { (source : Source) → AreLinesOf source self.now → offset ≤ length source.text →
+            IsSamePlace source offset bias result.0 result.1 }
+    {
+        let Some(fold) = self.fold_around(offset) else {
+            return (offset, bias);
+        };
+        match bias {
+            Bias::Left => (fold.start, Bias::Right),
+            Bias::Right => (fold.end, Bias::Left),
+        }
+    }
+
+    /// How many lines end before the position, which is not strictly inside a joined fold.
+    fn lines_before(&self, offset: u32, bias: Bias) -> usize
+        ensures count { (source : Source) → AreLinesOf source self.now →
+            result ≡ count_by (part_passed offset bias) (filter is_end self.now.parts) }
+        ensures fits { result < 2 ^ 32 }
+    {
+        let ends = self.ends.as_slice();
+        ends.partition_point(|end| end.feed.is_passed(offset, bias))
     }
 
     /// The display line that holds a position.
-    pub fn line_of(&self, _offset: u32, _bias: Bias) -> Result<u32, NoMemory>
-        ensures { IfOk result (λ line. (source : Source) → AreLinesOf source self.now → _offset ≤ length source.text →
-            line ≡ line_of source.text source.inlays source.folds _offset _bias) }
+    pub fn line_of(&self, offset: u32, bias: Bias) -> u32
+        ensures { (source : Source) → AreLinesOf source self.now → offset ≤ length source.text →
+            result ≡ line_of source.text source.inlays source.folds offset bias }
     {
-        Err(NoMemory)
+        let (offset, bias) = self.outside(offset, bias);
+        self.lines_before(offset, bias) as u32
     }
 
     /// How many bytes of its display line stand before a position.
-    pub fn place_in_line(&self, _offset: u32, _bias: Bias) -> Result<u32, NoMemory>
-        ensures { IfOk result (λ place. (source : Source) → AreLinesOf source self.now → _offset ≤ length source.text →
-            place ≡ place_in_line source.text source.inlays source.folds _offset _bias) }
+    pub fn place_in_line(&self, offset: u32, bias: Bias) -> u32
+        ensures { (source : Source) → AreLinesOf source self.now → offset ≤ length source.text →
+            result ≡ place_in_line source.text source.inlays source.folds offset bias }
     {
-        Err(NoMemory)
-    }
-
-    /// The display line of each block, in one pass over text and blocks.
-    pub fn block_lines(
-        &self,
-        _alloc: Global,
-        _text: &str,
-        _blocks: &[PlainBlock],
-    ) -> Result<Vec<u32>, NoMemory>
-        requires in_order { AreInOrder (λ (b : PlainBlock). b.offset) _blocks.now }
-        ensures { IfOk result (λ lines. (r : Record) → AreLinesOf (record { text = r.text; inlays = r.inlays; folds = r.folds }) self.now →
-            r.text ≡ _text.now → lines.items ≡ map (λ b. line_of_block r (block_of b)) _blocks.now) }
-    {
-        Err(NoMemory)
+        let (offset, bias) = self.outside(offset, bias);
+        bytes_before(self.line(self.lines_before(offset, bias)), offset, bias)
     }
 }

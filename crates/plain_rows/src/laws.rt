@@ -14,7 +14,7 @@ pub fn spot_laws()
     ensures clip_is_valid { (r : Record) (d : Spot) (bias : Bias) → IsValidSpot r (clip r d bias) }
     ensures valid_is_own_clip { (r : Record) (s : Spot) (bias : Bias) → IsValidSpot r s → clip r s bias ≡ s }
     ensures clip_once { (r : Record) (d : Spot) (bias later : Bias) → clip r (clip r d bias) later ≡ clip r d bias }
-    ensures nearest_before { (r : Record) (d : Spot) → IsNearestBefore r d (clip r d Left) }
+    ensures nearest_before { (r : Record) (d : Spot) → IsNearestBefore (valid_spots r) d (clip r d Left) }
     ensures nearest_after { (r : Record) (d : Spot) → IsNearestAfter (valid_spots r) d (clip r d Right) }
     ensures clip_rises { (r : Record) (d e : Spot) (bias : Bias) → IsTrue (spot_le d e) → IsTrue (spot_le (clip r d bias) (clip r e bias)) }
 {}

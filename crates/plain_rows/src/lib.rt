@@ -5,8 +5,11 @@
 //! as theorems.
 #![tactic(auto)]
 
+mod block_lines;
 pub mod folded_lines;
+mod joining;
 pub mod laws;
+mod laying;
 pub mod plain;
 pub mod rows;
 pub mod spots;

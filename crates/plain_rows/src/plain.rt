@@ -1,4 +1,9 @@
 //! A record as plain lists: what a sequence of commands has made of a text.
+ghost use Rattle.std.specs.Prelude.{◌≡◌};
+ghost use Rattle.plain_rows.specs.FoldedLines.{seen};
+ghost use Rattle.plain_rows.specs.Plain.{listed_source};
+
+use crate::folded_lines::PlainSource;
 use cell_units::{Bias, Side, Text};
 
 /// A text in the text, shown at its offset.
@@ -39,4 +44,17 @@ pub struct Plain {
     pub tab: u32,
     pub width: u32,
     pub marks: Vec<u32>,
+}
+
+impl Plain {
+    /// What is shown but for the blocks, lent.
+    pub(crate) fn source(&self) -> PlainSource<'_>
+        ensures { seen result ≡ listed_source self.now.text self.now.inlays.items self.now.folds.items }
+    {
+        PlainSource {
+            text: self.text.as_str(),
+            inlays: &self.inlays,
+            folds: &self.folds,
+        }
+    }
 }

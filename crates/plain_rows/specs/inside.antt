@@ -1,0 +1,6 @@
+-- What the parts of the crate say to each other.
+pub mod Laying
+pub mod Passed
+pub mod PartPieces
+pub mod BlockRows
+pub mod BuiltRows
