@@ -8,6 +8,6 @@ pub mod LineLaws
 pub mod WorkedRows
 pub mod Quiet
 pub mod Seam
-pub mod Bare
-pub mod Marks
 pub mod RowTexts
+pub mod Walks
+pub mod RowEnds

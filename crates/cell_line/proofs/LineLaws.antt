@@ -1,13 +1,12 @@
 -- The laws of specs/Laws.antt.
-use Rattle.std.proofs.Common.{◌≡◌, ℕ, ◌+◌, ◌-◌, ◌<◌, ◌≤◌, ◌⊎◌, All, map, inl, inr, Bool, true, false, List, [], ◌∷◌, zero, suc, length, take, get_or, nat_lt, cond, unwrap_or, Option, Some, None, zero-add, add-zero, refl, ap, sym, ◌∙◌, arith}
+use Rattle.std.proofs.Common.{◌≡◌, ℕ, ◌+◌, ◌-◌, ◌<◌, ◌≤◌, ◌⊎◌, All, map, inl, inr, Bool, List, [], ◌∷◌, zero, suc, length, take, get_or, unwrap_or, Option, Some, None, zero-add, add-zero, refl, ap, sym, ◌∙◌, arith}
 use Rattle.std.proofs.lemmas.Bool.{cases_lt}
-use Rattle.std.proofs.lemmas.Bool.Decides.{nat_tests}
-use Rattle.std.proofs.Math.Nat.{eq-or-lt_of_le}
 use Rattle.cell_units.specs.declared.piece.Piece.{Piece}
 use Rattle.cell_line.specs.declared.element.Element.{Element}
 use Rattle.cell_line.specs.Elements.{is_tab, cells_of, placed, clusters, elements_of, total_cells}
 use Rattle.cell_line.specs.Wrapping.{nothing, greatest, ends_well, fits, indent_of, next_start_of, row_starts}
 use Rattle.cell_line.specs.Laws.{AreRowStarts, CellsFollowColumns, CutsAreRowStarts, IsGreatest, NonePasses, StartsWhereSaid, TextsAreClusters}
+use Rattle.cell_line.proofs.Greatest.{Greatest, greatest_is}
 use Rattle.cell_line.proofs.Placed.{total_cells-cons}
 use Rattle.cell_line.proofs.Rows.{cuts-on, next_start_within, row_starts-end, row_starts-suc}
 
@@ -29,41 +28,6 @@ pub columns_law : (pieces : List Piece) (tab : ℕ) → CellsFollowColumns piece
 columns_law pieces tab k lt =
     placed_columns tab 0 (clusters pieces) k lt
     ∙ ap (λ (n : ℕ). cells_of tab n (get_or (elements_of pieces tab) k nothing).text) (zero-add (total_cells (take k (elements_of pieces tab))))
-
-abbrev Greatest : (ℕ → Bool) → ℕ → ℕ → Option ℕ → Type 0
-Greatest test from to None = NonePasses test from to
-Greatest test from to (Some k) = IsGreatest test from to k
-
-one_more : (test : ℕ → Bool) (from to : ℕ) (o : Option ℕ) → ((from < suc to) → test (suc to) ≡ false) → Greatest test from to o → Greatest test from (suc to) o
-one_more test from to None fails h = λ j a b. elim (eq-or-lt_of_le b) [
-  | inl e ↦ ap test e ∙ fails (omega (arith, a, e))
-  | inr lt ↦ h j a (omega arith)
-]
-one_more test from to (Some k) fails h = (
-  h.0,
-  omega (arith, h.1),
-  h.2,
-  λ j a b. elim (eq-or-lt_of_le b) [
-    | inl e ↦ ap test e ∙ fails (omega (arith, a, h.0, e))
-    | inr lt ↦ h.3 j a (omega arith)
-  ],
-)
-
-greatest_is : (test : ℕ → Bool) (from to : ℕ) → Greatest test from to (greatest test from to)
-unfolding greatest
-greatest_is test from zero = λ j a b. absurd (omega (arith, a, b))
-greatest_is test from (suc to) = elim (cases_lt from (suc to)) [
-  | inl lt ↦
-      let front : nat_lt from (suc to) ≡ true = grind (arith, nat_tests) in
-      rw front (go lt (greatest_is test from to) (test (suc to)) refl)
-  | inr past ↦
-      let behind : nat_lt from (suc to) ≡ false = grind (arith, nat_tests) in
-      rw behind (one_more test from to (greatest test from to) (λ lt. absurd (omega (arith, lt, past))) (greatest_is test from to))
-]
-  where
-    go : from < suc to → Greatest test from to (greatest test from to) → (b : Bool) → test (suc to) ≡ b → Greatest test from (suc to) (cond b (Some (suc to)) (greatest test from to))
-    go lt below true e = (lt, omega arith, e, λ j a b. absurd (omega (arith, a, b)))
-    go lt below false e = one_more test from to (greatest test from to) (λ _. e) below
 
 choose : (p q : ℕ → Bool) (from to : ℕ) (o r : Option ℕ) → Greatest p from to o → Greatest q from to r →
     IsGreatest p from to (unwrap_or o (unwrap_or r (from + 1)))

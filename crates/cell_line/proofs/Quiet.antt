@@ -14,7 +14,7 @@ use Rattle.ucd_derived.specs.declared.IndicConjunctBreak.TheVariants as InCb
 use Rattle.ucd_derived.proofs.IndicConjunctBreakLemmas.{indic_conjunct_break_stepped}
 use Rattle.ucd_emoji.specs.Binary.{is_extended_pictographic}
 use Rattle.ucd_emoji.proofs.BinaryLemmas.{is_extended_pictographic_stepped}
-use Rattle.cell_line.specs.Simple.{is_simple}
+use Rattle.cell_line.specs.inside.Simple.{is_simple}
 
 -- a character that no rule of clusters looks past or joins to its like
 pub record IsQuiet (c : ℕ) : Type 0 where

@@ -17,7 +17,7 @@ use Rattle.unicode_segmentation.specs.Grapheme.{break_by_pair, ends_in_linker, i
 use Rattle.unicode_segmentation.proofs.GraphemeLemmas.{is_grapheme_break-others}
 use Rattle.unicode_segmentation.proofs.SegmentsLemmas.{attach}
 use Rattle.unicode_segmentation.proofs.TextLemmas.{slice_range_split}
-use Rattle.cell_line.specs.Simple.{IsSeam}
+use Rattle.cell_line.specs.inside.Simple.{IsSeam}
 use Rattle.cell_line.proofs.Quiet.{IsQuiet, simple_is_quiet}
 
 -- ---- the rule of clusters at a quiet character
@@ -188,12 +188,12 @@ graphemes_one a h =
 
 -- ---- the same in terms of places in a text
 
-chars-none : graphemes true [] ≡ []
+pub graphemes_none : graphemes true [] ≡ []
 unfolding segments cut
-chars-none = ap (λ cs. map encode_utf8_all (cut (is_grapheme_break true) [] cs [])) chars-nil
+graphemes_none = ap (λ cs. map encode_utf8_all (cut (is_grapheme_break true) [] cs [])) chars-nil
 
 pub no_graphemes : (text : List ℕ) (at : ℕ) → length text ≤ at → graphemes true (drop at text) ≡ []
-no_graphemes text at le = ap (graphemes true) (drop_all at text le) ∙ chars-none
+no_graphemes text at le = ap (graphemes true) (drop_all at text le) ∙ graphemes_none
 
 pub seam_boundary : (text : List ℕ) (from at : ℕ) → IsUtf8 text → IsSeam text from at → IsCharBoundary text at
 seam_boundary text from at u s =

@@ -3,6 +3,5 @@ pub mod Wrapping
 pub mod Lines
 pub mod Laws
 pub mod Worked
-pub mod Simple
-pub mod Bare
 pub mod RowTexts
+pub mod inside

@@ -1,114 +1,101 @@
-//! Where a line of marks is cut, so that its rows fit a width.
-ghost use Rattle.std.specs.Prelude.{◌≡◌, ℕ, ◌+◌, ◌-◌, ◌*◌, ◌/◌, ◌^◌, ◌<◌, ◌≤◌, ◌↔◌, ◌&&◌, not, length, IsTrue, IfOk, true};
-ghost use Rattle.cell_line.specs.Elements.{total_cells};
+//! Where a line is cut, so that its rows fit a width: two walks along it, which keep no element.
+ghost use Rattle.std.specs.Prelude.{◌≡◌, ◌<◌, ◌≤◌, ◌++◌, drop, length, IfNone, IfOk, IfSome, OnOk};
+ghost use Rattle.cell_line.specs.Lines.{LineFitsU32};
 ghost use Rattle.cell_units.specs.Lawful.{IsWidth};
-ghost use Rattle.cell_line.specs.Wrapping.{is_blank, may_part, lead_of, indent_of, is_opportunity, next_start_of, cuts_of};
+ghost use Rattle.cell_line.specs.Wrapping.{cuts_of, lead_of, next_start_of, row_starts};
+ghost use Rattle.cell_line.specs.inside.Marks.{left_of, IsLead};
 
-use crate::mark::Mark;
+use crate::filling::{Row, begin, fill, overflows};
+use crate::mark::{Lead, Walk};
 use crate::wrapping::Cuts;
 use cell_units::NoMemory;
 use smallvec::SmallVec;
 use std::alloc::Global;
 
-/// Whether a row may end between the two neighbors: before what is no blank, after a blank or beside a wide element.
-fn may_part(before: &Mark, after: &Mark) -> bool
-    ensures { result ≡ may_part before.now after.now }
+/// Where the row after the first begins. None comes only where no row follows.
+fn first_end(mut walk: Walk, lead: u32, room: u32) -> Option<u32>
+    requires fits { LineFitsU32 (left_of walk) }
+    requires lead { lead ≡ lead_of (left_of walk) }
+    requires some { lead < length (left_of walk) }
+    ensures some { IfSome result (λ end. end ≡ next_start_of (left_of walk.entry) room 0) }
+    ensures none { IfNone result (length (left_of walk.entry) ≤ next_start_of (left_of walk.entry) room 0) }
 {
-    !after.is_blank() && (before.is_blank() || before.is_wide() || after.is_wide())
-}
-
-/// How many blanks lead the line.
-fn lead(marks: &[Mark]) -> usize
-    ensures { result ≡ lead_of marks.now }
-{
-    marks.iter().take_while(|m| m.is_blank()).count()
-}
-
-/// The cells of all the marks.
-fn total(marks: &[Mark]) -> u32
-    requires { total_cells marks.now < 2 ^ 32 }
-    ensures { result ≡ total_cells marks.now }
-{
-    marks.iter().map(|m| m.cells()).sum()
-}
-
-/// The cells by which the line's rows after the first are indented at the width.
-fn indent(marks: &[Mark], width: u32) -> u32
-    requires fits { total_cells marks.now < 2 ^ 32 }
-    requires lawful { IsWidth width }
-    ensures { result ≡ indent_of marks.now width }
-{
-    let lead = lead(marks);
-    if lead == marks.len() {
-        return 0;
-    }
-    let cells = total(&marks[..lead]);
-    if cells <= width / 2 { cells } else { 0 }
-}
-
-/// Whether a row may end before the mark of this number: at the line's end, or past the leading blanks between two
-/// that may part.
-fn is_opportunity(marks: &[Mark], lead: usize, place: usize) -> bool
-    requires lead { lead ≡ lead_of marks.now }
-    requires from { 0 < place }
-    requires within { place ≤ length marks.now }
-    ensures { result ≡ is_opportunity marks.now place }
-{
-    place == marks.len() || (lead < place && may_part(&marks[place - 1], &marks[place]))
-}
-
-/// Whether the mark may hang past the edge: it is a blank, and none that leads the line.
-fn may_hang(mark: &Mark, leads: bool) -> bool
-    ensures { result ≡ (is_blank mark.now && not leads) }
-{
-    mark.is_blank() && !leads
-}
-
-/// Where the row after that from `start` begins. One scan, which stops at the first mark that overflows the room and
-/// may not hang: past it no row fits. Blanks that lead the line stop it too, so that a long lead isn't scanned for each
-/// of its rows.
-fn next_start(marks: &[Mark], lead: usize, room: u32, start: usize) -> usize
-    requires fits { total_cells marks.now < 2 ^ 32 }
-    requires lead { lead ≡ lead_of marks.now }
-    requires not_blank { lead < length marks.now }
-    requires within { start < length marks.now }
-    ensures { result ≡ next_start_of marks.now room start }
-{
-    let mut cells = 0;
-    let mut well = None;
-    let mut whole = None;
-    for i in start..marks.len() {
-        let mark = &marks[i];
-        cells += mark.cells();
-        if cells <= room {
-            whole = Some(i + 1);
-        } else if !may_hang(mark, i < lead) {
-            return well.unwrap_or(whole.unwrap_or(start + 1));
+    let mut row = Row::at(0);
+    let mut at = 0;
+    let mut parts = false;
+    'line: while let Some(mark) = walk.next_mark() {
+        row = row.asked(lead, at, parts, mark);
+        if overflows(room, lead, at, row.cells, mark) {
+            return Some(row.end(at));
         }
-        if is_opportunity(marks, lead, i + 1) {
-            well = Some(i + 1);
-        }
+        row = row.with(mark);
+        parts = mark.parts_after();
+        at += 1;
     }
-    marks.len()
+    None
 }
 
-/// The places where the line is cut, so that its rows fit the width.
-pub(crate) fn mark_cuts(alloc: Global, marks: &[Mark], width: u32) -> Result<Cuts, NoMemory>
-    requires fits { total_cells marks.now < 2 ^ 32 }
-    requires count { length marks.now < 2 ^ 32 }
+/// Passes over so many elements.
+pub(crate) fn skip(walk: &mut Walk, count: u32)
+    requires { count ≤ length (left_of walk.old) }
+    ensures { left_of walk.new ≡ drop count (left_of walk.old) }
+{
+    for _ in 0..count {
+        let _ = walk.next();
+    }
+}
+
+/// Adds the starts of the rows from the one on that begins with the element of this number.
+fn push_starts(
+    starts: &mut Cuts,
+    mut walk: Walk,
+    lead: u32,
+    room: u32,
+    from: u32,
+) -> Result<(), NoMemory>
+    requires fits { LineFitsU32 (left_of walk) }
+    requires lead { lead ≡ lead_of (left_of walk) }
+    requires some { lead < length (left_of walk) }
+    requires within { from ≤ length (left_of walk) }
+    ensures { OnOk result (starts.new.items ≡ starts.old.items ++ row_starts (left_of walk.entry) room (length (left_of walk.entry)) from) }
+{
+    skip(&mut walk, from);
+    let mut row = Row::at(from);
+    let mut at = from;
+    let mut parts = false;
+    'line: while let Some(mark) = walk.next_mark() {
+        begin(starts, row.start, at)?;
+        let asked = row.asked(lead, at, parts, mark);
+        row = fill(starts, asked, room, lead, at, mark)?;
+        parts = mark.parts_after();
+        at += 1;
+    }
+    Ok(())
+}
+
+/// The cuts of the line that both walks are to walk, and that these blanks lead.
+pub(crate) fn cuts_of_walks(
+    alloc: Global,
+    lead: Lead,
+    first: Walk,
+    later: Walk,
+    width: u32,
+) -> Result<Cuts, NoMemory>
+    requires fits { LineFitsU32 (left_of first) }
+    requires lead { IsLead (left_of first) lead }
+    requires same { left_of later ≡ left_of first }
     requires lawful { IsWidth width }
-    ensures { IfOk result (λ cuts. cuts.items ≡ cuts_of marks.now width) }
+    ensures { IfOk result (λ cuts. cuts.items ≡ cuts_of (left_of first.entry) width) }
 {
     let mut cuts = SmallVec::new(alloc);
-    let lead = lead(marks);
-    if width == 0 || lead == marks.len() {
+    if width == 0 || lead.alone {
         return Ok(cuts);
     }
-    let later = width - indent(marks, width);
-    let mut start = next_start(marks, lead, width, 0);
-    while start < marks.len() {
-        cuts.push(start as u32)?;
-        start = next_start(marks, lead, later, start);
-    }
+    let count = lead.count as u32;
+    let Some(end) = first_end(first, count, width) else {
+        return Ok(cuts);
+    };
+    let room = width - lead.indent(width);
+    push_starts(&mut cuts, later, count, room, end)?;
     Ok(cuts)
 }

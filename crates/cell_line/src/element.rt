@@ -1,11 +1,10 @@
 //! The elements of a display line: grapheme clusters with their cells.
-ghost use Rattle.std.specs.Prelude.{◌≡◌, ℕ, ◌+◌, ◌-◌, ◌%◌, ◌^◌, ◌<◌, ◌≤◌, ◌++◌, ◌↔◌, IsTrue, IfOk, true};
-ghost use Rattle.unicode_segmentation.specs.Grapheme.{graphemes};
-ghost use Rattle.cell_line.specs.Elements.{tab_cells_of, cells_of, is_tab, placed, elements_of, total_cells};
+ghost use Rattle.std.specs.Prelude.{◌≡◌, ◌+◌, ◌-◌, ◌%◌, ◌^◌, ◌<◌, ◌≤◌, IfOk};
+ghost use Rattle.cell_line.specs.Elements.{tab_cells_of, cells_of, elements_of, total_cells};
 
+use crate::walk::PieceWalk;
 use cell_units::{NoMemory, Piece, Text};
 use std::alloc::Global;
-use unicode_segmentation::UnicodeSegmentation;
 use unicode_width::UnicodeWidthStr;
 
 /// An extended grapheme cluster of a display line, with how many cells it takes there, and whether it is a tab.
@@ -44,32 +43,6 @@ pub(crate) fn cells(cluster: &str, tab: u32, column: u32) -> u32
     }
 }
 
-/// Appends the elements of a piece that `from` cells of its line precede, and answers the cells up to the piece's end.
-fn push_clusters(
-    alloc: Global,
-    elements: &mut Vec<Element>,
-    text: &str,
-    tab: u32,
-    from: u32,
-) -> Result<u32, NoMemory>
-    requires size { 0 < tab }
-    requires fits { from + total_cells (placed tab from (graphemes true text.now)) < 2 ^ 32 }
-    ensures items { IfOk result (λ _. elements.new.items ≡ elements.old.items ++ placed tab from (graphemes true text.now)) }
-    ensures end { IfOk result (λ end. end ≡ from + total_cells (placed tab from (graphemes true text.now))) }
-{
-    let mut column = from;
-    for cluster in text.graphemes(true) {
-        let cells = cells(cluster, tab, column);
-        elements.push(Element {
-            text: Text::from_str(alloc, cluster)?,
-            cells,
-            tab: cluster == "\t",
-        })?;
-        column += cells;
-    }
-    Ok(column)
-}
-
 /// The elements of the display line that the pieces make, at a tab size of 1 to 16 cells.
 ///
 /// They are the extended grapheme clusters of each piece in turn, so none crosses a piece's edge. A tab that `c` cells
@@ -81,9 +54,13 @@ pub fn elements(alloc: Global, pieces: &[Piece], tab: u32) -> Result<Vec<Element
     ensures { IfOk result (λ elements. elements.items ≡ elements_of pieces.now tab) }
 {
     let mut elements = Vec::new(alloc);
-    let mut column = 0;
-    for piece in pieces {
-        column = push_clusters(alloc, &mut elements, piece.text.as_str(), tab, column)?;
+    let mut walk = PieceWalk::new(pieces, tab);
+    'line: while let Some(lent) = walk.next() {
+        elements.push(Element {
+            text: Text::from_str(alloc, lent.text())?,
+            cells: lent.cells(),
+            tab: lent.is_tab(),
+        })?;
     }
     Ok(elements)
 }

@@ -8,10 +8,12 @@
 
 mod cutting;
 pub mod element;
+mod filling;
 pub mod laws;
 pub mod lines;
 mod mark;
 pub mod texts;
+mod walk;
 pub mod wrapping;
 
 pub use element::{Element, elements};

@@ -8,6 +8,8 @@ ghost use Rattle.cell_units.specs.Lawful.{IsWidth};
 ghost use Rattle.cell_line.specs.Wrapping.{cuts_of};
 
 use crate::element::Element;
+use crate::mark::{Lead, Walk};
+use crate::texts::row_texts_of_walk;
 use crate::wrapping::{Cuts, cuts};
 use cell_units::{NoMemory, Text};
 use std::alloc::Global;
@@ -63,7 +65,10 @@ pub trait Lines: Drop + Send + Sync {
         requires cut { cuts.now.items ≡ cuts_of (line_at (elements_by_line self.now) line) width }
         ensures { IfOk result (λ texts. texts.items ≡ take count (drop first (row_texts_of (line_at (elements_by_line self.now) line) width))) }
     {
-        Err(NoMemory)
+        let elements = self.elements(alloc, line)?;
+        let lead = Lead::of(Walk::Elements(elements.as_slice()));
+        let walk = Walk::Elements(elements.as_slice());
+        row_texts_of_walk(alloc, lead, walk, width, cuts.as_slice(), first, count)
     }
 
     /// An equal list of lines, which no later change of this one reaches. It takes no memory: `NoMemory` is one holder too many.
