@@ -24,3 +24,4 @@ pub mod BuiltRows
 pub mod LineSizes
 pub mod RowsOfLines
 pub mod PlainRecords
+pub mod RowCounts

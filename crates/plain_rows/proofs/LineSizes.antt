@@ -59,3 +59,9 @@ pieces-size s lawful k ps is =
       line-size (folded s.text s.inlays s.folds) k,
       folded-size s lawful,
     )
+
+-- what a read in the list gives
+pub read-some : {X : Type 0} (xs : List X) (k : ℕ) (d x : X) → slice_get xs k ≡ Some x → get_or xs k d ≡ x
+read-some [] k d x is = let none : None ≡ Some x = is in absurd (cc)
+read-some (y ∷ ys) zero d x is = let e : Some y ≡ Some x = is in cc
+read-some (y ∷ ys) (suc k) d x is = read-some ys k d x is

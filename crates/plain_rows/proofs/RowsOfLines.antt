@@ -5,7 +5,8 @@ use Rattle.std.proofs.lemmas.List.{get_or-map, length-map, take_more}
 use Rattle.std.proofs.lemmas.List.Concat.{flat_map-append}
 use Rattle.cell_units.specs.declared.place.Side.TheVariants.{Above, Below}
 use Rattle.cell_units.specs.Record.{Mark, Record}
-use Rattle.cell_units.specs.Lawful.{IsMarked}
+use Rattle.cell_units.specs.Lawful.{IsMarked, source_of}
+use Rattle.cell_units.specs.Layers.{shown_lines}
 use Rattle.cell_units.specs.Folded.{display_lines}
 use Rattle.cell_units.specs.Pieces.{folded_lines, pieces_of}
 use Rattle.cell_line.specs.declared.element.Element.{Element}
@@ -47,6 +48,10 @@ pub length-marks : (widths : List ℕ) → length (marks_of widths) ≡ length w
 length-marks widths = length-map (enumerate_from 0 widths) (λ n. record { stamp = n.0; width = n.1 }) ∙ length-enumerated 0 widths
 
 module _ (r : Record) (marked : IsMarked r) where
+  -- one mark for each display line
+  pub lines-marked : length (shown_lines (source_of r)) ≡ length r.marks
+  lines-marked = length-map (display_lines r.text r.inlays r.folds) pieces_of ∙ sym marked
+
   pub length-elements : length (line_elements r) ≡ length r.marks
   length-elements =
       length-map (folded_lines r.text r.inlays r.folds) (λ pieces. elements_of pieces r.tab)

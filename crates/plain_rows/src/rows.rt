@@ -1,20 +1,133 @@
 //! The rows of a record.
-ghost use Rattle.std.specs.Prelude.{◌≡◌, ◌≤◌, length, IfOk};
-ghost use Rattle.cell_units.specs.Lawful.{IsLawful};
+ghost use Rattle.std.specs.Prelude.{◌≡◌, ◌≤◌, ◌<◌, ◌+◌, ◌++◌, [], length, map, if◌then◌else◌, IfOk, OnOk};
+ghost use Rattle.cell_units.specs.Lawful.{IsLawful, IsTab, IsWidth};
+ghost use Rattle.cell_line.specs.Elements.{bytes_in, elements_of};
 ghost use Rattle.plain_rows.specs.Plain.{record_of, row_pairs};
-ghost use Rattle.plain_rows.specs.Rows.{rows_of};
+ghost use Rattle.plain_rows.specs.Rows.{block_rows, blocks_at, head_and_more, is_on, line_of_block, rows_of, text_rows};
+ghost use Rattle.plain_rows.specs.Plain.{block_of};
+ghost use Rattle.plain_rows.specs.inside.BuiltRows.{AreBefore, is_upto, shown_limit};
 
-use crate::plain::Plain;
+use crate::folded_lines::FoldedLines;
+use crate::plain::{Plain, PlainBlock};
+use cell_line::{cuts_of_pieces, line_laws, row_texts_of_pieces};
 use cell_units::limits::TEXT_LIMIT;
-use cell_units::{NoMemory, Text};
+use cell_units::{NoMemory, Piece, Side, Text};
 use std::alloc::Global;
+
+/// A row of a built list: the letter of its kind, and its text.
+type BuiltRow = (u8, Text);
+
+/// Appends the rows of a block.
+fn push_block(alloc: Global, rows: &mut Vec<BuiltRow>, block: &PlainBlock) -> Result<(), NoMemory>
+    ensures { OnOk result (rows.new.items ≡ rows.old.items ++ row_pairs (block_rows (block_of block.now))) }
+{
+    for line in &block.lines {
+        rows.push((b'b', Text::from_str(alloc, line.as_str())?))?;
+    }
+    Ok(())
+}
+
+/// Appends the rows of a block, if it is on the side.
+fn push_block_on(
+    alloc: Global,
+    rows: &mut Vec<BuiltRow>,
+    block: &PlainBlock,
+    side: Side,
+) -> Result<(), NoMemory>
+    ensures { OnOk result (rows.new.items ≡ rows.old.items ++ (if is_on side block.now.side then row_pairs (block_rows (block_of block.now)) else [])) }
+{
+    if block.side != side {
+        return Ok(());
+    }
+    push_block(alloc, rows, block)
+}
+
+/// Whether there is a block of this number and it is on the other side or stands at the line or before it.
+fn is_upto(plain: &Plain, lines: &[u32], side: Side, number: usize, line: u32) -> bool
+    requires { lines.now ≡ map (λ b. line_of_block (record_of plain.now) (block_of b)) plain.now.blocks.items }
+    ensures { result ≡ is_upto (record_of plain.now) side number line }
+{
+    number < lines.len() && (plain.blocks[number].side != side || lines[number] <= line)
+}
+
+/// Appends the rows of the blocks of one side that stand at the line, from the block of the number `from` on. `lines` has
+/// of each block its line. It answers the number of the block behind them.
+fn push_blocks(
+    alloc: Global,
+    rows: &mut Vec<BuiltRow>,
+    plain: &Plain,
+    lines: &[u32],
+    side: Side,
+    from: usize,
+    line: u32,
+) -> Result<usize, NoMemory>
+    requires lawful { IsLawful (record_of plain.now) }
+    requires lines { lines.now ≡ map (λ b. line_of_block (record_of plain.now) (block_of b)) plain.now.blocks.items }
+    requires before { AreBefore (record_of plain.now) side from line }
+    ensures rows { OnOk result (rows.new.items ≡ rows.old.items ++ row_pairs (blocks_at (record_of plain.now) side line)) }
+    ensures before { IfOk result (λ behind. AreBefore (record_of plain.now) side behind (line + 1)) }
+{
+    let blocks = plain.blocks.as_slice();
+    let mut next = from;
+    'walk: while is_upto(plain, lines, side, next, line) {
+        push_block_on(alloc, rows, &blocks[next], side)?;
+        next += 1;
+    }
+    Ok(next)
+}
+
+/// Appends the rows of one line that have these texts: the first is the head, and the others go on.
+fn push_line(rows: &mut Vec<BuiltRow>, texts: Vec<Text>) -> Result<(), NoMemory>
+    ensures { OnOk result (rows.new.items ≡ rows.old.items ++ row_pairs (head_and_more texts.items)) }
+{
+    let mut kind = b't';
+    for text in texts {
+        rows.push((kind, text))?;
+        kind = b'w';
+    }
+    Ok(())
+}
+
+/// Appends the text rows of the line that the pieces make.
+fn push_texts(
+    alloc: Global,
+    rows: &mut Vec<BuiltRow>,
+    pieces: &[Piece],
+    tab: u32,
+    width: u32,
+) -> Result<(), NoMemory>
+    requires tab { IsTab tab }
+    requires width { IsWidth width }
+    requires size { bytes_in pieces.now ≤ shown_limit }
+    ensures { OnOk result (rows.new.items ≡ rows.old.items ++ row_pairs (text_rows (elements_of pieces.now tab) width)) }
+{
+    line_laws();
+    let cuts = cuts_of_pieces(alloc, pieces, tab, width)?;
+    let texts = row_texts_of_pieces(alloc, pieces, tab, width, &cuts, 0, u32::MAX)?;
+    push_line(rows, texts)
+}
 
 /// All rows in order: of each the letter of its kind (`t` for a line's first text row, `w` for one that goes on, `b`
 /// for a block's) and its text.
-pub fn build(_alloc: Global, _plain: &Plain) -> Result<Vec<(u8, Text)>, NoMemory>
-    requires lawful { IsLawful (record_of _plain.now) }
-    requires size { length _plain.now.text ≤ TEXT_LIMIT }
-    ensures { IfOk result (λ rows. rows.items ≡ row_pairs (rows_of (record_of _plain.now))) }
+pub fn build(alloc: Global, plain: &Plain) -> Result<Vec<(u8, Text)>, NoMemory>
+    requires lawful { IsLawful (record_of plain.now) }
+    requires size { length plain.now.text ≤ TEXT_LIMIT }
+    ensures { IfOk result (λ rows. rows.items ≡ row_pairs (rows_of (record_of plain.now))) }
 {
-    Err(NoMemory)
+    let source = plain.source();
+    let folded = FoldedLines::new(alloc, &source)?;
+    let stands = folded.block_lines(alloc, plain.text.as_str(), plain.blocks.as_slice())?;
+    let stands = stands.as_slice();
+    let marks = plain.marks.as_slice();
+    let mut rows = Vec::new(alloc);
+    let mut above = 0;
+    let mut below = 0;
+    for line in 0..folded.lines() {
+        above = push_blocks(alloc, &mut rows, plain, stands, Side::Above, above, line)?;
+        let pieces = folded.pieces(alloc, &source, line)?;
+        let width = marks[line as usize];
+        push_texts(alloc, &mut rows, pieces.as_slice(), plain.tab, width)?;
+        below = push_blocks(alloc, &mut rows, plain, stands, Side::Below, below, line)?;
+    }
+    Ok(rows)
 }
