@@ -1,6 +1,5 @@
 -- Rows built line by line, and the blocks that stand at a line.
-use Rattle.std.proofs.Common.{◌≡◌, ℕ, ◌+◌, ◌-◌, ◌*◌, ◌^◌, ◌<◌, ◌≤◌, ◌&&◌, ◌||◌, not, suc, zero, Bool, true, false, cond, eqb, leb, nat_le, ltb, List, [], ◌∷◌, ◌++◌, length, map, take, drop, get_or, filter, flat_map, refl, sym, ap, ◌∙◌, subst, inl, inr, ◌⊎◌, arith, append-nil, append_assoc}
-use Rattle.std.specs.List.{enumerate_from, zip}
+use Rattle.std.proofs.Common.{◌≡◌, ℕ, ◌+◌, ◌<◌, ◌≤◌, ◌&&◌, ◌||◌, not, suc, Bool, true, false, cond, eqb, leb, nat_le, ltb, List, [], ◌∷◌, ◌++◌, length, map, take, drop, get_or, filter, flat_map, refl, sym, ap, ◌∙◌, subst, inl, inr, arith, append-nil}
 use Rattle.std.proofs.lemmas.Bool.{and_cases, and_from, and_left, and_parts, and_right, cases_lt, eq-eqb, false≢true, leb-false, leb-true, ltb-false, ltb-true, ne_eqb, not-false, not-true, or_cases, or_parts}
 use Rattle.std.proofs.lemmas.List.{get_or-drop, get_or-take, length-drop, length-take-le, map-append, take-append-drop}
 use Rattle.std.proofs.lemmas.List.Concat.{flat_map-append}
@@ -9,18 +8,15 @@ use Rattle.cell_units.specs.declared.place.Side.{Side}
 use Rattle.cell_units.specs.declared.place.Side.TheVariants.{Above, Below}
 use Rattle.cell_units.specs.declared.place.Bias.TheVariants.{Left, Right}
 use Rattle.cell_units.specs.Folded.{line_of}
-use Rattle.cell_units.specs.Record.{Block, Mark, Record, block_le}
+use Rattle.cell_units.specs.Record.{Block, Record, block_le}
 use Rattle.cell_units.specs.Lawful.{IsBlockOf, IsLawful}
 use Rattle.cell_units.specs.Text.{row_end, row_start}
-use Rattle.cell_units.proofs.CutLists.{Every}
 use Rattle.cell_units.proofs.Entries.{entries-pairs}
 use Rattle.cell_units.proofs.EntryOrders.{block_total, block_trans}
-use Rattle.plain_rows.specs.declared.plain.PlainBlock.{PlainBlock}
-use Rattle.plain_rows.specs.Plain.{block_of, row_pairs}
+use Rattle.plain_rows.specs.Plain.{row_pairs}
 use Rattle.plain_rows.specs.Rows.{Row, block_rows, blocks_at, head_and_more, is_above, is_on, line_of_block, more_row}
 use Rattle.plain_rows.specs.inside.BuiltRows.{AreBefore, block_at, is_upto, no_block}
 use Rattle.plain_rows.proofs.LawfulSources.{order-le}
-use Rattle.plain_rows.proofs.PassedTokens.{filter-none}
 use Rattle.plain_rows.proofs.RisingLines.{line_of-rises, row_end-rises, row_end-within, row_start-le, row_start-rises}
 
 abbrev pub Pairs : Type 0

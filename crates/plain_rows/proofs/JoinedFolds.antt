@@ -1,9 +1,8 @@
 -- Folds in order of their starts, joined one after the other.
-use Rattle.std.proofs.Common.{◌≡◌, ℕ, ◌<◌, ◌≤◌, ◌&&◌, ◌||◌, zero, suc, Some, None, subst, Bool, true, false, cond, ltb, leb, max, List, [], ◌∷◌, length, map, get_or, refl, sym, ap, ◌∙◌, inl, inr, arith, ◌⊎◌}
+use Rattle.std.proofs.Common.{◌≡◌, ℕ, ◌<◌, ◌≤◌, ◌&&◌, ◌||◌, zero, suc, Some, None, subst, Bool, true, false, cond, ltb, leb, max, List, [], ◌∷◌, length, map, get_or, refl, ap, ◌∙◌, inl, inr, arith}
 use Rattle.std.specs.List.{All, slice_get}
 use Rattle.std.proofs.lemmas.Bool.{cases_lt, lt-ltb, le-ltb}
 use Rattle.std.proofs.lemmas.Bool.Decides.{nat_tests}
-use Rattle.cell_units.specs.Record.{Fold}
 use Rattle.cell_units.specs.Folded.{covered, inside}
 use Rattle.plain_rows.specs.declared.folded_lines.Joined.{Joined}
 use Rattle.plain_rows.specs.declared.plain.PlainFold.{PlainFold}

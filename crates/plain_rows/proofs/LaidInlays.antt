@@ -1,5 +1,5 @@
 -- The parts of an inlay: its text cut at line breaks.
-use Rattle.std.proofs.Common.{◌≡◌, ℕ, ◌+◌, ◌-◌, ◌<◌, ◌≤◌, ◌&&◌, not, suc, zero, Bool, true, false, cond, eqb, List, [], ◌∷◌, ◌++◌, length, map, take, drop, get_or, refl, sym, ap, ◌∙◌, subst, inl, inr, ◌⊎◌, arith, append-nil, append_assoc, length-drop}
+use Rattle.std.proofs.Common.{◌≡◌, ℕ, ◌+◌, ◌-◌, ◌<◌, ◌≤◌, ◌&&◌, not, suc, Bool, true, false, cond, eqb, List, [], ◌∷◌, ◌++◌, length, map, take, drop, get_or, refl, sym, ap, ◌∙◌, subst, inl, inr, ◌⊎◌, arith, append-nil, append_assoc, length-drop}
 use Rattle.std.specs.List.{prefix_len, slice_range}
 use Rattle.std.specs.Str.{IsCharBoundary, IsUtf8}
 use Rattle.std.proofs.lemmas.Bool.{cases_Bool, cases_lt, lt-ltb, le-ltb, and_parts, or_cases, or_parts, eqb-true, false≢true}
@@ -11,7 +11,7 @@ use Rattle.cell_units.specs.Inlaid.{InlayByte, Token}
 use Rattle.cell_units.specs.Layers.{Source}
 use Rattle.plain_rows.specs.declared.folded_lines.Part.{Part}
 use Rattle.plain_rows.specs.declared.folded_lines.Part.TheVariants.{Inlay, InlayFeed}
-use Rattle.plain_rows.specs.FoldedLines.{IsRun, before_all, inlay_at, is_break, is_buffer, last_part, next_inlay, part_tokens}
+use Rattle.plain_rows.specs.FoldedLines.{IsRun, before_all, inlay_at, is_break, is_buffer, next_inlay}
 use Rattle.plain_rows.specs.inside.Laying.{IsSpan, LaysInlay, Reaches, break_len, inlay_rest, inlay_run, last_of, tokens_of}
 use Rattle.plain_rows.proofs.LaidParts.{FirstBreak, behind-break, break-boundary, break-found, last-push, reaches-push, tokens-push}
 

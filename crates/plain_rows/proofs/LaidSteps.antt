@@ -1,14 +1,14 @@
 -- Text, inlays and placeholders laid one behind the other show all up to where they reach.
-use Rattle.std.proofs.Common.{◌≡◌, ℕ, ◌+◌, ◌-◌, ◌<◌, ◌≤◌, suc, zero, Bool, true, false, cond, ltb, List, [], ◌∷◌, ◌++◌, length, map, take, drop, get_or, refl, sym, ap, ◌∙◌, subst, inl, inr, ◌⊎◌, arith}
-use Rattle.std.specs.List.{All, slice_range}
+use Rattle.std.proofs.Common.{◌≡◌, ℕ, ◌+◌, ◌-◌, ◌<◌, ◌≤◌, true, false, ltb, List, [], ◌∷◌, ◌++◌, length, take, get_or, refl, sym, ap, ◌∙◌, subst, inl, inr, arith}
+use Rattle.std.specs.List.{slice_range}
 use Rattle.std.specs.Str.{IsCharBoundary, IsUtf8}
-use Rattle.std.proofs.lemmas.Bool.{and_cases, and_parts, cases_eq, cases_lt, ltb-false, ltb-true}
+use Rattle.std.proofs.lemmas.Bool.{and_cases, and_parts, cases_lt, ltb-false, ltb-true}
 use Rattle.std.proofs.lemmas.List.{get_or-map, get_or-take, get_or_default, length-map, length-take-le, take_all, take_more}
-use Rattle.std.proofs.lemmas.Str.{IsCharBoundary-from_take, IsCharBoundary-start, IsCharBoundary-end}
+use Rattle.std.proofs.lemmas.Str.{IsCharBoundary-from_take, IsCharBoundary-end}
 use Rattle.cell_units.specs.Text.{IsBoundary, line_feed}
-use Rattle.cell_units.specs.Record.{Fold, Inlay}
+use Rattle.cell_units.specs.Record.{Inlay}
 use Rattle.cell_units.specs.Inlaid.{Byte, Hidden, Token, inlay_bytes, inlays_at}
-use Rattle.cell_units.specs.Folded.{covered, folded_before, inside}
+use Rattle.cell_units.specs.Folded.{covered, folded_before}
 use Rattle.cell_units.specs.Layers.{Source}
 use Rattle.cell_units.proofs.CutLists.{Every}
 use Rattle.cell_units.proofs.FoundEntries.{Every-from_All}
@@ -19,13 +19,13 @@ use Rattle.plain_rows.specs.declared.folded_lines.Part.{Part}
 use Rattle.plain_rows.specs.declared.folded_lines.Part.TheVariants.{Feed, Placeholder}
 use Rattle.plain_rows.specs.declared.plain.PlainFold.{PlainFold}
 use Rattle.plain_rows.specs.declared.plain.PlainInlay.{PlainInlay}
-use Rattle.plain_rows.specs.FoldedLines.{AreRanges, AreShown, IsLawfulSource, Joins, before_all, bytes_from, inlay_at, is_buffer, is_end, joined_folds, next_inlay, no_inlay}
-use Rattle.plain_rows.specs.Plain.{fold_of, inlay_of, listed_source}
-use Rattle.plain_rows.specs.inside.Laying.{IsFree, IsHidden, IsJoinedFold, IsLaid, IsPast, IsSpan, Lays, Reaches, last_of, stands_before, tokens_of}
+use Rattle.plain_rows.specs.FoldedLines.{AreShown, IsLawfulSource, Joins, before_all, bytes_from, inlay_at, is_end, next_inlay, no_inlay}
+use Rattle.plain_rows.specs.Plain.{inlay_of, listed_source}
+use Rattle.plain_rows.specs.inside.Laying.{IsFree, IsHidden, IsJoinedFold, IsLaid, IsPast, Lays, Reaches, last_of, stands_before, tokens_of}
 use Rattle.plain_rows.proofs.JoinedFolds.{end_before}
 use Rattle.plain_rows.proofs.LaidParts.{last-push, reaches-push, tokens-push}
 use Rattle.plain_rows.proofs.LaidText.{upto-all, upto-fold, upto-hidden, upto-inlay, upto-text}
-use Rattle.plain_rows.proofs.RangesApart.{RangeAt, end-boundary, end_before-more, gap, gap-last, range-at, start-boundary}
+use Rattle.plain_rows.proofs.RangesApart.{end-boundary, gap, gap-last, range-at, start-boundary}
 
 -- the inlay that a read gives
 pub inlay_at-read : (text : List ℕ) (inlays : List PlainInlay) (folds : List PlainFold) (k : ℕ) (x : PlainInlay) → k < length inlays →

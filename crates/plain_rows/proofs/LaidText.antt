@@ -1,15 +1,14 @@
 -- What is shown up to an offset, by the inlays up to one of them: how it grows.
-use Rattle.std.proofs.Common.{◌≡◌, ℕ, ◌+◌, ◌-◌, ◌<◌, ◌≤◌, suc, zero, Bool, true, false, cond, eqb, List, [], ◌∷◌, ◌++◌, length, map, take, drop, get_or, filter, flat_map, refl, sym, ap, ◌∙◌, subst, inl, inr, ◌⊎◌, arith, append-nil, append_assoc}
+use Rattle.std.proofs.Common.{◌≡◌, ℕ, ◌+◌, ◌-◌, ◌<◌, ◌≤◌, Bool, true, false, cond, eqb, List, [], ◌∷◌, ◌++◌, length, take, drop, filter, flat_map, refl, sym, ap, ◌∙◌, subst, inl, inr, ◌⊎◌, arith, append-nil, append_assoc}
 use Rattle.std.proofs.lemmas.Bool.{cases_eq, eq-eqb, ne_eqb}
-use Rattle.std.proofs.lemmas.List.{take_more, take-append-drop, take-take, drop-take, length-take-le, length-drop}
+use Rattle.std.proofs.lemmas.List.{take-append-drop, take-take, drop-take, length-take-le, length-drop}
 use Rattle.std.proofs.lemmas.List.Concat.{flat_map-append}
 use Rattle.std.proofs.lemmas.List.Elements.{filter-append}
 use Rattle.std.specs.List.{slice_range}
 use Rattle.cell_units.specs.Text.{line_feed}
 use Rattle.cell_units.specs.Record.{Fold, Inlay}
 use Rattle.cell_units.specs.Inlaid.{Token, Byte, Hidden, inlay_bytes, inlays_at, show_each}
-use Rattle.cell_units.specs.Folded.{covered, folded, folded_before, folded_to, inside, shown}
-use Rattle.cell_units.specs.Layers.{Source}
+use Rattle.cell_units.specs.Folded.{covered, folded, folded_before, inside, shown}
 use Rattle.cell_units.proofs.CutLists.{Every}
 use Rattle.cell_units.proofs.Joined.{inside-shows_none, shown-inlaid, shown-start}
 use Rattle.cell_units.proofs.ShownText.{folded_is, show_each-append}

@@ -1,16 +1,12 @@
 -- The parts of each display line.
-use Rattle.std.proofs.Common.{◌≡◌, ◌≢◌, ℕ, ◌+◌, ◌-◌, ◌<◌, ◌≤◌, suc, zero, Bool, true, false, cond, eqb, List, [], ◌∷◌, ◌++◌, length, map, take, drop, get_or, flat_map, refl, sym, ap, ◌∙◌, subst, inl, inr, ◌⊎◌, arith, append-nil, append_assoc, ltb}
+use Rattle.std.proofs.Common.{◌≡◌, ℕ, ◌+◌, ◌<◌, Bool, true, false, cond, eqb, List, [], ◌∷◌, ◌++◌, length, map, get_or, refl, sym, ap, ◌∙◌, subst, arith}
 use Rattle.std.specs.List.{slice_range}
-use Rattle.std.proofs.lemmas.Bool.{cases_Bool, cases_lt, eq-eqb, false≢true, ne_eqb, true≢false}
-use Rattle.std.proofs.lemmas.List.{get_or_default}
-use Rattle.std.proofs.lemmas.List.Concat.{flat_map-append}
-use Rattle.std.proofs.lemmas.List.Sums.{prefix_len_passes}
+use Rattle.std.proofs.lemmas.Bool.{eq-eqb, false≢true, ne_eqb, true≢false}
 use Rattle.cell_units.specs.declared.piece.Piece.{Piece}
 use Rattle.cell_units.specs.declared.piece.PieceKind.{PieceKind}
 use Rattle.cell_units.specs.declared.piece.PieceKind.TheVariants as kinds
 use Rattle.cell_units.specs.Cutting.{cut_lines, onto_line}
 use Rattle.cell_units.specs.Text.{is_feed}
-use Rattle.cell_units.specs.Record as records
 use Rattle.cell_units.specs.Inlaid.{Byte, Hidden, InlayByte, Token, bytes_of, is_break, offset_of, placeholder}
 use Rattle.cell_units.specs.Pieces.{is_one_piece, kind_of, piece_before, pieces_of}
 use Rattle.cell_units.specs.Layers.{Source}
@@ -18,7 +14,7 @@ use Rattle.cell_units.proofs.CutLists.{Every, at_break, lines-cons}
 use Rattle.cell_units.proofs.PieceSplits.{before_other}
 use Rattle.plain_rows.specs.declared.folded_lines.Part.{Part}
 use Rattle.plain_rows.specs.declared.folded_lines.Part.TheVariants.{Buffer, Feed, Inlay, InlayFeed, Placeholder}
-use Rattle.plain_rows.specs.FoldedLines.{EachLies, IsApart, IsChain, IsLawfulSource, IsRun, Lies, bytes_from, inlay_at, is_buffer, is_end, last_part, next_inlay, no_inlay, part_end, part_start, part_tokens}
+use Rattle.plain_rows.specs.FoldedLines.{EachLies, IsApart, IsChain, IsLawfulSource, IsRun, Lies, bytes_from, inlay_at, is_end, last_part, no_inlay, part_end, part_start, part_tokens}
 use Rattle.plain_rows.specs.inside.Laying.{tokens_of}
 use Rattle.plain_rows.specs.inside.PartPieces.{before_end, piece_in}
 use Rattle.plain_rows.proofs.LaidParts.{length-run, run-free}

@@ -1,9 +1,9 @@
 -- What stands before a position that is not strictly inside a joined fold: the tokens at lesser offsets, and for Right the
 -- inlays at its own.
-use Rattle.std.proofs.Common.{◌≡◌, ℕ, ◌+◌, ◌-◌, ◌<◌, ◌≤◌, ◌&&◌, ◌||◌, suc, zero, Bool, true, false, cond, ltb, eqb, List, [], ◌∷◌, ◌++◌, length, map, take, drop, get_or, filter, flat_map, refl, sym, ap, ◌∙◌, subst, inl, inr, ◌⊎◌, arith, append-nil, append_assoc, length-append}
+use Rattle.std.proofs.Common.{◌≡◌, ℕ, ◌+◌, ◌-◌, ◌<◌, ◌≤◌, ◌&&◌, Bool, true, false, cond, ltb, eqb, List, [], ◌∷◌, ◌++◌, length, map, take, drop, filter, flat_map, refl, sym, ap, ◌∙◌, subst, arith, append-nil, append_assoc}
 use Rattle.std.specs.List.{slice_range}
 use Rattle.std.proofs.lemmas.Bool.{eq-eqb, eqb-true, ne_eqb, le-ltb, lt-ltb, or_from, or_left, or_right, and_left, and_right, and_from}
-use Rattle.std.proofs.lemmas.List.{take-append-drop, take_at, length-take-le, length-drop, length_push}
+use Rattle.std.proofs.lemmas.List.{take-append-drop, take_at, length-take-le, length_push}
 use Rattle.std.proofs.lemmas.List.Elements.{filter-append}
 use Rattle.cell_units.specs.declared.place.Bias.{Bias}
 use Rattle.cell_units.specs.declared.place.Bias.TheVariants.{Left, Right}
@@ -18,7 +18,7 @@ use Rattle.cell_units.proofs.LineSpans.{inlays-at}
 use Rattle.cell_units.proofs.ShownMoved.{Every-shown}
 use Rattle.cell_units.proofs.ShownText.{show_each-append}
 use Rattle.plain_rows.specs.inside.Laying.{IsJoinedFold}
-use Rattle.plain_rows.specs.inside.Passed.{IsSamePlace, inlay_passed, is_right, token_passed}
+use Rattle.plain_rows.specs.inside.Passed.{IsSamePlace, is_right, token_passed}
 use Rattle.plain_rows.proofs.LaidText.{length-slice_range, take_further}
 use Rattle.plain_rows.specs.declared.folded_lines.Joined.{Joined}
 

@@ -1,37 +1,32 @@
 -- Where a position stands among the lines of parts.
-use Rattle.std.proofs.Common.{◌≡◌, ℕ, ◌+◌, ◌-◌, ◌<◌, ◌≤◌, ◌&&◌, ◌||◌, suc, zero, Option, Some, Bool, true, false, cond, ltb, eqb, min, List, [], ◌∷◌, ◌++◌, length, map, take, drop, get_or, filter, flat_map, refl, sym, ap, ◌∙◌, subst, inl, inr, ◌⊎◌, arith, append_assoc}
+use Rattle.std.proofs.Common.{◌≡◌, ℕ, ◌+◌, ◌-◌, ◌<◌, ◌≤◌, suc, zero, Some, Bool, true, false, cond, min, List, [], ◌∷◌, ◌++◌, length, map, drop, get_or, filter, refl, sym, ap, ◌∙◌, subst, inl, inr, arith}
 use Rattle.std.specs.List.{All, after_last, count_by, slice_get, slice_range, sum_by}
-use Rattle.std.specs.List.Sorted.{IsPartitionedBy}
-use Rattle.std.proofs.lemmas.Bool.{and_left, and_parts, and_right, cases_lt, eqb-true, false≢true, le-ltb, lt-ltb, ltb-true, or_cases, or_from, or_left, or_right, and_from, eq-eqb}
+use Rattle.std.proofs.lemmas.Bool.{cases_lt, false≢true, le-ltb, lt-ltb}
 use Rattle.std.proofs.lemmas.List.{append-nil, length-map}
 use Rattle.std.proofs.lemmas.List.Elements.{filter-append}
 use Rattle.std.proofs.lemmas.List.Sums.{sum_by-append, sum_by-cons}
 use Rattle.cell_units.specs.declared.place.Bias.{Bias}
-use Rattle.cell_units.specs.declared.place.Bias.TheVariants.{Left, Right}
 use Rattle.cell_units.specs.Cutting.{cut_lines}
 use Rattle.cell_units.specs.Text.{line_feed}
-use Rattle.cell_units.specs.Record as records
-use Rattle.cell_units.specs.Record.{Fold}
-use Rattle.cell_units.specs.Inlaid.{Byte, Hidden, InlayByte, Token, bytes_of, inlay_bytes, inlays_at, is_break, offset_of, show_each}
-use Rattle.cell_units.specs.Folded.{covered, display_lines, folded, folded_before, folded_to, inside, line_of, place_in_line, shown}
+use Rattle.cell_units.specs.Inlaid.{Byte, Hidden, InlayByte, Token, is_break}
+use Rattle.cell_units.specs.Folded.{display_lines, folded, folded_to, inside, line_of, place_in_line}
 use Rattle.cell_units.specs.declared.piece.Piece.{Piece}
 use Rattle.cell_units.specs.Layers.{Source, shown_lines}
 use Rattle.cell_units.specs.Pieces.{pieces_of}
-use Rattle.cell_units.proofs.CutLists.{Every, Every-append, Every-lines, Every-mono}
+use Rattle.cell_units.proofs.CutLists.{Every, Every-lines, Every-mono}
 use Rattle.cell_units.proofs.FoundEntries.{All-from_Every}
-use Rattle.plain_rows.specs.declared.folded_lines.Joined.{Joined}
 use Rattle.plain_rows.specs.declared.folded_lines.Part.{Part}
 use Rattle.plain_rows.specs.declared.folded_lines.Part.TheVariants.{Buffer, Feed, Inlay, InlayFeed, Placeholder}
-use Rattle.plain_rows.specs.FoldedLines.{AreLinesOf, AreRanges, AreShown, EachLies, IsChain, IsLawfulSource, LaidOut, Lies, before_all, bytes_from, inlay_at, is_end, joined_folds, part_end, part_start, part_tokens}
+use Rattle.plain_rows.specs.FoldedLines.{AreLinesOf, EachLies, LaidOut, Lies, before_all, bytes_from, inlay_at, is_end, part_tokens}
 use Rattle.plain_rows.specs.inside.Laying.{tokens_of}
 use Rattle.plain_rows.specs.inside.PartPieces.{before_end, ends_from, piece_in}
-use Rattle.plain_rows.specs.inside.Passed.{IsSamePlace, inlay_passed, is_right, part_passed, passed_bytes, token_passed}
-use Rattle.plain_rows.proofs.LaidParts.{length-run, run-free}
+use Rattle.plain_rows.specs.inside.Passed.{inlay_passed, part_passed, passed_bytes, token_passed}
+use Rattle.plain_rows.proofs.LaidParts.{length-run}
 use Rattle.plain_rows.proofs.EndsOfLines.{length-lines}
 use Rattle.plain_rows.proofs.LinesOfParts.{EachLine, IsLine, cut-tokens, each-line, end-token, part-free, pieces-lines}
-use Rattle.plain_rows.proofs.PassedTokens.{Split, filter-all, filter-none, passed-tokens, split-at}
+use Rattle.plain_rows.proofs.PassedTokens.{filter-all, filter-none, passed-tokens, split-at}
 use Rattle.plain_rows.proofs.ShownSizes.{size, size-append}
-use Rattle.plain_rows.proofs.LineAt.{First, first-line, line-at}
+use Rattle.plain_rows.proofs.LineAt.{first-line, line-at}
 
 -- ---- the ends that a position passes
 

@@ -1,5 +1,5 @@
 -- The rows of one display line among those of all.
-use Rattle.std.proofs.Common.{◌≡◌, ℕ, ◌+◌, ◌<◌, ◌≤◌, suc, zero, List, [], ◌∷◌, ◌++◌, length, map, take, get_or, flat_map, refl, sym, ap, ◌∙◌, subst, arith, append-nil, append_assoc}
+use Rattle.std.proofs.Common.{◌≡◌, ℕ, ◌+◌, ◌<◌, suc, zero, List, [], ◌∷◌, ◌++◌, length, take, get_or, flat_map, refl, sym, ap, ◌∙◌, arith, append-nil, append_assoc}
 use Rattle.std.specs.List.{enumerate_from, zip}
 use Rattle.std.proofs.lemmas.List.{get_or-map, length-map, take_more}
 use Rattle.std.proofs.lemmas.List.Concat.{flat_map-append}
@@ -9,10 +9,9 @@ use Rattle.cell_units.specs.Lawful.{IsMarked, source_of}
 use Rattle.cell_units.specs.Layers.{shown_lines}
 use Rattle.cell_units.specs.Folded.{display_lines}
 use Rattle.cell_units.specs.Pieces.{folded_lines, pieces_of}
-use Rattle.cell_line.specs.declared.element.Element.{Element}
 use Rattle.cell_line.specs.Elements.{elements_of}
 use Rattle.plain_rows.specs.Plain.{marks_of, row_pairs}
-use Rattle.plain_rows.specs.Rows.{Row, blocks_at, line_elements, line_rows, rows_by_line, rows_of, text_rows, with_blocks}
+use Rattle.plain_rows.specs.Rows.{Row, blocks_at, line_elements, line_rows, rows_by_line, text_rows}
 use Rattle.plain_rows.proofs.BuiltRows.{Pairs, pairs-append}
 
 enumerated : {X : Type 0} (n : ℕ) (xs : List X) (k : ℕ) (d : X) → k < length xs → get_or (enumerate_from n xs) k (0, d) ≡ (n + k, get_or xs k d)

@@ -1,15 +1,14 @@
 -- How many bytes a lawful source shows at most.
-use Rattle.std.proofs.Common.{◌≡◌, ℕ, ◌+◌, ◌-◌, ◌*◌, ◌^◌, ◌<◌, ◌≤◌, ◌&&◌, suc, Bool, true, false, cond, eqb, leb, List, [], ◌∷◌, ◌++◌, length, map, take, get_or, filter, flat_map, refl, sym, ap, ◌∙◌, subst, arith, append-nil, length-append}
+use Rattle.std.proofs.Common.{◌≡◌, ℕ, ◌+◌, ◌*◌, ◌<◌, ◌≤◌, ◌&&◌, suc, Bool, true, false, cond, eqb, leb, List, [], ◌∷◌, ◌++◌, length, map, filter, flat_map, refl, ap, ◌∙◌, arith, length-append}
 use Rattle.std.specs.List.{All, slice_range, sum_by}
 use Rattle.std.proofs.lemmas.List.{length-map}
 use Rattle.std.proofs.lemmas.List.Concat.{flat_map-append}
 use Rattle.std.proofs.lemmas.List.Elements.{All-head, All-tail}
 use Rattle.std.proofs.lemmas.List.Sums.{sum_by-cons}
-use Rattle.cell_units.specs.declared.place.Bias.TheVariants.{Right}
 use Rattle.cell_units.specs.Text.{begins_with_feed, carriage_return, clean, line_feed, without_returns_before_feeds}
 use Rattle.cell_units.specs.Record as records
 use Rattle.cell_units.specs.Record.{Fold}
-use Rattle.cell_units.specs.Inlaid.{Byte, Hidden, InlayByte, Token, bytes_of, inlays_at, placeholder, show_each}
+use Rattle.cell_units.specs.Inlaid.{Byte, Hidden, InlayByte, Token, bytes_of, inlays_at, show_each}
 use Rattle.cell_units.specs.Folded.{covered, folded, folded_before, inside, shown}
 use Rattle.cell_units.specs.Layers.{Source, inlay_source}
 use Rattle.cell_units.specs.Laws.{inlaid_bytes}

@@ -23,8 +23,8 @@ seen source = listed_source source.text.now source.inlays.now source.folds.now
 abbrev pub AreInOrder : {X : Type 0} → (X → ℕ) → List X → Type 0
 AreInOrder key xs = AllPairs (λ x y. key x ≤ key y) xs
 
--- What laying out uses of a well-formed source: inlays and folds are in order, stand between characters and are within the
--- limits; no inlay is empty, no two have one id, and no fold is empty.
+-- What laying out uses of a well-formed source: inlays and folds are in order, stand between characters and are within
+-- the limits; no inlay is empty, no two have one id, and no fold is empty.
 pub record IsLawfulSource (source : Source) : Type 0 where
   pub text : IsText source.text
   pub text_size : length source.text ≤ 33554432
@@ -34,7 +34,8 @@ pub record IsLawfulSource (source : Source) : Type 0 where
   pub inlays_size : All (λ i. (0 < length i.text) × (length i.text ≤ 1024)) source.inlays
   pub inlays_count : length source.inlays ≤ 65536
   pub folds_in_order : AreInOrder (λ (f : records.Fold). f.start) source.folds
-  pub folds_stand : All (λ f. IsBoundary source.text f.start × IsBoundary source.text f.end × (f.start < f.end)) source.folds
+  pub folds_stand :
+      All (λ f. IsBoundary source.text f.start × IsBoundary source.text f.end × (f.start < f.end)) source.folds
 
 -- ---- parts
 

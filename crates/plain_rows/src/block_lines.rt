@@ -63,7 +63,8 @@ fn row_from(text: &[u8], row: BufferRow, offset: u32) -> BufferRow
 impl FoldedLines {
     /// The display line of a block that is anchored in the row.
     fn block_line(&self, row: BufferRow, side: Side) -> u32
-        ensures { (source : Source) → AreLinesOf source self.now → row.start ≤ length source.text → row.end ≤ length source.text →
+        ensures { (source : Source) → AreLinesOf source self.now →
+            row.start ≤ length source.text → row.end ≤ length source.text →
             result ≡ line_of_row source side row.start row.end }
     {
         match side {
@@ -82,7 +83,8 @@ impl FoldedLines {
         requires size { length text.now < 2 ^ 32 }
         requires in_order { AreInOrder (λ (b : PlainBlock). b.offset) blocks.now }
         requires within { All (λ (b : PlainBlock). b.offset ≤ length text.now) blocks.now }
-        ensures { IfOk result (λ lines. (r : Record) → AreLinesOf (source_of r) self.now → r.text ≡ text.now →
+        ensures { IfOk result (λ lines. (r : Record) →
+            AreLinesOf (source_of r) self.now → r.text ≡ text.now →
             lines.items ≡ map (λ b. line_of_block r (block_of b)) blocks.now) }
     {
         let bytes = text.as_bytes();

@@ -168,7 +168,8 @@ fn piece(alloc: Global, source: &PlainSource, part: &Part) -> Result<Piece, NoMe
 
 /// Bytes of the buffer as a piece.
 fn buffer_piece(alloc: Global, text: &str, start: u32, end: u32) -> Result<Piece, NoMemory>
-    ensures { IfOk result (λ piece. piece ≡ record { kind = PieceKind.Buffer; text = text.now; start = start; end = end }) }
+    ensures { IfOk result (λ piece.
+        piece ≡ record { kind = PieceKind.Buffer; text = text.now; start = start; end = end }) }
 {
     Ok(Piece {
         kind: PieceKind::Buffer,
@@ -180,7 +181,8 @@ fn buffer_piece(alloc: Global, text: &str, start: u32, end: u32) -> Result<Piece
 
 /// A part of an inlay at the offset as a piece.
 fn inlay_piece(alloc: Global, text: &str, offset: u32) -> Result<Piece, NoMemory>
-    ensures { IfOk result (λ piece. piece ≡ record { kind = PieceKind.Inlay; text = text.now; start = offset; end = offset }) }
+    ensures { IfOk result (λ piece.
+        piece ≡ record { kind = PieceKind.Inlay; text = text.now; start = offset; end = offset }) }
 {
     Ok(Piece {
         kind: PieceKind::Inlay,
@@ -192,7 +194,8 @@ fn inlay_piece(alloc: Global, text: &str, offset: u32) -> Result<Piece, NoMemory
 
 /// A placeholder as a piece.
 fn placeholder_piece(alloc: Global, start: u32, end: u32) -> Result<Piece, NoMemory>
-    ensures { IfOk result (λ piece. piece ≡ record { kind = PieceKind.Placeholder; text = placeholder; start = start; end = end }) }
+    ensures { IfOk result (λ piece.
+        piece ≡ record { kind = PieceKind.Placeholder; text = placeholder; start = start; end = end }) }
 {
     Ok(Piece {
         kind: PieceKind::Placeholder,
@@ -275,7 +278,8 @@ impl FoldedLines {
 
     /// How many display lines there are.
     pub fn lines(&self) -> u32
-        ensures { (source : Source) → AreLinesOf source self.now → result ≡ length (shown_lines source) }
+        ensures { (source : Source) → AreLinesOf source self.now →
+            result ≡ length (shown_lines source) }
     {
         self.ends.len() as u32
     }
@@ -297,7 +301,8 @@ impl FoldedLines {
     ) -> Result<Vec<Piece>, NoMemory>
         requires lines { AreLinesOf (seen source.now) self.now }
         requires within { line < length (shown_lines (seen source.now)) }
-        ensures { IfOk result (λ pieces. slice_get (shown_lines (seen source.now)) line ≡ Some pieces.items) }
+        ensures { IfOk result (λ pieces.
+            slice_get (shown_lines (seen source.now)) line ≡ Some pieces.items) }
     {
         let parts = self.line(line as usize);
         line_pieces(alloc, source, &parts[..parts.len() - 1])

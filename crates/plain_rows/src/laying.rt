@@ -124,8 +124,11 @@ fn push_inlay_line(
     requires apart { next_inlay (last_of parts.old.items) ≤ number }
     requires boundary { IsCharBoundary (inlay_at (seen source.now) number).text at }
     requires some { at < length (inlay_at (seen source.now) number).text }
-    ensures lays { IfOk result (λ next. LaysInlay (seen source.now) number parts.old.items parts.new.items at next) }
-    ensures apart { IfOk result (λ next. next < length (inlay_at (seen source.now) number).text → next_inlay (last_of parts.new.items) ≤ number) }
+    ensures lays { IfOk result (λ next.
+        LaysInlay (seen source.now) number parts.old.items parts.new.items at next) }
+    ensures apart { IfOk result (λ next.
+        next < length (inlay_at (seen source.now) number).text →
+        next_inlay (last_of parts.new.items) ≤ number) }
 {
     let inlay = &source.inlays[number as usize];
     let bytes = inlay.text.as_str().as_bytes();
@@ -147,8 +150,10 @@ fn push_inlay(parts: &mut Vec<Part>, source: &PlainSource, number: u32) -> Resul
     requires number { number < length source.now.inlays.now }
     requires reaches { Reaches (seen source.now) parts.old.items (inlay_at (seen source.now) number).offset }
     requires apart { next_inlay (last_of parts.old.items) ≤ number }
-    ensures reaches { OnOk result (Reaches (seen source.now) parts.new.items (inlay_at (seen source.now) number).offset) }
-    ensures shows { OnOk result (tokens_of (seen source.now) parts.new.items ≡ tokens_of (seen source.now) parts.old.items ++ inlay_bytes (inlay_at (seen source.now) number)) }
+    ensures reaches { OnOk result
+        (Reaches (seen source.now) parts.new.items (inlay_at (seen source.now) number).offset) }
+    ensures shows { OnOk result (tokens_of (seen source.now) parts.new.items
+        ≡ tokens_of (seen source.now) parts.old.items ++ inlay_bytes (inlay_at (seen source.now) number)) }
     ensures apart { OnOk result (is_buffer (last_of parts.new.items) ≡ false) }
     ensures inlays { OnOk result (next_inlay (last_of parts.new.items) ≤ number + 1) }
 {
@@ -167,8 +172,8 @@ fn is_before(source: &PlainSource, number: u32, offset: u32) -> bool
     (number as usize) < source.inlays.len() && source.inlays[number as usize].offset < offset
 }
 
-/// Appends what stands between two offsets, where no fold hides a byte: the buffer's bytes, and the inlays up to those at
-/// the second offset, from that of the number `next` on. It answers the number of the inlay behind them.
+/// Appends what stands between two offsets, where no fold hides a byte: the buffer's bytes, and the inlays up to those
+/// at the second offset, from that of the number `next` on. It answers the number of the inlay behind them.
 fn push_stretch(
     parts: &mut Vec<Part>,
     source: &PlainSource,

@@ -1,11 +1,10 @@
 //! The rows of a record.
-ghost use Rattle.std.specs.Prelude.{◌≡◌, ◌≤◌, ◌<◌, ◌+◌, ◌++◌, [], length, map, if◌then◌else◌, IfOk, OnOk};
+ghost use Rattle.std.specs.Prelude.{◌≡◌, ◌≤◌, ◌<◌, ◌+◌, ◌++◌, [], length, if◌then◌else◌, IfOk, OnOk};
 ghost use Rattle.cell_units.specs.Lawful.{IsLawful, IsTab, IsWidth};
 ghost use Rattle.cell_line.specs.Elements.{bytes_in, elements_of};
-ghost use Rattle.plain_rows.specs.Plain.{record_of, row_pairs};
-ghost use Rattle.plain_rows.specs.Rows.{block_rows, blocks_at, head_and_more, is_on, line_of_block, rows_of, text_rows};
-ghost use Rattle.plain_rows.specs.Plain.{block_of};
-ghost use Rattle.plain_rows.specs.inside.BuiltRows.{AreBefore, is_upto, shown_limit};
+ghost use Rattle.plain_rows.specs.Plain.{block_of, record_of, row_pairs};
+ghost use Rattle.plain_rows.specs.Rows.{block_rows, blocks_at, head_and_more, is_on, rows_of, text_rows};
+ghost use Rattle.plain_rows.specs.inside.BuiltRows.{AreBefore, AreStanding, is_upto, shown_limit};
 
 use crate::folded_lines::FoldedLines;
 use crate::plain::{Plain, PlainBlock};
@@ -19,7 +18,8 @@ type BuiltRow = (u8, Text);
 
 /// Appends the rows of a block.
 fn push_block(alloc: Global, rows: &mut Vec<BuiltRow>, block: &PlainBlock) -> Result<(), NoMemory>
-    ensures { OnOk result (rows.new.items ≡ rows.old.items ++ row_pairs (block_rows (block_of block.now))) }
+    ensures { OnOk result (rows.new.items
+        ≡ rows.old.items ++ row_pairs (block_rows (block_of block.now))) }
 {
     for line in &block.lines {
         rows.push((b'b', Text::from_str(alloc, line.as_str())?))?;
@@ -34,7 +34,8 @@ fn push_block_on(
     block: &PlainBlock,
     side: Side,
 ) -> Result<(), NoMemory>
-    ensures { OnOk result (rows.new.items ≡ rows.old.items ++ (if is_on side block.now.side then row_pairs (block_rows (block_of block.now)) else [])) }
+    ensures { OnOk result (rows.new.items ≡ rows.old.items
+        ++ (if is_on side block.now.side then row_pairs (block_rows (block_of block.now)) else [])) }
 {
     if block.side != side {
         return Ok(());
@@ -44,14 +45,14 @@ fn push_block_on(
 
 /// Whether there is a block of this number and it is on the other side or stands at the line or before it.
 fn is_upto(plain: &Plain, lines: &[u32], side: Side, number: usize, line: u32) -> bool
-    requires { lines.now ≡ map (λ b. line_of_block (record_of plain.now) (block_of b)) plain.now.blocks.items }
+    requires { AreStanding plain.now lines.now }
     ensures { result ≡ is_upto (record_of plain.now) side number line }
 {
     number < lines.len() && (plain.blocks[number].side != side || lines[number] <= line)
 }
 
-/// Appends the rows of the blocks of one side that stand at the line, from the block of the number `from` on. `lines` has
-/// of each block its line. It answers the number of the block behind them.
+/// Appends the rows of the blocks of one side that stand at the line, from the block of the number `from` on. `lines`
+/// has of each block its line. It answers the number of the block behind them.
 fn push_blocks(
     alloc: Global,
     rows: &mut Vec<BuiltRow>,
@@ -62,9 +63,10 @@ fn push_blocks(
     line: u32,
 ) -> Result<usize, NoMemory>
     requires lawful { IsLawful (record_of plain.now) }
-    requires lines { lines.now ≡ map (λ b. line_of_block (record_of plain.now) (block_of b)) plain.now.blocks.items }
+    requires lines { AreStanding plain.now lines.now }
     requires before { AreBefore (record_of plain.now) side from line }
-    ensures rows { OnOk result (rows.new.items ≡ rows.old.items ++ row_pairs (blocks_at (record_of plain.now) side line)) }
+    ensures rows { OnOk result (rows.new.items
+        ≡ rows.old.items ++ row_pairs (blocks_at (record_of plain.now) side line)) }
     ensures before { IfOk result (λ behind. AreBefore (record_of plain.now) side behind (line + 1)) }
 {
     let blocks = plain.blocks.as_slice();
@@ -99,7 +101,8 @@ fn push_texts(
     requires tab { IsTab tab }
     requires width { IsWidth width }
     requires size { bytes_in pieces.now ≤ shown_limit }
-    ensures { OnOk result (rows.new.items ≡ rows.old.items ++ row_pairs (text_rows (elements_of pieces.now tab) width)) }
+    ensures { OnOk result (rows.new.items
+        ≡ rows.old.items ++ row_pairs (text_rows (elements_of pieces.now tab) width)) }
 {
     line_laws();
     let cuts = cuts_of_pieces(alloc, pieces, tab, width)?;

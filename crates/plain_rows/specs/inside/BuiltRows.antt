@@ -1,11 +1,14 @@
 -- Rows built line by line.
-use Rattle.std.specs.Prelude.{ℕ, ◌≡◌, ◌<◌, ◌≤◌, ◌&&◌, ◌||◌, not, nat_le, nat_lt, Bool, List, [], length, slice_index_or}
+use Rattle.std.specs.Prelude.{ℕ, ◌≡◌, ◌<◌, ◌≤◌, ◌&&◌, ◌||◌, not, nat_le, nat_lt, Bool, List, [], length, map, slice_index_or}
 use Rattle.cell_units.specs.declared.place.Side.{Side}
 use Rattle.cell_units.specs.declared.place.Side.TheVariants.{Above}
 use Rattle.cell_units.specs.Record.{Block, Record}
+use Rattle.plain_rows.specs.declared.plain.Plain.{Plain}
+use Rattle.plain_rows.specs.Plain.{block_of, record_of}
 use Rattle.plain_rows.specs.Rows.{is_on, line_of_block}
 
--- the most bytes that a text within its limit shows with its inlays and folds: each byte or hidden range three, each inlay its own
+-- the most bytes that a text within its limit shows with its inlays and folds: three for each byte or hidden range, and
+-- each inlay's own
 abbrev pub shown_limit : ℕ
 shown_limit = 167772163
 
@@ -18,7 +21,8 @@ block_at r k = slice_index_or r.blocks k no_block
 -- of the blocks of one side those before the one of this number are those that stand before the line
 pub record AreBefore (r : Record) (side : Side) (number line : ℕ) : Type 0 where
   pub before : (k : ℕ) → k < number → (block_at r k).side ≡ side → line_of_block r (block_at r k) < line
-  pub behind : (k : ℕ) → number ≤ k → k < length r.blocks → (block_at r k).side ≡ side → line ≤ line_of_block r (block_at r k)
+  pub behind :
+      (k : ℕ) → number ≤ k → k < length r.blocks → (block_at r k).side ≡ side → line ≤ line_of_block r (block_at r k)
   pub within : number ≤ length r.blocks
 
 -- there is a block of this number, and it is on the other side or stands at the line or before it
@@ -26,3 +30,7 @@ abbrev pub is_upto : Record → Side → ℕ → ℕ → Bool
 is_upto r side number line =
     nat_lt number (length r.blocks)
     && (not (is_on side (block_at r number).side) || nat_le (line_of_block r (block_at r number)) line)
+
+-- these are the display lines of the blocks
+abbrev pub AreStanding : Plain → List ℕ → Type 0
+AreStanding plain lines = lines ≡ map (λ b. line_of_block (record_of plain) (block_of b)) plain.blocks.items

@@ -2,7 +2,7 @@
 use Rattle.std.specs.Prelude.{ℕ, ◌≡◌, ◌+◌, ◌<◌, ◌≤◌, ◌==◌, ◌&&◌, nat_lt, Bool, true, false, if◌then◌else◌, List, [], ◌∷◌, ◌++◌, length, map, flat_map, take, drop, slice_range}
 use Rattle.std.specs.Str.{IsCharBoundary}
 use Rattle.cell_units.specs.Text.{begins_with_feed, carriage_return, clean}
-use Rattle.cell_units.specs.Inlaid.{InlayByte, Token, inlay_bytes, inlays_at}
+use Rattle.cell_units.specs.Inlaid.{InlayByte, Token, inlays_at}
 use Rattle.cell_units.specs.Folded.{covered, folded_before, inside}
 use Rattle.cell_units.specs.Layers.{Source}
 use Rattle.plain_rows.specs.declared.folded_lines.Joined.{Joined}
@@ -56,7 +56,8 @@ inlay_rest source number at =
 -- the new parts are the old ones and behind them the inlay's bytes from the one to the other
 pub record LaysInlay (source : Source) (number : ℕ) (old new : List Part) (at next : ℕ) : Type 0 where
   pub reaches : Reaches source new (inlay_at source number).offset
-  pub shows : tokens_of source new ++ inlay_rest source number next ≡ tokens_of source old ++ inlay_rest source number at
+  pub shows :
+      tokens_of source new ++ inlay_rest source number next ≡ tokens_of source old ++ inlay_rest source number at
   pub apart : is_buffer (last_of new) ≡ false
   pub inlays : next_inlay (last_of new) ≤ number + 1
   pub further : at < next
@@ -104,4 +105,5 @@ IsPast source number at = (k : ℕ) → number ≤ k → k < length source.inlay
 
 -- there is an inlay of this number, and it stands before the offset
 abbrev pub stands_before : Source → ℕ → ℕ → Bool
-stands_before source number offset = nat_lt number (length source.inlays) && nat_lt (inlay_at source number).offset offset
+stands_before source number offset =
+    nat_lt number (length source.inlays) && nat_lt (inlay_at source number).offset offset

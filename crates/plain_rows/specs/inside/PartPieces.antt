@@ -18,17 +18,21 @@ before_end (p ∷ o ∷ os) = p ∷ before_end (o ∷ os)
 
 -- an end is no piece
 abbrev pub piece_in : Source → Part → Piece
-piece_in source (Buffer start end) = record { kind = kinds.Buffer; text = slice_range source.text start end; start = start; end = end }
+piece_in source (Buffer start end) =
+    record { kind = kinds.Buffer; text = slice_range source.text start end; start = start; end = end }
 piece_in source (Inlay number offset start end) =
-    record { kind = kinds.Inlay; text = slice_range (inlay_at source number).text start end; start = offset; end = offset }
-piece_in source (Placeholder start end) = record { kind = kinds.Placeholder; text = placeholder; start = start; end = end }
+    let text = slice_range (inlay_at source number).text start end in
+    record { kind = kinds.Inlay; text = text; start = offset; end = offset }
+piece_in source (Placeholder start end) =
+    record { kind = kinds.Placeholder; text = placeholder; start = start; end = end }
 piece_in source (Feed offset) = record { kind = kinds.Buffer; text = []; start = offset; end = offset }
 piece_in source (InlayFeed number offset) = record { kind = kinds.Inlay; text = []; start = offset; end = offset }
 
 -- the ends of the lines of parts of which n stand before the first
 abbrev pub ends_from : ℕ → List Part → List LineEnd
 ends_from n [] = []
-ends_from n (p ∷ ps) = if is_end p then (record { parts = n + 1; feed = p } ∷ ends_from (n + 1) ps) else ends_from (n + 1) ps
+ends_from n (p ∷ ps) =
+    if is_end p then (record { parts = n + 1; feed = p } ∷ ends_from (n + 1) ps) else ends_from (n + 1) ps
 
 -- how many parts stand before the line of this number
 abbrev pub line_from : ℕ → List LineEnd → ℕ → ℕ

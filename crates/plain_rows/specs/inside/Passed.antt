@@ -1,8 +1,8 @@
 -- What of the parts stands before a position that is not strictly inside a joined fold.
-use Rattle.std.specs.Prelude.{ℕ, ◌≡◌, ◌-◌, ◌≤◌, ◌<◌, ◌==◌, ◌&&◌, ◌||◌, nat_lt, Option, Some, None, Bool, true, false, if◌then◌else◌, List, length, min}
+use Rattle.std.specs.Prelude.{ℕ, ◌≡◌, ◌-◌, ◌≤◌, ◌<◌, ◌==◌, ◌&&◌, ◌||◌, nat_lt, Option, Some, None, Bool, true, false, if◌then◌else◌, length, min}
 use Rattle.cell_units.specs.declared.place.Bias.{Bias}
 use Rattle.cell_units.specs.declared.place.Bias.TheVariants.{Left, Right}
-use Rattle.cell_units.specs.Inlaid.{Byte, Hidden, InlayByte, Token, offset_of}
+use Rattle.cell_units.specs.Inlaid.{Byte, Hidden, InlayByte, Token}
 use Rattle.cell_units.specs.Folded.{folded_to, inside}
 use Rattle.cell_units.specs.Layers.{Source}
 use Rattle.plain_rows.specs.declared.folded_lines.Joined.{Joined}
@@ -50,7 +50,8 @@ passed_bytes o bias (InlayFeed number at) = if inlay_passed o bias at then 1 els
 
 -- two positions stand at one place, and the second is not strictly inside a joined fold
 pub record IsSamePlace (source : Source) (o : ℕ) (bias : Bias) (p : ℕ) (other : Bias) : Type 0 where
-  pub same : folded_to source.text source.inlays source.folds o bias ≡ folded_to source.text source.inlays source.folds p other
+  pub same :
+      folded_to source.text source.inlays source.folds o bias ≡ folded_to source.text source.inlays source.folds p other
   pub outside : inside source.folds p ≡ false
   pub within : p ≤ length source.text
 

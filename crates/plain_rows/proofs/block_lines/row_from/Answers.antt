@@ -1,4 +1,4 @@
-use Rattle.std.proofs.Common.{◌≡◌, ◌+◌, ◌<◌, ◌≤◌, ap, sym, ◌∙◌, arith}
+use Rattle.std.proofs.Common.{◌+◌, ap, sym, ◌∙◌, arith}
 use Rattle.cell_units.specs.Text.{row_start}
 use Rattle.plain_rows.proofs.RisingLines.{next-row, same-row}
 use Rattle.plain_rows.proofs.block_lines.row_from.Goals as goal

@@ -1,4 +1,4 @@
-use Rattle.std.proofs.Common.{◌≡◌, ◌+◌, ◌≤◌, ap, arith}
+use Rattle.std.proofs.Common.{arith}
 use Rattle.plain_rows.proofs.PartSums.{sum-bound}
 use Rattle.plain_rows.specs.declared.folded_lines.Part.TheVariants.{Buffer}
 use Rattle.plain_rows.proofs.folded_lines.bytes_before.Goals as goal

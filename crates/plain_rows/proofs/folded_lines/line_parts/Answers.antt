@@ -1,11 +1,10 @@
-use Rattle.std.proofs.Common.{◌≡◌, ◌+◌, ◌-◌, ◌<◌, ◌≤◌, ℕ, List, [], length, take, drop, get_or, ap, sym, subst, ◌∙◌, arith}
+use Rattle.std.proofs.Common.{◌≡◌, ◌-◌, ◌<◌, ℕ, List, [], length, take, drop, get_or, ap, sym, subst, ◌∙◌, arith}
 use Rattle.std.proofs.lemmas.List.{get_or_past}
 use Rattle.cell_units.specs.Cutting.{cut_lines}
 use Rattle.plain_rows.specs.declared.folded_lines.LineEnd.{LineEnd}
-use Rattle.plain_rows.specs.declared.folded_lines.Part.{Part}
 use Rattle.plain_rows.specs.declared.folded_lines.Part.TheVariants.{Buffer}
 use Rattle.plain_rows.specs.FoldedLines.{before_all, is_end}
-use Rattle.plain_rows.specs.inside.PartPieces.{ends_from, line_from}
+use Rattle.plain_rows.specs.inside.PartPieces.{line_from}
 use Rattle.plain_rows.specs.inside.Passed.{part_bytes}
 use Rattle.plain_rows.proofs.EndsOfLines.{LineAt, length-lines, line-at, sum-part}
 use Rattle.plain_rows.proofs.folded_lines.line_parts.Goals as goal

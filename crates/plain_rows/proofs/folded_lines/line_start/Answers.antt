@@ -1,4 +1,4 @@
-use Rattle.std.proofs.Common.{◌≡◌, ◌-◌, ◌<◌, ℕ, suc, get_or, ap, sym, ◌∙◌, arith}
+use Rattle.std.proofs.Common.{◌≡◌, ◌-◌, suc, ap, sym, ◌∙◌, arith}
 use Rattle.plain_rows.specs.declared.folded_lines.LineEnd.{LineEnd}
 use Rattle.plain_rows.specs.declared.folded_lines.Part.TheVariants.{Buffer}
 use Rattle.plain_rows.specs.inside.PartPieces.{line_from}

@@ -1,11 +1,10 @@
-use Rattle.std.proofs.Common.{◌≡◌, ◌+◌, ◌++◌, ◌∷◌, [], ◌<◌, ◌≤◌, ℕ, List, false, length, get_or, refl, ap, sym, subst, ◌∙◌, arith}
+use Rattle.std.proofs.Common.{◌≡◌, ℕ, List, length, get_or, ap, sym, subst, ◌∙◌, arith}
 use Rattle.std.specs.Str.{IsCharBoundary}
 use Rattle.std.proofs.lemmas.Str.{IsCharBoundary-start}
 use Rattle.plain_rows.specs.declared.folded_lines.Joined.{Joined}
 use Rattle.plain_rows.specs.declared.folded_lines.Part.{Part}
-use Rattle.plain_rows.specs.declared.folded_lines.Part.TheVariants.{Feed}
 use Rattle.plain_rows.specs.FoldedLines.{AreShown, is_buffer, seen}
-use Rattle.plain_rows.specs.inside.Laying.{IsFree, IsJoinedFold, IsLaid, IsPast, last_of}
+use Rattle.plain_rows.specs.inside.Laying.{IsFree, IsLaid, last_of}
 use Rattle.plain_rows.proofs.JoinedFolds.{end_before}
 use Rattle.plain_rows.proofs.LaidSteps.{free-before, free-last, laid-all, laid-none, range-ends, range-folds}
 use Rattle.plain_rows.proofs.RangesApart.{end_before-more, end_before-none}

@@ -1,4 +1,4 @@
-use Rattle.std.proofs.Common.{◌≡◌, ◌≤◌, false, length}
+use Rattle.std.proofs.Common.{◌≡◌, false}
 use Rattle.std.specs.Str.{IsCharBoundary}
 use Rattle.plain_rows.specs.FoldedLines.{is_buffer, seen}
 use Rattle.plain_rows.specs.inside.Laying.{IsLaid, last_of}

@@ -1,4 +1,4 @@
-use Rattle.std.proofs.Common.{◌≡◌, ◌<◌, ◌≤◌, ◌-◌, ◌+◌, ◌++◌, false, length}
+use Rattle.std.proofs.Common.{◌≡◌, ◌<◌, ◌≤◌, ◌-◌, ◌+◌, ◌++◌, false}
 use Rattle.std.specs.Str.{IsCharBoundary}
 use Rattle.plain_rows.specs.FoldedLines.{inlay_at, is_buffer, next_inlay, seen}
 use Rattle.plain_rows.specs.inside.Laying.{Reaches, inlay_rest, last_of, tokens_of}

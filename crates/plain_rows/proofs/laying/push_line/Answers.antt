@@ -1,10 +1,10 @@
-use Rattle.std.proofs.Common.{◌≡◌, ◌+◌, ◌++◌, ◌∷◌, [], ap, sym, subst, ◌∙◌, arith}
+use Rattle.std.proofs.Common.{◌+◌, ◌++◌, ◌∷◌, [], ap, sym, subst, ◌∙◌, arith}
 use Rattle.plain_rows.specs.declared.folded_lines.Part.{Part}
 use Rattle.plain_rows.specs.declared.folded_lines.Part.TheVariants.{Feed}
-use Rattle.std.proofs.Common.{List, ℕ, ◌<◌, false}
+use Rattle.std.proofs.Common.{List, ◌<◌}
 use Rattle.plain_rows.specs.FoldedLines.{is_buffer, seen}
-use Rattle.plain_rows.specs.inside.Laying.{Lays, last_of, run_parts}
-use Rattle.plain_rows.proofs.LaidParts.{FirstBreak, LineLaid, break-found, line-laid-feed, line-laid-whole}
+use Rattle.plain_rows.specs.inside.Laying.{Lays, last_of}
+use Rattle.plain_rows.proofs.LaidParts.{break-found, line-laid-feed, line-laid-whole}
 use Rattle.plain_rows.proofs.laying.push_line.Goals as goal
 
 pub overflow_cast-end : goal.overflow_cast-end

@@ -1,7 +1,7 @@
-use Rattle.std.proofs.Common.{◌≡◌, ◌+◌, ◌<◌, ◌≤◌, ℕ, List, false, length, ap, sym, subst, ◌∙◌, arith}
+use Rattle.std.proofs.Common.{List, ap, sym, subst, ◌∙◌}
 use Rattle.plain_rows.specs.declared.folded_lines.Part.{Part}
 use Rattle.plain_rows.specs.declared.folded_lines.Part.TheVariants.{Placeholder}
-use Rattle.plain_rows.specs.FoldedLines.{before_all, inlay_at, is_buffer, seen}
+use Rattle.plain_rows.specs.FoldedLines.{before_all, is_buffer, seen}
 use Rattle.plain_rows.specs.inside.Laying.{IsHidden, last_of}
 use Rattle.plain_rows.proofs.LaidParts.{last-push}
 use Rattle.plain_rows.proofs.LaidSteps.{from-on, laid-behind, laid-hidden, laid-placeholder, stands, stands-not}

@@ -1,4 +1,4 @@
-use Rattle.std.proofs.Common.{◌≡◌, ◌≤◌, ◌-◌, false, length}
+use Rattle.std.proofs.Common.{◌-◌, length}
 use Rattle.plain_rows.specs.FoldedLines.{seen}
 use Rattle.plain_rows.specs.inside.Laying.{IsHidden}
 use Rattle.plain_rows.proofs.laying.push_placeholder.Given as goal

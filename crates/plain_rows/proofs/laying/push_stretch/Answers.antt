@@ -1,6 +1,5 @@
-use Rattle.std.proofs.Common.{◌≡◌, ◌+◌, ◌<◌, ◌≤◌, ℕ, List, length, get_or, ap, sym, subst, ◌∙◌, arith}
+use Rattle.std.proofs.Common.{◌+◌, ◌<◌, ℕ, length, ap, sym, subst, arith}
 use Rattle.cell_units.specs.Record.{Inlay}
-use Rattle.plain_rows.specs.declared.folded_lines.Part.{Part}
 use Rattle.plain_rows.specs.FoldedLines.{inlay_at, seen}
 use Rattle.plain_rows.specs.inside.Laying.{IsFree, IsLaid, IsSpan, Lays}
 use Rattle.plain_rows.proofs.LaidSteps.{free-within, from-on, inlay_at-read, laid-inlay, laid-text, length-inlays, past-on, stands, stands-not}

@@ -1,4 +1,4 @@
-use Rattle.std.proofs.Common.{◌≡◌, ◌≤◌, ◌-◌, false, length}
+use Rattle.std.proofs.Common.{◌≡◌, ◌-◌, false, length}
 use Rattle.plain_rows.specs.FoldedLines.{is_buffer, seen}
 use Rattle.plain_rows.specs.inside.Laying.{IsFree, IsLaid, last_of}
 use Rattle.plain_rows.proofs.laying.push_stretch.Given as goal

@@ -1,4 +1,4 @@
-use Rattle.std.proofs.Common.{◌≡◌, ◌++◌, ◌+◌, ◌<◌, ◌≤◌, ℕ, List, [], length, map, take, get_or, flat_map, ap, sym, subst, ◌∙◌, arith}
+use Rattle.std.proofs.Common.{◌≡◌, ◌++◌, ◌<◌, ◌≤◌, ℕ, List, [], length, map, get_or, flat_map, ap, sym, subst, ◌∙◌, arith}
 use Rattle.std.specs.List.{All}
 use Rattle.std.proofs.lemmas.List.{take_all}
 use Rattle.cell_units.specs.declared.piece.Piece.{Piece}
@@ -6,7 +6,6 @@ use Rattle.cell_units.specs.declared.place.Side.TheVariants.{Above, Below}
 use Rattle.cell_units.specs.Lawful.{IsWidth, source_of}
 use Rattle.cell_units.specs.Layers.{Source, shown_lines}
 use Rattle.cell_units.specs.Record.{plain_mark}
-use Rattle.cell_line.specs.declared.element.Element.{Element}
 use Rattle.cell_line.specs.Elements.{bytes_in, elements_of}
 use Rattle.plain_rows.specs.declared.plain.PlainBlock.{PlainBlock}
 use Rattle.plain_rows.specs.FoldedLines.{AreInOrder, AreLinesOf, seen}

@@ -1,7 +1,6 @@
-use Rattle.std.proofs.Common.{◌≡◌, ◌++◌, ℕ, List, map, take, ap, sym, ◌∙◌, arith}
+use Rattle.std.proofs.Common.{◌++◌, ℕ, List, map, ap, sym, ◌∙◌, arith}
 use Rattle.std.proofs.lemmas.List.{take_all}
-use Rattle.plain_rows.specs.Plain.{block_of, row_pairs}
-use Rattle.plain_rows.specs.Rows.{block_rows}
+use Rattle.plain_rows.specs.Plain.{block_of}
 use Rattle.plain_rows.proofs.BuiltRows.{Pairs, pairs-block}
 use Rattle.plain_rows.proofs.rows.push_block.Goals as goal
 

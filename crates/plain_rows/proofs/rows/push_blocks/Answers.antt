@@ -1,11 +1,11 @@
-use Rattle.std.proofs.Common.{◌≡◌, ◌++◌, ◌+◌, ◌<◌, ◌≤◌, ℕ, List, [], cond, length, map, get_or, ap, sym, subst, ◌∙◌, inl, inr, arith, append-nil, append_assoc}
+use Rattle.std.proofs.Common.{◌≡◌, ◌++◌, ℕ, List, [], cond, get_or, ap, sym, ◌∙◌, inl, inr, arith, append-nil, append_assoc}
 use Rattle.std.proofs.lemmas.Bool.{cases_lt}
 use Rattle.std.proofs.lemmas.List.{get_or-map, length-map}
 use Rattle.cell_units.specs.declared.place.Side.{Side}
 use Rattle.cell_units.specs.Record.{Block}
 use Rattle.plain_rows.specs.declared.plain.PlainBlock.{PlainBlock}
 use Rattle.plain_rows.specs.Plain.{block_of, record_of, row_pairs}
-use Rattle.plain_rows.specs.Rows.{block_rows, blocks_at, is_on, line_of_block}
+use Rattle.plain_rows.specs.Rows.{block_rows, is_on, line_of_block}
 use Rattle.plain_rows.specs.inside.BuiltRows.{block_at, no_block}
 use Rattle.plain_rows.proofs.BuiltRows.{Pairs, past-here, upto-true, walked, walked-all, walked-next, walked-none}
 use Rattle.plain_rows.proofs.rows.push_blocks.Goals as goal

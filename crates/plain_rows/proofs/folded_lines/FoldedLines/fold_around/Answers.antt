@@ -1,10 +1,9 @@
-use Rattle.std.proofs.Common.{◌≡◌, ◌<◌, ◌≤◌, ℕ, List, leb, true, false, length, get_or, ap, sym, subst, ◌∙◌, arith, rules}
+use Rattle.std.proofs.Common.{◌≡◌, ◌<◌, ℕ, leb, length, get_or, ap, sym, subst, ◌∙◌, arith, rules}
 use Rattle.std.proofs.lemmas.Bool.{leb-false}
 use Rattle.std.proofs.lemmas.List.{get_or_default}
 use Rattle.std.proofs.lemmas.List.Sorted.{IsPartitionPoint-from_clause}
-use Rattle.cell_units.specs.Layers.{Source}
 use Rattle.plain_rows.specs.declared.folded_lines.Joined.{Joined}
-use Rattle.plain_rows.specs.FoldedLines.{AreLinesOf, Joins, LaidOut}
+use Rattle.plain_rows.specs.FoldedLines.{Joins, LaidOut}
 use Rattle.plain_rows.proofs.LaidSteps.{range-folds}
 use Rattle.plain_rows.proofs.RangesApart.{range-at}
 use Rattle.plain_rows.proofs.SearchedEnds.{outside-ranges, ranges-parted}

@@ -1,4 +1,4 @@
-use Rattle.std.proofs.Common.{◌≡◌, ap, sym, ◌∙◌}
+use Rattle.std.proofs.Common.{ap, sym, ◌∙◌}
 use Rattle.std.specs.List.{count_by}
 use Rattle.cell_units.specs.Inlaid.{is_break}
 use Rattle.plain_rows.proofs.Positions.{line-found}

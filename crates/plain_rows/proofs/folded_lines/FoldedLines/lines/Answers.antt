@@ -1,4 +1,4 @@
-use Rattle.std.proofs.Common.{◌≡◌, length, ap, sym, ◌∙◌, arith}
+use Rattle.std.proofs.Common.{length, ap, arith}
 use Rattle.plain_rows.specs.inside.PartPieces.{ends_from}
 use Rattle.plain_rows.proofs.Positions.{lines-counted}
 use Rattle.plain_rows.proofs.ShownSizes.{ends-size}

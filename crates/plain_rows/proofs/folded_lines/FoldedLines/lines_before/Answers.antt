@@ -1,8 +1,6 @@
-use Rattle.std.proofs.Common.{◌≡◌, ◌<◌, ◌≤◌, List, length, true, ap, sym, subst, ◌∙◌, arith, rules}
-use Rattle.std.specs.List.Sorted.{IsPartitionedBy}
+use Rattle.std.proofs.Common.{◌≡◌, length, ap, ◌∙◌, arith, rules}
 use Rattle.std.proofs.lemmas.List.Sorted.{IsPartitionPoint-from_clause}
 use Rattle.plain_rows.specs.declared.folded_lines.LineEnd.{LineEnd}
-use Rattle.plain_rows.specs.declared.folded_lines.Part.{Part}
 use Rattle.plain_rows.specs.FoldedLines.{LaidOut, before_all}
 use Rattle.plain_rows.specs.inside.PartPieces.{ends_from}
 use Rattle.plain_rows.specs.inside.Passed.{part_passed}

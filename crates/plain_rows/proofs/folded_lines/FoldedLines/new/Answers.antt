@@ -1,8 +1,5 @@
-use Rattle.std.proofs.Common.{◌≡◌, ◌<◌, ◌≤◌, ◌^◌, ap, sym, subst, ◌∙◌, arith}
-use Rattle.std.specs.List.{sum_by}
-use Rattle.plain_rows.specs.declared.folded_lines.Joined.{Joined}
-use Rattle.plain_rows.specs.declared.folded_lines.Part.{Part}
-use Rattle.plain_rows.specs.FoldedLines.{AreShown, Joins, seen}
+use Rattle.std.proofs.Common.{ap, ◌∙◌, arith}
+use Rattle.plain_rows.specs.FoldedLines.{seen}
 use Rattle.plain_rows.specs.inside.PartPieces.{ends_from}
 use Rattle.plain_rows.proofs.LawfulSources.{lawful_source, plain-folds_rise, plain-folds_some}
 use Rattle.plain_rows.proofs.ShownSizes.{folded-size, parts-size, size}

@@ -1,8 +1,7 @@
-use Rattle.std.proofs.Common.{◌≡◌, ℕ, List, [], length, get_or, flat_map, ap, sym, ◌∙◌}
+use Rattle.std.proofs.Common.{ℕ, List, [], length, get_or, flat_map, ap, sym, ◌∙◌}
 use Rattle.std.specs.List.{after_last, sum_by}
 use Rattle.cell_units.specs.Cutting.{cut_lines}
 use Rattle.cell_units.specs.Inlaid.{Token, bytes_of, is_break}
-use Rattle.plain_rows.specs.declared.folded_lines.Part.{Part}
 use Rattle.plain_rows.specs.FoldedLines.{is_end}
 use Rattle.plain_rows.specs.inside.Passed.{passed_bytes}
 use Rattle.plain_rows.proofs.Positions.{place-found}
