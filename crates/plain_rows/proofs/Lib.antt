@@ -25,3 +25,12 @@ pub mod LineSizes
 pub mod RowsOfLines
 pub mod PlainRecords
 pub mod RowCounts
+pub mod ElementPlaces
+pub mod LineSpots
+pub mod RowsInOrder
+pub mod ShowRises
+pub mod SpotBlocks
+pub mod SpotFronts
+pub mod SpotLines
+pub mod SpotShown
+pub mod SpotSizes

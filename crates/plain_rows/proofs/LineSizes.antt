@@ -12,11 +12,11 @@ use Rattle.cell_line.specs.Elements.{bytes_in}
 use Rattle.plain_rows.specs.FoldedLines.{IsLawfulSource}
 use Rattle.plain_rows.proofs.ShownSizes.{folded-size, size, size-append}
 
-bytes-in : (ps : List Piece) → bytes_in ps ≡ length (line_bytes ps)
+pub bytes-in : (ps : List Piece) → bytes_in ps ≡ length (line_bytes ps)
 bytes-in [] = refl
 bytes-in (p ∷ ps) = ap (λ (n : ℕ). length p.text + n) (bytes-in ps) ∙ sym (length-append p.text (line_bytes ps))
 
-front-size : (l : List Token) → size (before_break l) ≤ size l
+pub front-size : (l : List Token) → size (before_break l) ≤ size l
 front-size [] = omega arith
 front-size (t ∷ []) = omega arith
 front-size (t ∷ u ∷ us) = omega (arith, size-append (t ∷ []) (before_break (u ∷ us)), size-append (t ∷ []) (u ∷ us), front-size (u ∷ us))

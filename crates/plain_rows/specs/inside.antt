@@ -4,3 +4,4 @@ pub mod Passed
 pub mod PartPieces
 pub mod BlockRows
 pub mod BuiltRows
+pub mod SpotRows

@@ -4,20 +4,65 @@ ghost use Rattle.cell_units.specs.Text.{IsBoundary};
 ghost use Rattle.cell_units.specs.Lawful.{IsLawful};
 ghost use Rattle.plain_rows.specs.Plain.{record_of};
 ghost use Rattle.plain_rows.specs.Spots.{back, clip, show};
+ghost use Rattle.plain_rows.specs.inside.SpotRows.{AreRowsOf, IsLaid};
 
+use crate::folded_lines::FoldedLines;
 use crate::plain::Plain;
 use cell_units::limits::TEXT_LIMIT;
 use cell_units::{Bias, NoMemory, Spot};
 use std::alloc::Global;
 
-/// Where the boundary `offset` of the text is shown.
-pub fn show(_alloc: Global, _plain: &Plain, _offset: u32, _bias: Bias) -> Result<Spot, NoMemory>
-    requires lawful { IsLawful (record_of _plain.now) }
-    requires size { length _plain.now.text ≤ TEXT_LIMIT }
-    requires boundary { IsBoundary (record_of _plain.now).text _offset }
-    ensures { IfOk result (λ spot. spot ≡ show (record_of _plain.now) _offset _bias) }
+pub mod laid_rows;
+pub mod row_counts;
+mod row_line;
+
+use laid_rows::LaidRows;
+use row_counts::first_rows;
+
+/// What is laid out of a record to look offsets and spots up.
+#[derive(Drop)]
+struct Laid {
+    lines: FoldedLines,
+    first_rows: Vec<u32>,
+}
+
+/// Lays a record out.
+fn lay_out(alloc: Global, plain: &Plain) -> Result<Laid, NoMemory>
+    requires lawful { IsLawful (record_of plain.now) }
+    requires size { length plain.now.text ≤ TEXT_LIMIT }
+    ensures { IfOk result (λ laid. IsLaid (record_of plain.now) laid.lines laid.first_rows.items) }
 {
-    Err(NoMemory)
+    let lines = FoldedLines::new(alloc, &plain.source())?;
+    let first_rows = first_rows(alloc, plain, &lines)?;
+    Ok(Laid { lines, first_rows })
+}
+
+impl Laid {
+    /// The rows of the record that was laid out.
+    fn rows<'a>(&'a self, plain: &'a Plain) -> LaidRows<'a>
+        requires { IsLaid (record_of plain.now) self.now.lines self.now.first_rows.items }
+        ensures { AreRowsOf (record_of plain.now) result }
+    {
+        LaidRows {
+            source: plain.source(),
+            lines: &self.lines,
+            tab: plain.tab,
+            widths: plain.marks.as_slice(),
+            first_rows: self.first_rows.as_slice(),
+        }
+    }
+}
+
+/// Where the boundary `offset` of the text is shown.
+pub fn show(alloc: Global, plain: &Plain, offset: u32, bias: Bias) -> Result<Spot, NoMemory>
+    requires lawful { IsLawful (record_of plain.now) }
+    requires size { length plain.now.text ≤ TEXT_LIMIT }
+    requires boundary { IsBoundary (record_of plain.now).text offset }
+    ensures { IfOk result (λ spot. spot ≡ show (record_of plain.now) offset bias) }
+{
+    let laid = lay_out(alloc, plain)?;
+    let rows = laid.rows(plain);
+    rows.show(alloc, offset, bias)
 }
 
 /// The nearest spot at which some offset is shown.

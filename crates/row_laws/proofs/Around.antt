@@ -10,7 +10,7 @@ use Rattle.cell_units.specs.Inlaid.{Byte, Hidden, InlayByte, Token, inlay_bytes,
 use Rattle.cell_units.specs.Folded.{covered, folded_before, inside, shown}
 use Rattle.cell_units.specs.Pieces.{is_one_piece}
 use Rattle.cell_units.specs.Lawful.{IsLawful}
-use Rattle.row_laws.proofs.FoldedFronts.{after_of, next_before, show_each-append, token_at}
+use Rattle.plain_rows.proofs.FoldedFronts.{after_of, next_before, show_each-append, token_at}
 use Rattle.row_laws.proofs.FoldedUnits.{FoldsAreStill, inside-covered, inside-still}
 use Rattle.row_laws.proofs.LawfulLines.{still_at}
 use Rattle.row_laws.proofs.PieceTexts.{snoc}

@@ -15,7 +15,7 @@ use Rattle.plain_rows.proofs.Lists.{IsFirst, all-contained, contains-cases, cont
 use Rattle.plain_rows.proofs.Clips.{clip-own, clip-valid, spot_le-antisym}
 use Rattle.plain_rows.proofs.NearestAfter.{clip-rises}
 use Rattle.cell_units.specs.Lawful.{IsMarked}
-use Rattle.row_laws.proofs.ShowRises.{ComesFirst, show-open_rises}
+use Rattle.plain_rows.proofs.ShowRises.{ComesFirst, show-open_rises}
 
 -- what a map gives comes from one of the list
 pub contains-unmapped : {X Y : Type 0} (f : X → Y) (xs : List X) (y : Y) → Contains (map f xs) y → (x : X) × Contains xs x × (f x ≡ y)

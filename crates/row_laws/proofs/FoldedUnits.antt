@@ -13,7 +13,7 @@ use Rattle.cell_units.specs.Record.{Fold, Inlay}
 use Rattle.cell_units.specs.Inlaid.{Byte, Hidden, InlayByte, Token, bytes_of, inlay_bytes, inlays_at, is_break, show_each}
 use Rattle.cell_units.specs.Folded.{covered, display_lines, folded, inside, shown}
 use Rattle.cell_units.proofs.Characters.{GoOn, Spelled, clean-utf8, goes_on-high, one_utf8, spelled}
-use Rattle.row_laws.proofs.FoldedFronts.{show_each-append}
+use Rattle.plain_rows.proofs.FoldedFronts.{show_each-append}
 use Rattle.row_laws.proofs.LineTexts.{ABreak, AText, AreGoodLines, AreLinked, HasNoBreak, IsUnit, Units, good-lines, units-append, units-nil, units-one}
 
 -- ---- the characters of an inlay

@@ -12,10 +12,10 @@ use Rattle.cell_units.specs.Folded.{inside}
 use Rattle.cell_line.specs.declared.element.Element.{Element}
 use Rattle.cell_units.specs.Lawful.{IsLawful}
 use Rattle.plain_rows.specs.Spots.{elements_at, elements_before, is_open, positions, show}
-use Rattle.row_laws.proofs.ElementPlaces.{elements_before-open}
+use Rattle.plain_rows.proofs.ElementPlaces.{elements_before-open}
 use Rattle.row_laws.proofs.ElementSides.{HaveBytes, end_of-before, start_of-before}
-use Rattle.row_laws.proofs.FoldedFronts.{left_of, right_of, tokens_to}
-use Rattle.row_laws.proofs.ShowRises.{byte_in, line_in, spot_at}
+use Rattle.plain_rows.proofs.FoldedFronts.{left_of, right_of, tokens_to}
+use Rattle.plain_rows.proofs.ShowRises.{byte_in, line_in, spot_at}
 use Rattle.row_laws.proofs.BackRises.{HasBack, IsShownAt, boundary-within, contains-unmapped, position-boundary, shown-contained}
 use Rattle.row_laws.proofs.Seams.{all_tokens, have_bytes, is_inside_at}
 use Rattle.row_laws.proofs.Around.{Hiding, all-next, all-right, before, before-hidden, hiding, ins, no-inlays, start-boundary}

@@ -1,16 +1,9 @@
-pub mod Fronts
-pub mod ElementPlaces
-pub mod LineSpots
-pub mod FoldedFronts
-pub mod RowsInOrder
-pub mod ShowRises
 pub mod BackRises
 pub mod ElementSides
 pub mod ClusterSeams
 pub mod PieceTexts
 pub mod LineTexts
 pub mod FoldedUnits
-pub mod LineAt
 pub mod LawfulLines
 pub mod Seams
 pub mod Around

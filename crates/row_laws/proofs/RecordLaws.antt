@@ -10,7 +10,7 @@ use Rattle.cell_units.specs.Lawful.{IsLawful}
 use Rattle.row_laws.specs.Laws.{IsGreatestAt, IsLeastAt, IsOpenAt, IsUpTo}
 use Rattle.plain_rows.specs.Spots.{back, clip, is_open, offsets_at, show, spot_le}
 use Rattle.plain_rows.proofs.Clips.{clip-valid}
-use Rattle.row_laws.proofs.ShowRises.{show-open_rises, show-rises, show-sides}
+use Rattle.plain_rows.proofs.ShowRises.{show-open_rises, show-rises, show-sides}
 use Rattle.row_laws.proofs.BackRises.{IsShownAt, back-own, back-picked, back-rises, contained-shown, left-picked, picked, right-picked, shown-contained}
 use Rattle.row_laws.proofs.HasBack.{has-back}
 

@@ -14,14 +14,14 @@ use Rattle.cell_units.specs.Pieces.{folded_lines, is_one_piece, pieces_of}
 use Rattle.cell_line.specs.Elements.{elements_of}
 use Rattle.cell_units.specs.Lawful.{IsLawful}
 use Rattle.plain_rows.specs.Spots.{elements_at, is_within}
-use Rattle.row_laws.proofs.Fronts.{after_last-break, after_last-other}
+use Rattle.plain_rows.proofs.Fronts.{after_last-break, after_last-other}
 use Rattle.row_laws.proofs.ElementSides.{HaveBytes, zero_apart}
-use Rattle.row_laws.proofs.FoldedFronts.{show_each-append, tokens_to}
+use Rattle.plain_rows.proofs.FoldedFronts.{show_each-append, tokens_to}
 use Rattle.row_laws.proofs.FoldedUnits.{covered-inside}
 use Rattle.row_laws.proofs.LawfulLines.{end-shown, line-texts}
-use Rattle.row_laws.proofs.LineAt.{First, first-line, line-at, line-within}
+use Rattle.plain_rows.proofs.LineAt.{First, first-line, line-at, line-within}
 use Rattle.row_laws.proofs.PieceTexts.{AreUtf8, apart-seam, elements-have_bytes, end-seam, next-first, texts}
-use Rattle.row_laws.proofs.ShowRises.{byte_in, line_in}
+use Rattle.plain_rows.proofs.ShowRises.{byte_in, line_in}
 
 module _ (r : Record) (lawful : IsLawful r) where
   abbrev pub all_tokens : List Token

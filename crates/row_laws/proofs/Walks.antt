@@ -11,12 +11,12 @@ use Rattle.cell_units.specs.Folded.{covered, inside}
 use Rattle.cell_line.specs.declared.element.Element.{Element}
 use Rattle.cell_units.specs.Lawful.{IsLawful}
 use Rattle.plain_rows.specs.Spots.{elements_at, is_within}
-use Rattle.row_laws.proofs.Fronts.{after_last-other}
+use Rattle.plain_rows.proofs.Fronts.{after_last-other}
 use Rattle.row_laws.proofs.ElementSides.{end_of, end_of-last, end_of-next, start_of, start_of-first, start_of-next}
 use Rattle.row_laws.proofs.FoldedUnits.{covered-inside}
 use Rattle.row_laws.proofs.LawfulLines.{end-shown}
 use Rattle.row_laws.proofs.Seams.{have_bytes, is_inside_at}
-use Rattle.row_laws.proofs.ShowRises.{byte_in, line_in}
+use Rattle.plain_rows.proofs.ShowRises.{byte_in, line_in}
 use Rattle.row_laws.proofs.Around.{Around, all-next, all-right, apart-boundary, around, before, behind-hidden, clear-within, end-boundary, full-byte, hiding, inside-next, ins, next-in, next-out, no-inlays, token}
 
 -- one more byte is on the same line

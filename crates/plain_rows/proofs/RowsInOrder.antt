@@ -15,7 +15,7 @@ use Rattle.cell_line.specs.Wrapping.{cuts_of}
 use Rattle.cell_line.proofs.RowTexts.{length-row_texts_of}
 use Rattle.plain_rows.specs.Rows.{Row, blocks_at, head_and_more, line_elements, line_rows, more_row, rows_by_line, text_rows, with_blocks}
 use Rattle.plain_rows.specs.Spots.{elements_at, mark_at, rows_before}
-use Rattle.row_laws.proofs.LineSpots.{sum_by-take_rises}
+use Rattle.plain_rows.proofs.LineSpots.{sum_by-take_rises}
 
 -- there are at least as many lines as breaks
 pub lines-breaks : {X : Type 0} (p : X → Bool) (xs : List X) → count_by p xs ≤ length (cut_lines p xs)
@@ -33,10 +33,10 @@ length-text_rows es width = go (row_texts_of es width) ∙ length-row_texts_of e
   go [] = refl
   go (text ∷ texts) = let e = length-map texts more_row in omega (arith, e)
 
-abbrev rows_upto : ℕ → List (List Row) → ℕ
+abbrev pub rows_upto : ℕ → List (List Row) → ℕ
 rows_upto k lines = length (flat_map (λ rows. rows) (take k lines))
 
-rows_upto-more : (lines : List (List Row)) (k : ℕ) → k < length lines → rows_upto (k + 1) lines ≡ rows_upto k lines + length (get_or lines k [])
+pub rows_upto-more : (lines : List (List Row)) (k : ℕ) → k < length lines → rows_upto (k + 1) lines ≡ rows_upto k lines + length (get_or lines k [])
 rows_upto-more lines k lt =
     omega (
       arith,
@@ -45,7 +45,7 @@ rows_upto-more lines k lt =
       sum_by_more (λ (rows : List Row). length rows) lines k [] lt,
     )
 
-rows_upto-rises : (lines : List (List Row)) (j k : ℕ) → j ≤ k → rows_upto j lines ≤ rows_upto k lines
+pub rows_upto-rises : (lines : List (List Row)) (j k : ℕ) → j ≤ k → rows_upto j lines ≤ rows_upto k lines
 rows_upto-rises lines j k le =
     omega (
       arith,
@@ -98,3 +98,27 @@ rows_before-later r j k row lt within marked is =
     let more = later_line (blocks_at r Above) (blocks_at r Below) (line_rows r) j k row lt (omega (arith, within, marked, rows))
     (omega (arith, is, ap length (get_or-line_rows r j within marked), length-text_rows (elements_at r j) (mark_at r j).width)) in
     omega (arith, more)
+
+pub length-rows_by_line : (r : Record) → length (line_elements r) ≡ length r.marks → length (rows_by_line r) ≡ length r.marks
+unfolding rows_by_line
+length-rows_by_line r same =
+    omega (
+      arith,
+      same,
+      length-with_blocks (blocks_at r Above) (blocks_at r Below) (line_rows r),
+      length-map (zip (line_elements r) r.marks) (λ (l : List Element × Mark). text_rows l.0 l.1.width),
+      length-zip (line_elements r) r.marks,
+    )
+
+pub get_or-rows_by_line : (r : Record) (line : ℕ) → line < length r.marks → length (line_elements r) ≡ length r.marks →
+    get_or (rows_by_line r) line [] ≡ blocks_at r Above line ++ (get_or (line_rows r) line [] ++ blocks_at r Below line)
+unfolding rows_by_line
+get_or-rows_by_line r line lt same =
+    get_or-with_blocks (blocks_at r Above) (blocks_at r Below) (line_rows r) line
+    (omega (
+      arith,
+      lt,
+      same,
+      length-map (zip (line_elements r) r.marks) (λ (l : List Element × Mark). text_rows l.0 l.1.width),
+      length-zip (line_elements r) r.marks,
+    ))

@@ -17,11 +17,11 @@ use Rattle.cell_line.specs.Elements.{elements_of}
 use Rattle.plain_rows.specs.Rows.{line_elements}
 use Rattle.plain_rows.specs.Spots.{elements_at, elements_before, is_open, is_within, mark_at, rows_before, show, spot_in_line, spot_le}
 use Rattle.plain_rows.proofs.Clips.{spot_le-trans}
-use Rattle.row_laws.proofs.Fronts.{IsFront, after_last-front, count_by-front, flat_map-front, length-front}
-use Rattle.row_laws.proofs.ElementPlaces.{elements_before-open, elements_before-rises, elements_before-sides}
-use Rattle.row_laws.proofs.LineSpots.{spot_in_line-rises, spot_in_line-row}
-use Rattle.row_laws.proofs.FoldedFronts.{to-across, to-folded, to-rises, to-sides, tokens_to}
-use Rattle.row_laws.proofs.RowsInOrder.{lines-breaks, rows_before-later}
+use Rattle.plain_rows.proofs.Fronts.{IsFront, after_last-front, count_by-front, flat_map-front, length-front}
+use Rattle.plain_rows.proofs.ElementPlaces.{elements_before-open, elements_before-rises, elements_before-sides}
+use Rattle.plain_rows.proofs.LineSpots.{spot_in_line-rises, spot_in_line-row}
+use Rattle.plain_rows.proofs.FoldedFronts.{to-across, to-folded, to-rises, to-sides, tokens_to}
+use Rattle.plain_rows.proofs.RowsInOrder.{lines-breaks, rows_before-later}
 
 abbrev pub line_in : List Token → ℕ
 line_in tokens = count_by is_break tokens
