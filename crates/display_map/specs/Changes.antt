@@ -3,7 +3,6 @@ use Rattle.std.specs.Prelude.{ℕ, ◌==◌, ◌&&◌, ◌||◌, not, Bool, true
 use Rattle.std.specs.List.{list_any}
 use Rattle.cell_units.specs.declared.fault.Refusal.{Refusal}
 use Rattle.cell_units.specs.declared.fault.Refusal.TheVariants.{BadNumber, BadRange, BadText, IdInUse, TooLong, UnknownId}
-use Rattle.cell_units.specs.declared.place.Bias.{Bias}
 use Rattle.cell_units.specs.declared.limits.TheConstants.{BLOCK_LINES_LIMIT, BLOCK_LINE_LIMIT, ENTRY_LIMIT, INLAY_LIMIT, LEAST_WIDTH, TAB_LIMIT, TEXT_LIMIT, WIDTH_LIMIT}
 use Rattle.cell_units.specs.Text.{carriage_return, is_boundary, is_feed}
 use Rattle.cell_units.specs.Record as records
@@ -12,28 +11,14 @@ use Rattle.cell_units.specs.Operation as operations
 use Rattle.cell_units.specs.Operation.{Operation, AddBlock, AddFold, AddInlay, RemoveBlock, RemoveFold, RemoveInlay, SetTab, SetWidth, operated}
 use Rattle.display_map.specs.declared.change.Splice.{Splice}
 use Rattle.display_map.specs.declared.change.Op.{Op}
-use Rattle.display_map.specs.declared.change.Op.TheVariants.{Block, Fold, Inlay, Replace, Tab, Unblock, Unfold, Uninlay, Width}
+use Rattle.display_map.specs.declared.change.Op.TheVariants.{Replace}
 use Rattle.display_map.specs.declared.change.Change as declared
 use Rattle.display_map.specs.declared.change.Change.TheVariants as changes
 
 -- ---- what a change asks
 
-abbrev pub inlay_of : ℕ → ℕ → Bias → List ℕ → records.Inlay
-inlay_of id offset bias text = record { offset = offset; bias = bias; id = id; text = text }
-
-abbrev pub fold_of : ℕ → ℕ → ℕ → records.Fold
-fold_of id start end = record { start = start; end = end; id = id }
-
 abbrev pub operation_of : Op → Operation
 operation_of (Replace s) = operations.Replace s.start s.end s.text
-operation_of (Inlay id offset bias text) = AddInlay (inlay_of id offset bias text)
-operation_of (Uninlay id) = RemoveInlay id
-operation_of (Fold id start end) = AddFold (fold_of id start end)
-operation_of (Unfold id) = RemoveFold id
-operation_of (Block id side row lines) = AddBlock row id side lines.items
-operation_of (Unblock id) = RemoveBlock id
-operation_of (Tab size) = SetTab size
-operation_of (Width cells) = SetWidth cells
 
 -- what a contract sees of a change: a batch of replacements, or one operation
 pub data ChangeParts : Type 0 where

@@ -232,17 +232,11 @@ impl Display {
         Ok(())
     }
 
-    /// Does a change. A refused change leaves the display as it was. It is refused by the first of these that fits:
+    /// Does a change. A refused change leaves the display as it was.
     ///
-    /// - `BadNumber`: a tab size isn't 1 to 16, or a width neither 0 nor 2 to 10,000;
-    /// - `IdInUse`, `UnknownId`: an id that is added is there already, or one that is removed isn't;
-    /// - `BadRange`: an offset is past the end or no boundary; a fold is backwards or empty; a block's row is past the
-    ///   last; a range of an edit is backwards, or starts before the end of the one before it;
-    /// - `BadText`: an inlay's text is empty; a block has no line, more than 256, or one with a line end;
-    /// - `TooLong`: the text would be longer than a text may be; an inlay's text or a block's line is over 1,024 bytes;
-    ///   65,536 of the kind are there.
-    ///
-    /// The ranges of an edit are those of the text before it.
+    /// The ranges of an edit are those of the text before it. It is refused as `BadRange` where one is backwards, past the
+    /// end or off a boundary or starts before the end of the one before it, and else as `TooLong` where the text would be
+    /// longer than a text may be.
     pub fn apply(&mut self, alloc: Global, change: &Change, _steps: &mut Steps) -> Result<(), Fault>
         requires room { length self.old.events + length (ops_of change.now) ≤ event_limit }
         ensures accepted { OnOk result (change_refusal (present_of self.old) change.now ≡ None) }
@@ -253,7 +247,6 @@ impl Display {
         match change {
             Change::Edit(splices) => self.edit(alloc, splices),
             Change::One(Op::Replace(splice)) => self.edit(alloc, slice::from_ref(splice)),
-            Change::One(_) => Err(Fault::NoMemory),
         }
     }
 

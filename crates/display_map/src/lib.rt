@@ -24,7 +24,7 @@ pub use event::Event;
 pub use held::Held;
 pub use journal::Journal;
 pub use laws::{job_laws, replay_laws, step_laws};
-pub use shown::{Kind, MarkRun, Shown};
+pub use shown::{Kind, Shown};
 pub use version::Version;
 pub use view::View;
 

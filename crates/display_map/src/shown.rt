@@ -18,11 +18,3 @@ pub struct Shown {
     pub kind: Kind,
     pub text: Text,
 }
-
-/// The lines from `first` to `last`, which stand wrapped at `width`, as those before and behind them don't.
-#[derive(Clone, Copy, Debug, PartialEq, Eq)]
-pub struct MarkRun {
-    pub first: u32,
-    pub last: u32,
-    pub width: u32,
-}

@@ -1,22 +1,18 @@
 //! Views: what a display showed at one moment.
-ghost use Rattle.std.specs.Prelude.{◌≡◌, ◌^◌, ◌<◌, ◌≤◌, None, length, take, drop, slice_get, slice_range, flat_map, IfOk, OnOk, IfErr};
+ghost use Rattle.std.specs.Prelude.{◌≡◌, ◌^◌, ◌<◌, ◌≤◌, length, slice_get, slice_range, flat_map, IfOk};
 ghost use Rattle.cell_units.specs.BufferLines.{buffer_lines};
 ghost use Rattle.plain_rows.specs.Rows.{rows_of};
 ghost use Rattle.display_map.specs.Kept.{AreWrapped, wrapped_rows};
 ghost use Rattle.cell_units.specs.Text.{IsBoundary};
-ghost use Rattle.plain_rows.specs.Plain.{record_of};
-ghost use Rattle.plain_rows.specs.Spots.{back, clip, show};
-ghost use Rattle.display_map.specs.Faults.{IsRefusedAs};
 ghost use Rattle.display_map.specs.Replay.{present_of, versions_of};
-ghost use Rattle.display_map.specs.Shown.{mark_runs, show_refusal, shown_row, shown_rows, unstamped};
+ghost use Rattle.display_map.specs.Shown.{shown_row};
 
 use crate::buffer::Buffer;
 use crate::journal::Journal;
 use crate::paint;
-use crate::shown::{MarkRun, Shown};
+use crate::shown::Shown;
 use crate::wrap::{self, Wrap};
-use cell_units::{Bias, Fault, NoMemory, Refusal, Spot, Steps, Text};
-use plain_rows::Plain;
+use cell_units::{NoMemory, Steps, Text};
 use std::alloc::Global;
 use std::marker::Model;
 use std::sync::Arc;
@@ -86,83 +82,11 @@ impl View {
         row_of(alloc, &self.text, self.tab, &self.wraps, row)
     }
 
-    /// The rows from number `first` on, as many as there are up to `count`.
-    pub fn rows(
-        &self,
-        _alloc: Global,
-        _first: u32,
-        _count: u32,
-        _steps: &mut Steps,
-    ) -> Result<Vec<Shown>, NoMemory>
-        ensures { IfOk result (λ shown. shown_rows shown.items ≡ take _count (drop _first (rows_of (present_of self.now)))) }
-    {
-        Err(NoMemory)
-    }
-
-    /// Where an offset of the text is shown. `BadRange` where it is past the end or within a character.
-    pub fn show(
-        &self,
-        _alloc: Global,
-        offset: u32,
-        _bias: Bias,
-        _steps: &mut Steps,
-    ) -> Result<Spot, Fault>
-        ensures shown { IfOk result (λ spot. spot ≡ show (present_of self.now) offset _bias) }
-        ensures accepted { OnOk result (show_refusal (present_of self.now) offset ≡ None) }
-        ensures refused { IfErr result (IsRefusedAs (show_refusal (present_of self.now) offset)) }
-    {
-        if self.text.as_str().is_char_boundary(offset as usize) {
-            Err(Fault::NoMemory)
-        } else {
-            Err(Fault::Refused(Refusal::BadRange))
-        }
-    }
-
-    /// The nearest spot at which some offset is shown.
-    pub fn clip(
-        &self,
-        _alloc: Global,
-        _spot: Spot,
-        _bias: Bias,
-        _steps: &mut Steps,
-    ) -> Result<Spot, NoMemory>
-        ensures { IfOk result (λ nearest. nearest ≡ clip (present_of self.now) _spot _bias) }
-    {
-        Err(NoMemory)
-    }
-
-    /// The least offset (Left) or the greatest (Right) that is shown at the nearest such spot.
-    pub fn back(
-        &self,
-        _alloc: Global,
-        _spot: Spot,
-        _bias: Bias,
-        _steps: &mut Steps,
-    ) -> Result<u32, NoMemory>
-        ensures { IfOk result (λ offset. offset ≡ back (present_of self.now) _spot _bias) }
-    {
-        Err(NoMemory)
-    }
-
-    /// The lines that stand wrapped: maximal runs of neighbours at one width.
-    pub fn marks(&self, _alloc: Global, _steps: &mut Steps) -> Result<Vec<MarkRun>, NoMemory>
-        ensures { IfOk result (λ runs. runs.items ≡ mark_runs (present_of self.now)) }
-    {
-        Err(NoMemory)
-    }
-
     /// How many versions were published up to this view.
     pub fn versions(&self) -> u64
         ensures { result ≡ versions_of self.now.events }
     {
         u64::from(self.versions)
-    }
-
-    /// The record as plain lists.
-    pub fn plain(&self, _alloc: Global, _steps: &mut Steps) -> Result<Plain, NoMemory>
-        ensures { IfOk result (λ plain. record_of plain ≡ unstamped (present_of self.now)) }
-    {
-        Err(NoMemory)
     }
 
     /// The bytes of the text from `start` up to `end`, two boundaries in order.

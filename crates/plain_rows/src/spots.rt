@@ -1,9 +1,9 @@
-//! Where an offset of a record is shown, and which offset a spot shows.
+//! Where an offset of a record is shown.
 ghost use Rattle.std.specs.Prelude.{◌≡◌, ◌≤◌, length, IfOk};
 ghost use Rattle.cell_units.specs.Text.{IsBoundary};
 ghost use Rattle.cell_units.specs.Lawful.{IsLawful};
 ghost use Rattle.plain_rows.specs.Plain.{record_of};
-ghost use Rattle.plain_rows.specs.Spots.{back, clip, show};
+ghost use Rattle.plain_rows.specs.Spots.{show};
 ghost use Rattle.plain_rows.specs.inside.SpotRows.{AreRowsOf, IsLaid};
 
 use crate::folded_lines::FoldedLines;
@@ -63,22 +63,4 @@ pub fn show(alloc: Global, plain: &Plain, offset: u32, bias: Bias) -> Result<Spo
     let laid = lay_out(alloc, plain)?;
     let rows = laid.rows(plain);
     rows.show(alloc, offset, bias)
-}
-
-/// The nearest spot at which some offset is shown.
-pub fn clip(_alloc: Global, _plain: &Plain, _spot: Spot, _bias: Bias) -> Result<Spot, NoMemory>
-    requires lawful { IsLawful (record_of _plain.now) }
-    requires size { length _plain.now.text ≤ TEXT_LIMIT }
-    ensures { IfOk result (λ nearest. nearest ≡ clip (record_of _plain.now) _spot _bias) }
-{
-    Err(NoMemory)
-}
-
-/// The least offset (Left) or the greatest (Right) that is shown at the nearest such spot.
-pub fn back(_alloc: Global, _plain: &Plain, _spot: Spot, _bias: Bias) -> Result<u32, NoMemory>
-    requires lawful { IsLawful (record_of _plain.now) }
-    requires size { length _plain.now.text ≤ TEXT_LIMIT }
-    ensures { IfOk result (λ offset. offset ≡ back (record_of _plain.now) _spot _bias) }
-{
-    Err(NoMemory)
 }
