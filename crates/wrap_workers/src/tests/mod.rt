@@ -1,5 +1,7 @@
 //! Jobs whose wraps are known, done here and beside the owner.
-ghost use Rattle.std.specs.Prelude.{◌≡◌, ◌≤◌};
+ghost use Rattle.std.specs.Prelude.{◌≡◌, ◌≤◌, replicate};
+ghost use Rattle.cell_line.specs.Worked.{line_of};
+ghost use Rattle.wrap_workers.specs.Jobs.{IsLawful};
 
 use crate::gate::FreeGate;
 use crate::job::{Finished, Job};
@@ -15,6 +17,14 @@ mod alike;
 mod beside;
 mod counted;
 
+/// A job on lines that are all alike.
+fn job(number: u64, lines: Alike, run: Run, width: u32) -> Job<Alike>
+    requires { IsLawful (replicate lines.count (line_of lines.text.now)) run width }
+    ensures { result.number ≡ number }
+{
+    Job::new(number, lines, run, width)
+}
+
 /// A job of this number on ten lines `aaa bbb` at width 5.
 fn ten_lines(number: u64) -> Job<Alike>
     ensures { result.number ≡ number }
@@ -28,7 +38,7 @@ fn ten_lines(number: u64) -> Job<Alike>
         first: 0,
         count: 10,
     };
-    Job::new(number, lines, run, 5)
+    job(number, lines, run, 5)
 }
 
 /// The number of the job, where it was done and each of its ten lines is cut at 4 alone.

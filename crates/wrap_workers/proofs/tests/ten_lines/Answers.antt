@@ -3,8 +3,8 @@ use Rattle.std.specs.Prelude.{codes}
 use Rattle.wrap_workers.proofs.SameLines.{same_fit}
 use Rattle.wrap_workers.proofs.tests.ten_lines.Goals as goal
 
-pub new-requires : goal.new-requires
-new-requires c = (
+pub job-requires : goal.job-requires
+job-requires c = (
   same_fit (codes "aaa bbb") 10 (omega arith) (omega arith) c.line_laws.ensures.bounds,
   (omega arith, omega arith, omega arith),
   inr (omega arith, omega arith),
