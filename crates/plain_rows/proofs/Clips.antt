@@ -1,20 +1,19 @@
 -- The nearest valid spots.
-use Rattle.std.proofs.Common.{◌≡◌, ℕ, ◌+◌, ◌==◌, inl, inr, Bool, true, false, if◌then◌else◌, List, [], ◌∷◌, length, filter, flat_map, nat_lt, unwrap_or, zero-add, Option, Some, None, ap, ◌∙◌, subst, arith}
-use Rattle.std.specs.List.{Contains, range_with_len}
+use Rattle.std.proofs.Common.{◌≡◌, ℕ, ◌==◌, inl, inr, Bool, true, false, if◌then◌else◌, List, [], length, filter, nat_lt, unwrap_or, Option, Some, None, ap, ◌∙◌, subst, arith}
+use Rattle.std.specs.List.{Contains}
 use Rattle.std.specs.Option.{option_or}
 use Rattle.std.proofs.lemmas.Bool.{cases_Bool, lt-ltb, or_left}
 use Rattle.std.proofs.lemmas.Bool.Decides.{nat_tests}
-use Rattle.std.proofs.lemmas.List.FromFn.{get_or-range_with_len, length-range_with_len}
 use Rattle.cell_units.specs.declared.place.Bias.{Bias}
 use Rattle.cell_units.specs.declared.place.Bias.TheVariants.{Left, Right}
 use Rattle.cell_units.specs.declared.place.Spot.{Spot}
-use Rattle.cell_units.specs.Text.{is_boundary}
 use Rattle.cell_units.specs.Record.{Record}
 use Rattle.plain_rows.specs.Spots.{at_or_after, at_or_before, clip, greatest, least, origin, past, positions, show, spot_le, valid_spots}
 use Rattle.plain_rows.specs.Laws.{GreatestBefore, IsGreatest, IsLeast, IsNearestBefore, IsValidSpot, LeastOfAll}
-use Rattle.plain_rows.proofs.Lists.{IsFirst, all-contained, contains-cases, contains-filtered, contains-first, contains-later, contains-mapped, contains-none, contains-some, contains-unfiltered, first_by-first}
+use Rattle.plain_rows.proofs.SpotPositions.{position-contained}
+use Rattle.plain_rows.proofs.Lists.{IsFirst, all-contained, contains-filtered, contains-mapped, contains-none, contains-some, contains-unfiltered, first_by-first}
 
-spot_le-refl : (s : Spot) → spot_le s s ≡ true
+pub spot_le-refl : (s : Spot) → spot_le s s ≡ true
 spot_le-refl s = grind (arith, nat_tests)
 
 pub spot_le-total : (s t : Spot) → spot_le s t ≡ false → spot_le t s ≡ true
@@ -44,24 +43,12 @@ least-is spots s e = subst (λ (o : Option Spot). IsFirst spot_le spots o) e (le
 pub greatest-is : (spots : List Spot) (s : Spot) → greatest spots ≡ Some s → IsGreatest spots s
 greatest-is spots s e = subst (λ (o : Option Spot). IsFirst spot_ge spots o) e (greatest-first spots)
 
-abbrev two : ℕ → List (ℕ × Bias)
-two o = (o, Left) ∷ (o, Right) ∷ []
-
-two-contained : (os : List ℕ) (o : ℕ) → Contains os o → Contains (flat_map two os) (o, Left)
-two-contained [] o m = absurd (contains-none o m)
-two-contained (p ∷ ps) o m = elim (contains-cases p ps o m) [
-  | inl same ↦ subst (λ q. Contains (flat_map two (p ∷ ps)) (q, Left)) same (contains-first (p, Left) ((p, Right) ∷ flat_map two ps))
-  | inr later ↦ contains-later (p, Left) ((p, Right) ∷ flat_map two ps) (o, Left) (contains-later (p, Right) (flat_map two ps) (o, Left) (two-contained ps o later))
-]
-
 -- a text has at least the position at its end
 end-position : (text : List ℕ) → Contains (positions text) (length text, Left)
 end-position text =
     let n = length text in
     let here : (n == n) ≡ true = grind (arith, nat_tests) in
-    let at_end : Contains (range_with_len 0 (n + 1)) n = (n, grind (arith, length-range_with_len 0 (n + 1)), get_or-range_with_len 0 (n + 1) n n (omega arith) ∙ zero-add n) in
-    two-contained (filter (is_boundary text) (range_with_len 0 (n + 1))) n
-    (contains-filtered (is_boundary text) (range_with_len 0 (n + 1)) n at_end (or_left (n == n) _ here))
+    position-contained text n Left (or_left (n == n) _ here)
 
 pub some-valid : (r : Record) → Contains (valid_spots r) (show r (length r.text) Left)
 some-valid r = contains-mapped (λ (p : ℕ × Bias). show r p.0 p.1) (positions r.text) (length r.text, Left) (end-position r.text)

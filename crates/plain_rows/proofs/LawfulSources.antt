@@ -22,7 +22,7 @@ order-le a b rest is = elim (or_cases (ltb a b) (eqb a b && rest) is) [
   | inr same ↦ omega (arith, eqb-true a b (and_parts (eqb a b) rest same).0)
 ]
 
-pub lawful_source : (s : Source) → IsWellFormed s → length s.text ≤ 33554432 → IsLawfulSource s
+pub lawful_source : (s : Source) → IsWellFormed s → length s.text ≤ 67108864 → IsLawfulSource s
 lawful_source s formed size =
     let inlays = entries-pairs inlay_le inlay_total inlay_trans (λ (i : records.Inlay). i.id) (IsInlayOf s.text) s.inlays formed.inlays in
     let folds = entries-pairs fold_le fold_total fold_trans (λ (f : Fold). f.id) (IsFoldOf s.text) s.folds formed.folds in
@@ -36,6 +36,7 @@ lawful_source s formed size =
       inlays_count = formed.inlays.few;
       folds_in_order = λ i j d lt within. order-le _ _ _ (folds i j d lt within).0;
       folds_stand = λ k d lt. let f = formed.folds.each k d lt in (f.start, f.end, f.some);
+      folds_count = formed.folds.few;
     }
 
 -- ---- the plain folds themselves

@@ -34,3 +34,7 @@ pub mod SpotFronts
 pub mod SpotLines
 pub mod SpotShown
 pub mod SpotSizes
+pub mod SpotClips
+pub mod SpotPositions
+pub mod SpotSearches
+pub mod SpotOffsets

@@ -46,7 +46,7 @@ mapped f (x ∷ xs) zero d y is = let e : Some (f x) ≡ Some y = is in cc
 mapped f (x ∷ xs) (suc k) d y is = mapped f xs k d y is
 
 -- the bytes of a display line's pieces
-pub pieces-size : (s : Source) → IsLawfulSource s → (k : ℕ) (ps : List Piece) → slice_get (shown_lines s) k ≡ Some ps → bytes_in ps ≤ 167772163
+pub pieces-size : (s : Source) → IsLawfulSource s → (k : ℕ) (ps : List Piece) → slice_get (shown_lines s) k ≡ Some ps → bytes_in ps ≤ 134348801
 pieces-size s lawful k ps is =
     let l = get_or (display_lines s.text s.inlays s.folds) k [] in
     let same : ps ≡ pieces_of l = mapped pieces_of (display_lines s.text s.inlays s.folds) k [] ps is in

@@ -83,7 +83,7 @@ rows_rise d e h = go (cases_lt d.row e.row) where
 later_row : (s t : Spot) → s.row < t.row → spot_le s t ≡ true
 later_row s t l = grind (arith, nat_tests, l)
 
-nearest_rises : (spots : List Spot) (d e c c' : Spot) → spot_le d e ≡ true → IsNearestAfter spots d c → IsNearestAfter spots e c' → spot_le c c' ≡ true
+pub nearest_rises : (spots : List Spot) (d e c c' : Spot) → spot_le d e ≡ true → IsNearestAfter spots d c → IsNearestAfter spots e c' → spot_le c c' ≡ true
 nearest_rises spots d e c c' h (LastOfRow s n same past last) (LastOfRow s' n' same' past' last') = elim (rows_rise d e h) [
   | inl x ↦ last' c n (same ∙ x)
   | inr x ↦ later_row c c' (omega (arith, same, same', x))

@@ -1,10 +1,12 @@
 -- How many bytes a lawful source shows at most.
-use Rattle.std.proofs.Common.{◌≡◌, ℕ, ◌+◌, ◌*◌, ◌<◌, ◌≤◌, ◌&&◌, suc, Bool, true, false, cond, eqb, leb, List, [], ◌∷◌, ◌++◌, length, map, filter, flat_map, refl, ap, ◌∙◌, arith, length-append}
-use Rattle.std.specs.List.{All, slice_range, sum_by}
+use Rattle.std.proofs.Common.{◌≡◌, ℕ, ◌+◌, ◌*◌, ◌<◌, ◌≤◌, ◌&&◌, inl, inr, suc, Bool, true, false, cond, eqb, leb, ltb, List, [], ◌∷◌, ◌++◌, length, map, filter, flat_map, refl, ap, ◌∙◌, arith, length-append}
+use Rattle.std.specs.List.{All, count_by, slice_range, sum_by}
+use Rattle.std.proofs.lemmas.Bool.{false≢true, or_cases, or_parts}
+use Rattle.std.proofs.lemmas.Bool.Decides.{nat_tests}
 use Rattle.std.proofs.lemmas.List.{length-map}
 use Rattle.std.proofs.lemmas.List.Concat.{flat_map-append}
 use Rattle.std.proofs.lemmas.List.Elements.{All-head, All-tail}
-use Rattle.std.proofs.lemmas.List.Sums.{sum_by-cons}
+use Rattle.std.proofs.lemmas.List.Sums.{count_by-le-length, sum_by-cons}
 use Rattle.cell_units.specs.Text.{begins_with_feed, carriage_return, clean, line_feed, without_returns_before_feeds}
 use Rattle.cell_units.specs.Record as records
 use Rattle.cell_units.specs.Record.{Fold}
@@ -54,20 +56,61 @@ inlays-size test (i ∷ is) all =
 
 -- ---- folds
 
-one-size : (inlays : List records.Inlay) (folds : List Fold) (o b : ℕ) → size (shown inlays folds o b) ≤ size (shown inlays [] o b) + 2
-one-size inlays folds o b = go (inside folds o) (covered folds o) where
+-- the folds that start at the offset or behind it
+abbrev begun : List Fold → ℕ → ℕ
+begun folds o = count_by (λ (f : Fold). leb o f.start) folds
+
+fold-passed : (s o : ℕ) → cond (leb (o + 1) s) 1 0 ≤ cond (leb o s) 1 0
+fold-passed s o = grind (arith, nat_tests)
+
+fold-begins : (s e o : ℕ) → leb s o && ltb o e ≡ true → ltb s o && ltb o e ≡ false → cond (leb (o + 1) s) 1 0 + 1 ≤ cond (leb o s) 1 0
+fold-begins s e o h k = grind (arith, nat_tests, h, k)
+
+begun-later : (folds : List Fold) (o : ℕ) → begun folds (o + 1) ≤ begun folds o
+begun-later [] o = omega arith
+begun-later (f ∷ fs) o =
+    omega (
+      arith,
+      sum_by-cons (λ (f : Fold). cond (leb (o + 1) f.start) 1 0) f fs,
+      sum_by-cons (λ (f : Fold). cond (leb o f.start) 1 0) f fs,
+      fold-passed f.start o,
+      begun-later fs o,
+    )
+
+-- a placeholder stands where a fold starts
+begun-here : (folds : List Fold) (o : ℕ) → covered folds o ≡ true → inside folds o ≡ false → begun folds (o + 1) + 1 ≤ begun folds o
+begun-here [] o h k = absurd (false≢true h)
+begun-here (f ∷ fs) o h k =
+    let out = or_parts (ltb f.start o && ltb o f.end) (inside fs o) k in
+    let step : cond (leb (o + 1) f.start) 1 0 + begun fs (o + 1) + 1 ≤ cond (leb o f.start) 1 0 + begun fs o =
+    elim (or_cases (leb f.start o && ltb o f.end) (covered fs o) h) [
+      | inl own ↦ omega (arith, fold-begins f.start f.end o own out.0, begun-later fs o)
+      | inr later ↦ omega (arith, begun-here fs o later out.1, fold-passed f.start o)
+    ] in
+    omega (
+      arith,
+      sum_by-cons (λ (f : Fold). cond (leb (o + 1) f.start) 1 0) f fs,
+      sum_by-cons (λ (f : Fold). cond (leb o f.start) 1 0) f fs,
+      step,
+    )
+
+begun-few : (folds : List Fold) (o : ℕ) → begun folds o ≤ length folds
+begun-few folds o = count_by-le-length (λ (f : Fold). leb o f.start) folds
+
+one-size : (inlays : List records.Inlay) (folds : List Fold) (o b : ℕ) →
+    size (shown inlays folds o b) + 2 * begun folds (o + 1) ≤ size (shown inlays [] o b) + 2 * begun folds o
+one-size inlays folds o b = go (inside folds o) (covered folds o) refl refl where
   here : List Token
   here = inlays_at inlays o
 
-  own : (d : Bool) → size ((cond d (Hidden o) (Byte o b)) ∷ []) ≤ 3
-  own true = omega arith
-  own false = omega arith
+  go : (c d : Bool) → inside folds o ≡ c → covered folds o ≡ d →
+      size (cond c [] (here ++ (cond d (Hidden o) (Byte o b)) ∷ [])) + 2 * begun folds (o + 1) ≤ size (here ++ Byte o b ∷ []) + 2 * begun folds o
+  go true d e k = omega (arith, begun-later folds o)
+  go false true e k = omega (arith, size-append here (Hidden o ∷ []), size-append here (Byte o b ∷ []), begun-here folds o k e)
+  go false false e k = omega (arith, begun-later folds o)
 
-  go : (c d : Bool) → size (cond c [] (inlays_at inlays o ++ (cond d (Hidden o) (Byte o b)) ∷ [])) ≤ size (inlays_at inlays o ++ Byte o b ∷ []) + 2
-  go true d = omega arith
-  go false d = omega (arith, size-append (inlays_at inlays o) ((cond d (Hidden o) (Byte o b)) ∷ []), size-append (inlays_at inlays o) (Byte o b ∷ []), own d)
-
-folds-size : (inlays : List records.Inlay) (folds : List Fold) (o : ℕ) (bs : List ℕ) → size (show_each (shown inlays folds) o bs) ≤ size (show_each (shown inlays []) o bs) + 2 * length bs
+folds-size : (inlays : List records.Inlay) (folds : List Fold) (o : ℕ) (bs : List ℕ) →
+    size (show_each (shown inlays folds) o bs) ≤ size (show_each (shown inlays []) o bs) + 2 * begun folds o
 folds-size inlays folds o [] = omega arith
 folds-size inlays folds o (b ∷ bs) =
     omega (
@@ -80,7 +123,7 @@ folds-size inlays folds o (b ∷ bs) =
 
 -- ---- all of it
 
-pub folded-size : (s : Source) → IsLawfulSource s → size (folded s.text s.inlays s.folds) ≤ 167772163
+pub folded-size : (s : Source) → IsLawfulSource s → size (folded s.text s.inlays s.folds) ≤ 134348801
 folded-size s lawful =
     let n : ℕ = length s.text in
     let plain = inlay_source s.text s.inlays in
@@ -88,7 +131,7 @@ folded-size s lawful =
     let places = right-is s.text s.inlays n (omega arith) in
     let inlays = inlays-size (λ i. leb i.offset n) s.inlays lawful.inlays_size in
     let folds = folds-size s.inlays s.folds 0 (s.text ++ line_feed ∷ []) in
-    omega (arith, whole, places, inlays, folds, length-append s.text (line_feed ∷ []), lawful.text_size, lawful.inlays_count)
+    omega (arith, whole, places, inlays, folds, begun-few s.folds 0, lawful.text_size, lawful.inlays_count, lawful.folds_count)
 
 -- ---- parts
 

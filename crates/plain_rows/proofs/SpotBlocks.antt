@@ -1,18 +1,17 @@
 -- How many rows of blocks stand at each line, and at all of them.
-use Rattle.std.proofs.Common.{◌≡◌, ◌⊎◌, inl, inr, set, get_or-set_same, get_or-set_other, length-set, ℕ, ◌+◌, ◌*◌, ◌<◌, ◌≤◌, ◌&&◌, Bool, true, false, cond, eqb, ltb, List, [], ◌∷◌, ◌++◌, zero, suc, length, map, take, filter, flat_map, get_or, refl, sym, ap, ◌∙◌, subst, arith, length-append}
-use Rattle.std.specs.List.{All, sum_by}
+use Rattle.std.proofs.Common.{◌≡◌, ◌⊎◌, inl, inr, set, get_or-set_same, get_or-set_other, length-set, ℕ, ◌+◌, ◌*◌, ◌<◌, ◌≤◌, ◌&&◌, Bool, true, false, cond, eqb, ltb, List, [], ◌∷◌, zero, suc, length, map, take, filter, flat_map, get_or, refl, sym, ap, ◌∙◌, arith, length-append}
+use Rattle.std.specs.List.{sum_by}
 use Rattle.std.proofs.lemmas.Bool.{and_from, and_left, and_right, cases_eq, eq-eqb, ne_eqb}
 use Rattle.std.proofs.lemmas.Bool.Decides.{nat_tests}
-use Rattle.std.proofs.lemmas.List.{get_or-map, length-map, length-take-le, take_all}
-use Rattle.std.proofs.lemmas.List.Elements.{All-head, All-tail}
+use Rattle.std.proofs.lemmas.List.{get_or-map, length-map, take_all}
 use Rattle.std.proofs.lemmas.List.Sums.{sum_by-cons, sum_by_more}
 use Rattle.cell_units.specs.declared.place.Side.{Side}
 use Rattle.cell_units.specs.declared.place.Bias.TheVariants.{Left, Right}
 use Rattle.cell_units.specs.Text.{row_end, row_start}
 use Rattle.cell_units.specs.Folded.{line_of}
 use Rattle.cell_units.specs.Record.{Block, Record}
-use Rattle.cell_units.specs.Lawful.{IsBlockOf, IsLawful}
-use Rattle.plain_rows.specs.Rows.{Row, block_kind, block_rows, blocks_at, is_above, is_on, line_of_block}
+use Rattle.cell_units.specs.Lawful.{IsLawful}
+use Rattle.plain_rows.specs.Rows.{block_kind, block_rows, blocks_at, is_above, is_on, line_of_block}
 use Rattle.plain_rows.specs.declared.plain.Plain.{Plain}
 use Rattle.plain_rows.specs.declared.plain.PlainBlock.{PlainBlock}
 use Rattle.plain_rows.specs.Plain.{block_of, record_of}

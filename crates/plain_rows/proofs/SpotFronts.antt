@@ -1,13 +1,12 @@
 -- The display line of a position is one of the record's.
-use Rattle.std.proofs.Common.{◌≡◌, ℕ, ◌<◌, ◌≤◌, ◌&&◌, ◌||◌, leb, ltb, Bool, true, false, cond, List, [], ◌∷◌, ◌++◌, zero, suc, length, refl, ap, sym, ◌∙◌, arith}
-use Rattle.std.specs.List.{count_by}
+use Rattle.std.proofs.Common.{◌≡◌, ℕ, ◌<◌, ◌≤◌, List, [], ◌∷◌, ◌++◌, length, ap, arith}
 use Rattle.cell_units.specs.declared.place.Bias.{Bias}
 use Rattle.cell_units.specs.declared.place.Bias.TheVariants.{Left, Right}
 use Rattle.cell_units.specs.Text.{line_feed}
 use Rattle.cell_units.specs.Record.{Record}
 use Rattle.cell_units.specs.Inlaid.{Byte, Token, is_break}
 use Rattle.cell_units.specs.Cutting.{cut_lines}
-use Rattle.cell_units.specs.Folded.{covered, display_lines, folded, inside, line_of}
+use Rattle.cell_units.specs.Folded.{folded, line_of}
 use Rattle.cell_units.specs.Lawful.{IsLawful, source_of}
 use Rattle.cell_units.proofs.ShownText.{folded_is}
 use Rattle.cell_units.proofs.Sources.{ends_open}

@@ -1,5 +1,5 @@
 -- How many rows and cells lines have at most.
-use Rattle.std.proofs.Common.{◌≡◌, ℕ, ◌+◌, ◌-◌, ◌<◌, ◌≤◌, ◌⊎◌, Bool, true, false, cond, ltb, eqb, List, [], ◌∷◌, zero, suc, length, refl, sym, ap, ◌∙◌, subst, inl, inr, arith}
+use Rattle.std.proofs.Common.{ℕ, ◌-◌, ◌≤◌, Bool, true, false, cond, ltb, eqb, List, [], ◌∷◌, zero, suc, length, inl, inr, arith}
 use Rattle.cell_units.specs.Lawful.{IsWidth}
 use Rattle.cell_line.specs.declared.element.Element.{Element}
 use Rattle.cell_line.specs.Wrapping.{cuts_of, indent_of, next_start_of, row_starts}

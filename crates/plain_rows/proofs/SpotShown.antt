@@ -7,7 +7,6 @@ use Rattle.cell_units.specs.declared.place.Spot.{Spot}
 use Rattle.cell_units.specs.declared.piece.Piece.{Piece}
 use Rattle.cell_units.specs.Folded.{line_of, place_in_line}
 use Rattle.cell_units.specs.Layers.{Source, shown_lines}
-use Rattle.cell_units.specs.Lawful.{source_of}
 use Rattle.cell_units.specs.Record.{Mark, Record, plain_mark}
 use Rattle.cell_line.specs.declared.element.Element.{Element}
 use Rattle.cell_line.specs.Elements.{elements_of}

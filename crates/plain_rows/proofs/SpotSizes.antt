@@ -1,5 +1,5 @@
 -- How many rows a lawful record has at most.
-use Rattle.std.proofs.Common.{below_more, ◌≡◌, Option, None, Some, ℕ, ◌+◌, ◌*◌, ◌<◌, ◌≤◌, Bool, true, false, cond, List, [], ◌∷◌, ◌++◌, zero, suc, length, map, take, flat_map, get_or, refl, sym, ap, ◌∙◌, subst, arith, length-append}
+use Rattle.std.proofs.Common.{below_more, ◌≡◌, None, Some, ℕ, ◌+◌, ◌<◌, ◌≤◌, Bool, true, false, cond, List, [], ◌∷◌, ◌++◌, zero, suc, length, take, get_or, refl, sym, ap, ◌∙◌, arith, length-append}
 use Rattle.std.specs.List.{slice_get, sum_by}
 use Rattle.std.proofs.lemmas.List.{get_or-map, get_or_append_left, length-map, length_push}
 use Rattle.std.proofs.Math.Seq.{get_or-append_seam}
@@ -7,7 +7,7 @@ use Rattle.std.proofs.lemmas.List.Sums.{sum_by-cons, sum_by_more}
 use Rattle.cell_units.specs.declared.piece.Piece.{Piece}
 use Rattle.cell_units.specs.declared.place.Side.TheVariants.{Above, Below}
 use Rattle.cell_units.specs.Cutting.{cut_lines, onto_line}
-use Rattle.cell_units.specs.Inlaid.{Byte, Hidden, InlayByte, Token, bytes_of, is_break}
+use Rattle.cell_units.specs.Inlaid.{Byte, Hidden, InlayByte, Token, is_break}
 use Rattle.cell_units.specs.Folded.{display_lines, folded}
 use Rattle.cell_units.specs.Pieces.{folded_lines, pieces_of}
 use Rattle.cell_units.specs.Record.{Record, plain_mark}
@@ -16,13 +16,12 @@ use Rattle.cell_units.proofs.ShownText.{bytes-pieces_of}
 use Rattle.cell_line.specs.Elements.{bytes_in, elements_of, total_cells}
 use Rattle.cell_line.specs.Wrapping.{cuts_of}
 use Rattle.cell_line.proofs.CellBounds.{length-elements_of, total_cells-le}
-use Rattle.plain_rows.specs.Rows.{Row, blocks_at, line_elements, line_rows, rows_by_line}
+use Rattle.plain_rows.specs.Rows.{blocks_at, line_elements, line_rows, rows_by_line}
 use Rattle.plain_rows.specs.Spots.{elements_at, mark_at, rows_before}
 use Rattle.plain_rows.proofs.LawfulSources.{lawful_source}
 use Rattle.plain_rows.proofs.ShownSizes.{folded-size, size, size-append}
 use Rattle.plain_rows.proofs.LineSizes.{bytes-in, front-size}
-use Rattle.plain_rows.proofs.LineSpots.{sum_by-take_rises}
-use Rattle.plain_rows.proofs.RowsInOrder.{get_or-line_rows, get_or-rows_by_line, length-rows_by_line, length-text_rows, rows_upto, rows_upto-more, rows_upto-rises}
+use Rattle.plain_rows.proofs.RowsInOrder.{get_or-line_rows, get_or-rows_by_line, length-rows_by_line, length-text_rows, rows_upto, rows_upto-more}
 use Rattle.plain_rows.proofs.SpotBlocks.{blocks-few, sum_upto}
 use Rattle.plain_rows.proofs.SpotLines.{cuts-few}
 
@@ -56,14 +55,14 @@ found [] k x is = let no : None ≡ Some x = is in absurd (cc)
 found (y ∷ ys) zero x is = let e : Some y ≡ Some x = is in cc
 found (y ∷ ys) (suc k) x is = found ys k x is
 
-module _ (r : Record) (lawful : IsLawful r) (short : length r.text ≤ 33554432) where
+module _ (r : Record) (lawful : IsLawful r) (short : length r.text ≤ 67108864) where
   abbrev lines : List (List Token)
   lines = display_lines r.text r.inlays r.folds
 
-  shown : size (folded r.text r.inlays r.folds) ≤ 167772163
+  shown : size (folded r.text r.inlays r.folds) ≤ 134348801
   shown = folded-size (source_of r) (lawful_source (source_of r) lawful.entries.source short)
 
-  pub few-lines : length r.marks ≤ 167772163
+  pub few-lines : length r.marks ≤ 134348801
   few-lines = omega (arith, lawful.marked, lines-count (folded r.text r.inlays r.folds), shown)
 
   pub length-elements : length (line_elements r) ≡ length r.marks
@@ -96,7 +95,7 @@ module _ (r : Record) (lawful : IsLawful r) (short : length r.text ≤ 33554432)
       let l = get_or lines line [] in
       omega (arith, ap bytes_in (pieces-is line lt), bytes-in (pieces_of l), ap length (bytes-pieces_of l), front-size l)
 
-  line-size : (line : ℕ) → line < length r.marks → size (get_or lines line []) ≤ 167772163
+  line-size : (line : ℕ) → line < length r.marks → size (get_or lines line []) ≤ 134348801
   line-size line lt =
       omega (
         arith,
@@ -115,10 +114,10 @@ module _ (r : Record) (lawful : IsLawful r) (short : length r.text ≤ 33554432)
   elements-few line lt =
       omega (arith, ap length (elements-is line lt), length-elements_of (get_or (folded_lines r.text r.inlays r.folds) line []) r.tab, line-bytes line lt)
 
-  pub elements-count : (line : ℕ) → line < length r.marks → length (elements_at r line) ≤ 167772163
+  pub elements-count : (line : ℕ) → line < length r.marks → length (elements_at r line) ≤ 134348801
   elements-count line lt = omega (arith, elements-few line lt, line-size line lt)
 
-  pub cells-few : (line : ℕ) → line < length r.marks → total_cells (elements_at r line) ≤ 2684354608
+  pub cells-few : (line : ℕ) → line < length r.marks → total_cells (elements_at r line) ≤ 2149580816
   cells-few line lt =
       omega (arith, ap total_cells (elements-is line lt), total_cells-le (get_or (folded_lines r.text r.inlays r.folds) line []) r.tab lawful.entries.tab.1, line-bytes line lt, line-size line lt)
 
@@ -147,7 +146,7 @@ module _ (r : Record) (lawful : IsLawful r) (short : length r.text ≤ 33554432)
       )
 
   -- all rows are few
-  pub rows-few : (k : ℕ) → k ≤ length r.marks → rows_upto k (rows_by_line r) ≤ 369098758
+  pub rows-few : (k : ℕ) → k ≤ length r.marks → rows_upto k (rows_by_line r) ≤ 302252034
   rows-few k le =
       omega (
         arith,
@@ -179,7 +178,7 @@ module _ (r : Record) (lawful : IsLawful r) (short : length r.text ≤ 33554432)
   pub text-rows : (line : ℕ) → line < length r.marks → length (get_or (line_rows r) line []) ≡ length (cuts_of (elements_at r line) (mark_at r line).width) + 1
   text-rows line lt = ap length (get_or-line_rows r line (omega (arith, lt, length-elements)) lt) ∙ length-text_rows (elements_at r line) (mark_at r line).width
 
-  pub first-few : (line : ℕ) → line < length r.marks → rows_before r line + length (cuts_of (elements_at r line) (mark_at r line).width) ≤ 369098758
+  pub first-few : (line : ℕ) → line < length r.marks → rows_before r line + length (cuts_of (elements_at r line) (mark_at r line).width) ≤ 302252034
   first-few line lt = omega (arith, rows-step line lt, text-rows line lt, rows-few (line + 1) (omega (arith, lt)))
 
 -- of the lines before that one the rows before their text rows, and the number of all rows up to there
@@ -187,7 +186,7 @@ abbrev pub HasRowsUpto : Record → ℕ → List ℕ → ℕ → Type 0
 HasRowsUpto r line rows row =
     (row ≡ rows_upto line (rows_by_line r)) × (length rows ≡ line) × ((k : ℕ) → k < line → get_or rows k 0 ≡ rows_before r k)
 
-pub upto-more : (r : Record) (lawful : IsLawful r) (short : length r.text ≤ 33554432) (line : ℕ) (rows : List ℕ) (row first next : ℕ) → line < length r.marks → HasRowsUpto r line rows row →
+pub upto-more : (r : Record) (lawful : IsLawful r) (short : length r.text ≤ 67108864) (line : ℕ) (rows : List ℕ) (row first next : ℕ) → line < length r.marks → HasRowsUpto r line rows row →
     first ≡ row + length (blocks_at r Above line) → next ≡ first + length (get_or (line_rows r) line []) + length (blocks_at r Below line) → HasRowsUpto r (line + 1) (rows ++ first ∷ []) next
 upto-more r lawful short line rows row first next lt has is then = (
   omega (arith, has.0, is, then, rows-step r lawful short line lt),
@@ -198,6 +197,6 @@ upto-more r lawful short line rows row first next lt has is then = (
 )
 
 -- the rows before the text rows of the line fit, and so do those up to its end
-pub first-fits : (r : Record) (lawful : IsLawful r) (short : length r.text ≤ 33554432) (line : ℕ) → line < length r.marks →
-    rows_upto line (rows_by_line r) + length (blocks_at r Above line) + length (get_or (line_rows r) line []) + length (blocks_at r Below line) ≤ 369098758
+pub first-fits : (r : Record) (lawful : IsLawful r) (short : length r.text ≤ 67108864) (line : ℕ) → line < length r.marks →
+    rows_upto line (rows_by_line r) + length (blocks_at r Above line) + length (get_or (line_rows r) line []) + length (blocks_at r Below line) ≤ 302252034
 first-fits r lawful short line lt = omega (arith, rows-step r lawful short line lt, rows-few r lawful short (line + 1) (omega (arith, lt)))

@@ -12,6 +12,7 @@ use Rattle.plain_rows.specs.declared.folded_lines.Joined.{Joined}
 use Rattle.plain_rows.specs.declared.folded_lines.Part.{Part}
 use Rattle.plain_rows.specs.declared.folded_lines.Part.TheVariants.{Buffer, Inlay, Placeholder, Feed, InlayFeed}
 use Rattle.plain_rows.specs.declared.folded_lines.PlainSource.{PlainSource}
+use Rattle.plain_rows.specs.declared.limits.TheConstants.{LAID_LIMIT}
 use Rattle.plain_rows.specs.Plain.{listed_source}
 
 -- ---- what is laid out
@@ -27,7 +28,7 @@ AreInOrder key xs = AllPairs (λ x y. key x ≤ key y) xs
 -- the limits; no inlay is empty, no two have one id, and no fold is empty.
 pub record IsLawfulSource (source : Source) : Type 0 where
   pub text : IsText source.text
-  pub text_size : length source.text ≤ 33554432
+  pub text_size : length source.text ≤ LAID_LIMIT
   pub inlays_in_order : AreInOrder (λ (i : records.Inlay). i.offset) source.inlays
   pub inlays_distinct : AllPairs (λ (i j : records.Inlay). i.id ≢ j.id) source.inlays
   pub inlays_stand : All (λ i. IsBoundary source.text i.offset × IsUtf8 i.text) source.inlays
@@ -36,6 +37,7 @@ pub record IsLawfulSource (source : Source) : Type 0 where
   pub folds_in_order : AreInOrder (λ (f : records.Fold). f.start) source.folds
   pub folds_stand :
       All (λ f. IsBoundary source.text f.start × IsBoundary source.text f.end × (f.start < f.end)) source.folds
+  pub folds_count : length source.folds ≤ 65536
 
 -- ---- parts
 

@@ -5,3 +5,5 @@ pub mod PartPieces
 pub mod BlockRows
 pub mod BuiltRows
 pub mod SpotRows
+pub mod SpotSearch
+pub mod SpotOffsets

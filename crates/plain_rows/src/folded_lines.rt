@@ -11,8 +11,8 @@ ghost use Rattle.plain_rows.specs.inside.Passed.{IsAround, IsSamePlace, part_byt
 
 use crate::joining::joined_folds;
 use crate::laying::lay_out;
+use crate::limits::LAID_LIMIT;
 use crate::plain::{PlainFold, PlainInlay};
-use cell_units::limits::TEXT_LIMIT;
 use cell_units::{Bias, NoMemory, Piece, PieceKind, Text};
 use std::alloc::Global;
 use std::marker::Model;
@@ -263,7 +263,7 @@ impl FoldedLines {
     /// Lays out the display lines of the source, in one pass over text, inlays and folds.
     pub fn new(alloc: Global, source: &PlainSource) -> Result<FoldedLines, NoMemory>
         requires formed { IsWellFormed (seen source.now) }
-        requires size { length source.now.text.now ≤ TEXT_LIMIT }
+        requires size { length source.now.text.now ≤ LAID_LIMIT }
         ensures { IfOk result (λ lines. AreLinesOf (seen source.now) lines) }
     {
         let joined = joined_folds(alloc, source.folds)?;
@@ -309,7 +309,7 @@ impl FoldedLines {
     }
 
     /// The joined fold that an offset is strictly inside.
-    fn fold_around(&self, offset: u32) -> Option<Joined>
+    pub(crate) fn fold_around(&self, offset: u32) -> Option<Joined>
         ensures { (source : Source) → AreLinesOf source self.now → IsAround source offset result }
     {
         let joined = self.joined.as_slice();

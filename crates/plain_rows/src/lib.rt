@@ -1,7 +1,7 @@
 //! The plain functions: what the rows of a record are, from scratch, and where its offsets are shown.
 //!
-//! `specs/` has the definitions. `build` and `show` are exactly these, for every lawful record: they are what all else is
-//! compared with. `FoldedLines` lays out the display lines of a text with inlays and folds, and
+//! `specs/` has the definitions. `build`, `show`, `clip` and `back` are exactly these, for every lawful record: they
+//! are what all else is compared with. `FoldedLines` lays out the display lines of a text with inlays and folds, and
 //! copies none of it. `worked` has records of which rows, spots, nearest valid spots and offsets are known, as theorems.
 #![tactic(auto)]
 
@@ -10,6 +10,7 @@ pub mod folded_lines;
 mod joining;
 pub mod laws;
 mod laying;
+pub mod limits;
 pub mod plain;
 pub mod rows;
 pub mod spots;
@@ -18,4 +19,4 @@ pub mod worked;
 pub use folded_lines::{FoldedLines, PlainSource};
 pub use plain::{Plain, PlainBlock, PlainFold, PlainInlay};
 pub use rows::build;
-pub use spots::show;
+pub use spots::{back, clip, show};

@@ -7,9 +7,9 @@ ghost use Rattle.plain_rows.specs.Rows.{block_rows, blocks_at, head_and_more, is
 ghost use Rattle.plain_rows.specs.inside.BuiltRows.{AreBefore, AreStanding, is_upto, shown_limit};
 
 use crate::folded_lines::FoldedLines;
+use crate::limits::LAID_LIMIT;
 use crate::plain::{Plain, PlainBlock};
 use cell_line::{cuts_of_pieces, line_laws, row_texts_of_pieces};
-use cell_units::limits::TEXT_LIMIT;
 use cell_units::{NoMemory, Piece, Side, Text};
 use std::alloc::Global;
 
@@ -114,7 +114,7 @@ fn push_texts(
 /// for a block's) and its text.
 pub fn build(alloc: Global, plain: &Plain) -> Result<Vec<(u8, Text)>, NoMemory>
     requires lawful { IsLawful (record_of plain.now) }
-    requires size { length plain.now.text ≤ TEXT_LIMIT }
+    requires size { length plain.now.text ≤ LAID_LIMIT }
     ensures { IfOk result (λ rows. rows.items ≡ row_pairs (rows_of (record_of plain.now))) }
 {
     let source = plain.source();

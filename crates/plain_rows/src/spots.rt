@@ -1,20 +1,22 @@
-//! Where an offset of a record is shown.
+//! Where an offset of a record is shown, and which offset a spot shows.
 ghost use Rattle.std.specs.Prelude.{◌≡◌, ◌≤◌, length, IfOk};
 ghost use Rattle.cell_units.specs.Text.{IsBoundary};
 ghost use Rattle.cell_units.specs.Lawful.{IsLawful};
 ghost use Rattle.plain_rows.specs.Plain.{record_of};
-ghost use Rattle.plain_rows.specs.Spots.{show};
+ghost use Rattle.plain_rows.specs.Spots.{back, clip, show};
 ghost use Rattle.plain_rows.specs.inside.SpotRows.{AreRowsOf, IsLaid};
 
 use crate::folded_lines::FoldedLines;
+use crate::limits::LAID_LIMIT;
 use crate::plain::Plain;
-use cell_units::limits::TEXT_LIMIT;
 use cell_units::{Bias, NoMemory, Spot};
 use std::alloc::Global;
 
 pub mod laid_rows;
+mod offsets;
 pub mod row_counts;
 mod row_line;
+mod searching;
 
 use laid_rows::LaidRows;
 use row_counts::first_rows;
@@ -29,7 +31,7 @@ struct Laid {
 /// Lays a record out.
 fn lay_out(alloc: Global, plain: &Plain) -> Result<Laid, NoMemory>
     requires lawful { IsLawful (record_of plain.now) }
-    requires size { length plain.now.text ≤ TEXT_LIMIT }
+    requires size { length plain.now.text ≤ LAID_LIMIT }
     ensures { IfOk result (λ laid. IsLaid (record_of plain.now) laid.lines laid.first_rows.items) }
 {
     let lines = FoldedLines::new(alloc, &plain.source())?;
@@ -56,11 +58,33 @@ impl Laid {
 /// Where the boundary `offset` of the text is shown.
 pub fn show(alloc: Global, plain: &Plain, offset: u32, bias: Bias) -> Result<Spot, NoMemory>
     requires lawful { IsLawful (record_of plain.now) }
-    requires size { length plain.now.text ≤ TEXT_LIMIT }
+    requires size { length plain.now.text ≤ LAID_LIMIT }
     requires boundary { IsBoundary (record_of plain.now).text offset }
     ensures { IfOk result (λ spot. spot ≡ show (record_of plain.now) offset bias) }
 {
     let laid = lay_out(alloc, plain)?;
     let rows = laid.rows(plain);
     rows.show(alloc, offset, bias)
+}
+
+/// The nearest spot at which some offset is shown.
+pub fn clip(alloc: Global, plain: &Plain, spot: Spot, bias: Bias) -> Result<Spot, NoMemory>
+    requires lawful { IsLawful (record_of plain.now) }
+    requires size { length plain.now.text ≤ LAID_LIMIT }
+    ensures { IfOk result (λ nearest. nearest ≡ clip (record_of plain.now) spot bias) }
+{
+    let laid = lay_out(alloc, plain)?;
+    let rows = laid.rows(plain);
+    rows.clip(alloc, spot, bias)
+}
+
+/// The least offset (Left) or the greatest (Right) that is shown at the nearest such spot.
+pub fn back(alloc: Global, plain: &Plain, spot: Spot, bias: Bias) -> Result<u32, NoMemory>
+    requires lawful { IsLawful (record_of plain.now) }
+    requires size { length plain.now.text ≤ LAID_LIMIT }
+    ensures { IfOk result (λ offset. offset ≡ back (record_of plain.now) spot bias) }
+{
+    let laid = lay_out(alloc, plain)?;
+    let rows = laid.rows(plain);
+    rows.back(alloc, spot, bias)
 }

@@ -16,7 +16,9 @@ use Rattle.plain_rows.proofs.ElementPlaces.{elements_before-open}
 use Rattle.row_laws.proofs.ElementSides.{HaveBytes, end_of-before, start_of-before}
 use Rattle.plain_rows.proofs.FoldedFronts.{left_of, right_of, tokens_to}
 use Rattle.plain_rows.proofs.ShowRises.{byte_in, line_in, spot_at}
-use Rattle.row_laws.proofs.BackRises.{HasBack, IsShownAt, boundary-within, contains-unmapped, position-boundary, shown-contained}
+use Rattle.plain_rows.proofs.SpotPositions.{boundary-within, contains-unmapped, position-boundary}
+use Rattle.plain_rows.proofs.SpotOffsets.{IsShownAt, shown-contained}
+use Rattle.row_laws.proofs.BackRises.{HasBack}
 use Rattle.row_laws.proofs.Seams.{all_tokens, have_bytes, is_inside_at}
 use Rattle.row_laws.proofs.Around.{Hiding, all-next, all-right, before, before-hidden, hiding, ins, no-inlays, start-boundary}
 use Rattle.row_laws.proofs.Walks.{leave, walk-down, walk-up}

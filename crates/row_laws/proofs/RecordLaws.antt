@@ -1,5 +1,5 @@
 -- The laws of lawful records, as they are promised.
-use Rattle.std.proofs.Common.{◌≡◌, ℕ, ◌+◌, ◌<◌, ◌≤◌, true, List, length, refl, sym, ◌∙◌, subst, inl, inr, arith}
+use Rattle.std.proofs.Common.{◌≡◌, ℕ, ◌≤◌, true, length, sym, subst}
 use Rattle.cell_units.specs.declared.place.Bias.{Bias}
 use Rattle.cell_units.specs.declared.place.Bias.TheVariants.{Left, Right}
 use Rattle.cell_units.specs.declared.place.Spot.{Spot}
@@ -11,7 +11,8 @@ use Rattle.row_laws.specs.Laws.{IsGreatestAt, IsLeastAt, IsOpenAt, IsUpTo}
 use Rattle.plain_rows.specs.Spots.{back, clip, is_open, offsets_at, show, spot_le}
 use Rattle.plain_rows.proofs.Clips.{clip-valid}
 use Rattle.plain_rows.proofs.ShowRises.{show-open_rises, show-rises, show-sides}
-use Rattle.row_laws.proofs.BackRises.{IsShownAt, back-own, back-picked, back-rises, contained-shown, left-picked, picked, right-picked, shown-contained}
+use Rattle.plain_rows.proofs.SpotOffsets.{IsShownAt, contained-shown, shown-contained}
+use Rattle.row_laws.proofs.BackRises.{back-own, back-picked, back-rises, left-picked, picked, right-picked}
 use Rattle.row_laws.proofs.HasBack.{has-back}
 
 pub rises : (r : Record) (o p : ℕ) (bias : Bias) → IsLawful r → o ≤ p → p ≤ length r.text → spot_le (show r o bias) (show r p bias) ≡ true

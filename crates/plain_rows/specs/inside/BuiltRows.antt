@@ -7,10 +7,10 @@ use Rattle.plain_rows.specs.declared.plain.Plain.{Plain}
 use Rattle.plain_rows.specs.Plain.{block_of, record_of}
 use Rattle.plain_rows.specs.Rows.{is_on, line_of_block}
 
--- the most bytes that a text within its limit shows with its inlays and folds: three for each byte or hidden range, and
--- each inlay's own
+-- the most bytes that a text which is laid out shows with its inlays and folds: its own and the last line's break, two
+-- more for each fold, and each inlay's own
 abbrev pub shown_limit : ℕ
-shown_limit = 167772163
+shown_limit = 134348801
 
 abbrev pub no_block : Block
 no_block = record { offset = 0; id = 0; side = Above; lines = [] }

@@ -1,9 +1,9 @@
 -- Rows counted line by line, and the display lines in which offsets and spots are looked up.
 use Rattle.std.specs.Prelude.{ℕ, ◌≡◌, ◌≤◌, ◌<◌, List, length, map, slice_index_or}
-use Rattle.cell_units.specs.declared.limits.TheConstants.{TEXT_LIMIT}
 use Rattle.cell_units.specs.declared.place.Side.{Side}
 use Rattle.cell_units.specs.Lawful.{IsLawful, source_of}
 use Rattle.cell_units.specs.Record.{Record}
+use Rattle.plain_rows.specs.declared.limits.TheConstants.{LAID_LIMIT}
 use Rattle.plain_rows.specs.declared.spots.laid_rows.LaidRows.{LaidRows}
 use Rattle.plain_rows.specs.FoldedLines.{AreLinesOf, LaidOut, seen}
 use Rattle.plain_rows.specs.Rows.{blocks_at}
@@ -11,7 +11,7 @@ use Rattle.plain_rows.specs.Spots.{rows_before}
 
 -- the most cells of a line: sixteen for each byte that a text within its limit shows with its inlays and folds
 abbrev pub cells_limit : ℕ
-cells_limit = 2684354608
+cells_limit = 2149580816
 
 -- of each display line, how many rows stand before its text rows
 pub record HasFirstRows (r : Record) (rows : List ℕ) : Type 0 where
@@ -26,14 +26,14 @@ pub record HasBlockRows (r : Record) (side : Side) (rows : List ℕ) : Type 0 wh
 -- a lawful record is laid out in such lines
 pub record IsLaid (r : Record) (lines : LaidOut) (first_rows : List ℕ) : Type 0 where
   pub lawful : IsLawful r
-  pub size : length r.text ≤ TEXT_LIMIT
+  pub size : length r.text ≤ LAID_LIMIT
   pub lines_are : AreLinesOf (source_of r) lines
   pub rows_are : HasFirstRows r first_rows
 
 -- the display lines are those of a lawful record, with their widths and the rows before them
 pub record AreRowsOf (r : Record) (rows : LaidRows) : Type 0 where
   pub lawful : IsLawful r
-  pub size : length r.text ≤ TEXT_LIMIT
+  pub size : length r.text ≤ LAID_LIMIT
   pub source : seen rows.source ≡ source_of r
   pub lines : AreLinesOf (source_of r) rows.lines.now
   pub tab : rows.tab ≡ r.tab

@@ -23,7 +23,7 @@ pub struct LaidRows<'a> {
 
 impl LaidRows<'_> {
     /// The display line of this number, cut.
-    fn row_line(&self, alloc: Global, line: u32) -> Result<RowLine, NoMemory>
+    pub(super) fn row_line(&self, alloc: Global, line: u32) -> Result<RowLine, NoMemory>
         requires rows { AreSomeRows self.now }
         requires within { line < length self.now.first_rows.now }
         ensures { IfOk result (λ found. (r : Record) → AreRowsOf r self.now →

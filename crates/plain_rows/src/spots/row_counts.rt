@@ -7,9 +7,9 @@ ghost use Rattle.plain_rows.specs.Rows.{is_on, line_of_block, line_rows};
 ghost use Rattle.plain_rows.specs.inside.SpotRows.{HasFirstRows, HasBlockRows};
 
 use crate::folded_lines::{FoldedLines, PlainSource};
+use crate::limits::LAID_LIMIT;
 use crate::plain::{Plain, PlainBlock};
 use cell_line::cuts_of_pieces;
-use cell_units::limits::TEXT_LIMIT;
 use cell_units::{NoMemory, Side};
 use std::alloc::Global;
 
@@ -45,7 +45,7 @@ fn text_rows(
     line: u32,
 ) -> Result<u32, NoMemory>
     requires lawful { IsLawful (record_of plain.now) }
-    requires size { length plain.now.text ≤ TEXT_LIMIT }
+    requires size { length plain.now.text ≤ LAID_LIMIT }
     requires source { seen source.now ≡ source_of (record_of plain.now) }
     requires lines { AreLinesOf (seen source.now) folded.now }
     requires within { line < length plain.now.marks.items }
@@ -59,7 +59,7 @@ fn text_rows(
 /// How many rows stand before the text rows of each display line.
 pub fn first_rows(alloc: Global, plain: &Plain, folded: &FoldedLines) -> Result<Vec<u32>, NoMemory>
     requires lawful { IsLawful (record_of plain.now) }
-    requires size { length plain.now.text ≤ TEXT_LIMIT }
+    requires size { length plain.now.text ≤ LAID_LIMIT }
     requires lines { AreLinesOf (source_of (record_of plain.now)) folded.now }
     ensures { IfOk result (λ rows. HasFirstRows (record_of plain.now) rows.items) }
 {

@@ -1,4 +1,4 @@
-use Rattle.std.proofs.Common.{refl, sym, ◌∙◌, List, ℕ, subst}
+use Rattle.std.proofs.Common.{refl, sym, ◌∙◌, subst}
 use Rattle.plain_rows.specs.Plain.{record_of}
 use Rattle.plain_rows.specs.inside.SpotRows.{HasFirstRows}
 use Rattle.plain_rows.proofs.SpotShown.{widths-of}

@@ -1,9 +1,8 @@
-use Rattle.std.proofs.Common.{rules, ◌≡◌, ℕ, ◌+◌, ◌<◌, ◌≤◌, length, get_or, map, arith, ap, sym, ◌∙◌, refl, subst, List}
+use Rattle.std.proofs.Common.{ℕ, ◌+◌, ◌<◌, length, get_or, arith, ap, sym, ◌∙◌, subst, List}
 use Rattle.std.proofs.lemmas.List.{get_or-replicate, get_or_read, length-map}
 use Rattle.cell_units.specs.Record.{Block}
 use Rattle.plain_rows.specs.Plain.{block_of, record_of}
 use Rattle.plain_rows.specs.Rows.{is_on}
-use Rattle.plain_rows.specs.declared.plain.PlainBlock.{PlainBlock}
 use Rattle.plain_rows.proofs.RowsOfLines.{length-marks}
 use Rattle.plain_rows.proofs.SpotBlocks.{HasStood, block-line, line-read, plain-block, plain-few, row-added, row-kept, stood-all, stood-few}
 use Rattle.plain_rows.proofs.spots.row_counts.block_rows.Goals as goal

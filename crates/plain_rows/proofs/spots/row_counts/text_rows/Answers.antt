@@ -1,4 +1,4 @@
-use Rattle.std.proofs.Common.{◌≡◌, Some, ℕ, ◌+◌, ◌<◌, ◌≤◌, length, get_or, map, List, arith, ap, sym, ◌∙◌, refl, subst}
+use Rattle.std.proofs.Common.{◌≡◌, Some, ℕ, ◌<◌, length, get_or, List, arith, ap, sym, ◌∙◌, subst}
 use Rattle.std.specs.List.{slice_get}
 use Rattle.std.proofs.lemmas.List.{get_or_read}
 use Rattle.cell_units.specs.Layers.{Source, shown_lines}
@@ -8,7 +8,7 @@ use Rattle.cell_line.specs.declared.element.Element.{Element}
 use Rattle.cell_line.specs.Elements.{elements_of, total_cells}
 use Rattle.cell_line.specs.Wrapping.{cuts_of}
 use Rattle.plain_rows.specs.Plain.{marks_of, record_of}
-use Rattle.plain_rows.specs.Spots.{elements_at, mark_at}
+use Rattle.plain_rows.specs.Spots.{elements_at}
 use Rattle.plain_rows.proofs.RowsOfLines.{length-marks, width-at}
 use Rattle.plain_rows.proofs.SpotLines.{cuts-few}
 use Rattle.plain_rows.proofs.SpotSizes.{cells-few, elements-count, lines-count_of, pieces-elements, text-rows, width-lawful}

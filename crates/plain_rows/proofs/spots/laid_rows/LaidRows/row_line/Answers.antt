@@ -1,9 +1,8 @@
-use Rattle.std.proofs.Common.{◌≡◌, Some, ℕ, ◌<◌, ◌≤◌, length, get_or, List, arith, ap, sym, ◌∙◌, subst}
-use Rattle.std.specs.Result.{IfOk}
+use Rattle.std.proofs.Common.{◌≡◌, Some, length, arith, ap, sym, ◌∙◌, subst}
 use Rattle.std.proofs.lemmas.Result.{IfOk-weaker}
 use Rattle.cell_units.specs.Lawful.{IsWidth}
 use Rattle.cell_units.specs.Record.{Record}
-use Rattle.cell_line.specs.Elements.{elements_of, total_cells}
+use Rattle.cell_line.specs.Elements.{total_cells}
 use Rattle.plain_rows.specs.Spots.{elements_at, mark_at}
 use Rattle.plain_rows.specs.inside.SpotRows.{AreRowsOf}
 use Rattle.plain_rows.proofs.SpotShown.{elements-found, line-within, width-found}

@@ -1,5 +1,4 @@
-use Rattle.std.proofs.Common.{◌≡◌, ℕ, ◌+◌, ◌<◌, ◌≤◌, length, get_or, List, arith, ap, sym, ◌∙◌, subst}
-use Rattle.std.specs.List.{count_by}
+use Rattle.std.proofs.Common.{ℕ, ◌<◌, length, get_or, List, arith, ap}
 use Rattle.cell_units.specs.Lawful.{source_of}
 use Rattle.cell_line.specs.declared.element.Element.{Element}
 use Rattle.cell_line.specs.Wrapping.{cuts_of}
