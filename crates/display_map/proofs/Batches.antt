@@ -1,17 +1,21 @@
--- A batch in one pass: what it makes of a text and of the marks.
+-- A batch of replacements, from its last splice to its first: what it makes of a text.
 use Rattle.std.proofs.Common.{◌≡◌, ℕ, ◌+◌, ◌-◌, ◌≤◌, eqb, leb, ltb, ◌&&◌, not, cond, Bool, true, false, List, [], ◌∷◌, ◌++◌, length, map, reverse, take, drop, slice_range, refl, sym, ap, ◌∙◌, inl, inr, arith}
 use Rattle.std.specs.Prelude.{slice_index}
 use Rattle.std.specs.List.{fold, filter}
 use Rattle.std.proofs.lemmas.Bool.{not-false, and_parts, eqb-true, leb-true, ltb-true, or_cases}
 use Rattle.std.proofs.lemmas.List.{append_assoc, append-nil, map-append, reverse-append, take-append-drop, take-take, drop-take, drop_at, take-append-le, length-take-le, nil_from_length}
+use Rattle.std.proofs.lemmas.List.Folds.{fold-map}
 use Rattle.std.proofs.lemmas.List.Sums.{fold_push}
 use Rattle.cell_units.specs.Text.{clean, is_boundary, goes_on}
 use Rattle.cell_units.specs.Record.{Record}
 use Rattle.cell_units.specs.Operation.{operated, replaced_text}
-use Rattle.display_map.specs.declared.change.Splice.{Splice}
+use Rattle.display_sheet.specs.declared.change.Splice.{Splice}
 use Rattle.cell_units.specs.Operation.{Operation}
-use Rattle.display_map.specs.Changes.{replacement}
-use Rattle.display_map.specs.Changes.{operation_of, is_operation, batch, operated_all, are_ranges}
+use Rattle.display_sheet.specs.Changes.{replacement}
+use Rattle.display_sheet.specs.Changes.{is_operation, batch, operated_all, are_ranges}
+use Rattle.display_map.specs.Events.{Did}
+use Rattle.display_map.specs.Replay.{State, happens, replayed}
+use Rattle.display_map.specs.Splicing.{spliced_text}
 
 -- ---- ranges in order
 
@@ -93,18 +97,13 @@ no_operation s h =
 
 -- ---- the text
 
--- the text from an offset on, with the splices behind it done
-abbrev pub spliced : List ℕ → ℕ → List Splice → List ℕ
-spliced text from [] = drop from text
-spliced text from (s ∷ splices) = slice_range text from s.start ++ (clean s.text ++ spliced text s.end splices)
-
 take_split : (text : List ℕ) (from to : ℕ) → from ≤ to → take to text ≡ take from text ++ slice_range text from to
 take_split text from to le =
     let whole : to ≡ from + (to - from) = omega arith in
     sym (take-append-drop from (take to text))
     ∙ (λ i. take-take from to text le i ++ (ap (λ (k : ℕ). drop from (take k text)) whole ∙ drop-take from (to - from) text) i)
 
-replaced_front : (text tail new : List ℕ) (a b : ℕ) → a ≤ b → b ≤ length text →
+pub replaced_front : (text tail new : List ℕ) (a b : ℕ) → a ≤ b → b ≤ length text →
     replaced_text (take b text ++ tail) a b new ≡ take a text ++ (new ++ tail)
 replaced_front text tail new a b le within =
     let long = length-take-le b text within in
@@ -112,14 +111,14 @@ replaced_front text tail new a b le within =
 
 -- the text after the splices, from the last to the first, is as before up to the first of them
 pub backwards-text : (text : List ℕ) (from : ℕ) (splices : List Splice) → AreOrdered (length text) from splices →
-    backwards (λ t s. replaced_text t s.start s.end (clean s.text)) text splices ≡ take from text ++ spliced text from splices
+    backwards (λ t s. replaced_text t s.start s.end (clean s.text)) text splices ≡ take from text ++ spliced_text text from splices
 backwards-text text from [] h = sym (take-append-drop from text)
 backwards-text text from (s ∷ splices) h = go (is_operation s) refl (backwards-text text s.end splices h.2) where
   later : List ℕ
   later = backwards (λ t s. replaced_text t s.start s.end (clean s.text)) text splices
 
   tail : List ℕ
-  tail = spliced text s.end splices
+  tail = spliced_text text s.end splices
 
   front : (new : List ℕ) → take s.start text ++ (new ++ tail) ≡ take from text ++ (slice_range text from s.start ++ (new ++ tail))
   front new = ap (λ (l : List ℕ). l ++ (new ++ tail)) (take_split text from s.start h.0) ∙ append_assoc (take from text) (slice_range text from s.start) (new ++ tail)
@@ -153,10 +152,17 @@ texts r (s ∷ splices) = go (is_operation s) (texts r splices) where
 
 -- the text after a batch, in one pass
 pub text_after_batch : (r : Record) (splices : List Splice) → are_ranges r.text 0 splices ≡ true →
-    (operated_all (batch splices) r).text ≡ spliced r.text 0 splices
+    (operated_all (batch splices) r).text ≡ spliced_text r.text 0 splices
 text_after_batch r splices ok =
     ap (λ (after : Record). after.text) (fold-batch-backwards (λ r op. operated op r) r splices)
     ∙ texts r splices
     ∙ backwards-text r.text 0 splices (are_ordered r.text 0 splices (omega arith) ok)
 
--- ---- one pass over it
+-- ---- the history
+
+abbrev pub does : State → Splice → State
+does s splice = happens s (Did (replacement splice))
+
+pub replayed-batch : (s : State) (splices : List Splice) → replayed s (map Did (batch splices)) ≡ backwards does s splices
+unfolding replayed
+replayed-batch s splices = fold-map happens Did s (batch splices) ∙ fold-batch-backwards (λ t op. happens t (Did op)) s splices

@@ -1,24 +1,14 @@
 -- The events of a batch, from its last splice to its first.
-use Rattle.std.proofs.Common.{◌≡◌, ℕ, ◌+◌, ◌-◌, ◌<◌, ◌≤◌, zero, suc, cond, Bool, true, false, List, [], ◌∷◌, ◌++◌, length, map, reverse, drop, get_or, refl, sym, ap, ◌∙◌, arith, append_assoc, append-nil, length-append}
-use Rattle.std.specs.List.{filter}
-use Rattle.std.proofs.lemmas.List.{length-map, map-append, reverse-append, drop_all, drop_more}
-use Rattle.display_map.specs.declared.change.Splice.{Splice}
-use Rattle.cell_units.specs.Operation.{Operation}
-use Rattle.display_map.specs.Changes.{replacement}
+use Rattle.std.proofs.Common.{◌≡◌, ℕ, ◌+◌, ◌-◌, ◌<◌, ◌≤◌, zero, suc, cond, Bool, true, false, List, [], ◌∷◌, ◌++◌, length, map, drop, get_or, refl, sym, ap, ◌∙◌, arith, append_assoc, append-nil, length-append}
+use Rattle.std.proofs.lemmas.List.{length-map, map-append, drop_all, drop_more}
+use Rattle.display_sheet.specs.declared.change.Splice.{Splice}
+use Rattle.display_sheet.specs.Changes.{replacement}
 use Rattle.display_map.specs.Events.{Event, Did}
-use Rattle.display_map.specs.Changes.{batch, is_operation}
+use Rattle.display_sheet.specs.Changes.{batch, is_operation}
 use Rattle.display_map.specs.Splicing.{did_events}
+use Rattle.display_map.proofs.Batches.{batch-cons}
 
-batch-cons : (s : Splice) (splices : List Splice) → batch (s ∷ splices) ≡ batch splices ++ cond (is_operation s) (replacement s ∷ []) []
-batch-cons s splices = go (is_operation s) where
-  rest : List Splice
-  rest = filter is_operation splices
-
-  go : (b : Bool) → map replacement (reverse (cond b (s ∷ rest) rest)) ≡ map replacement (reverse rest) ++ cond b (replacement s ∷ []) []
-  go true = ap (map replacement) (reverse-append (s ∷ []) rest) ∙ map-append replacement (reverse rest) (s ∷ [])
-  go false = sym (append-nil (map replacement (reverse rest)))
-
-did-cons : (s : Splice) (splices : List Splice) → did_events (s ∷ splices) ≡ did_events splices ++ cond (is_operation s) (Did (replacement s) ∷ []) []
+pub did-cons : (s : Splice) (splices : List Splice) → did_events (s ∷ splices) ≡ did_events splices ++ cond (is_operation s) (Did (replacement s) ∷ []) []
 did-cons s splices =
     ap (map Did) (batch-cons s splices)
     ∙ map-append Did (batch splices) (cond (is_operation s) (replacement s ∷ []) [])
@@ -27,7 +17,7 @@ did-cons s splices =
       go true = refl
       go false = refl
 
-one_before : (splices : List Splice) (i : ℕ) (s : Splice) → 0 < i → i ≤ length splices → s ≡ get_or splices (i - 1) s → drop (i - 1) splices ≡ s ∷ drop i splices
+pub one_before : (splices : List Splice) (i : ℕ) (s : Splice) → 0 < i → i ≤ length splices → s ≡ get_or splices (i - 1) s → drop (i - 1) splices ≡ s ∷ drop i splices
 one_before splices i s some le is =
     let next : i - 1 + 1 ≡ i = omega arith in
     drop_more splices (i - 1) s (omega arith) ∙ (λ k. sym is k ∷ drop (next k) splices)

@@ -9,21 +9,20 @@ use Rattle.cell_units.proofs.CutLists.{Every}
 use Rattle.cell_units.proofs.FoundEntries.{Every-from_All}
 use Rattle.cell_units.proofs.TextLaws.{tells_boundaries}
 use Rattle.cell_units.specs.Operation.{replaced_text}
-use Rattle.display_map.specs.declared.change.Splice.{Splice}
-use Rattle.cell_units.specs.Operation.{Operation}
-use Rattle.display_map.specs.Changes.{replacement}
+use Rattle.display_sheet.specs.declared.change.Splice.{Splice}
+use Rattle.display_sheet.specs.Changes.{replacement}
 use Rattle.cell_units.specs.declared.fault.Refusal.{Refusal}
 use Rattle.cell_units.specs.declared.fault.Refusal.TheVariants.{BadRange}
 use Rattle.display_map.specs.Events.{Event, Did}
-use Rattle.display_map.specs.Changes.{is_operation, batch, are_ranges, edit_refusal}
-use Rattle.display_map.specs.LineStep.{line_step}
+use Rattle.display_sheet.specs.Changes.{is_operation, batch, are_ranges, edit_refusal}
+use Rattle.display_sheet.specs.LineStep.{line_step}
 use Rattle.display_map.specs.Replay.{State, happens, replayed}
 use Rattle.display_map.specs.LawfulStates.{EventsFit, InsertUtf8}
-use Rattle.display_map.proofs.Batches.{AreOrdered, are_ordered, backwards, backwards-text, batch-cons, ordered-le, spliced}
-use Rattle.display_map.proofs.BatchMarks.{does, replayed-batch}
+use Rattle.display_map.specs.Splicing.{spliced_text}
+use Rattle.display_map.proofs.Batches.{AreOrdered, are_ordered, backwards, backwards-text, batch-cons, does, ordered-le, replayed-batch}
 use Rattle.display_map.proofs.Replays.{replayed-cons, replayed-none}
 
-EventsFit-append : (s : State) (xs ys : List Event) → EventsFit s xs → EventsFit (replayed s xs) ys → EventsFit s (xs ++ ys)
+pub EventsFit-append : (s : State) (xs ys : List Event) → EventsFit s xs → EventsFit (replayed s xs) ys → EventsFit s (xs ++ ys)
 EventsFit-append s [] ys a b = subst (λ (t : State). EventsFit t ys) (replayed-none s) b
 EventsFit-append s (x ∷ xs) ys a b = (a.0, EventsFit-append (happens s x) xs ys a.1 (subst (λ (t : State). EventsFit t ys) (replayed-cons s x xs) b))
 
@@ -32,7 +31,7 @@ text_does : (t : State) (x : Splice) → (does t x).present.text ≡ replaced_te
 unfolding line_step
 text_does t x = refl
 
-texts : (s : State) (splices : List Splice) →
+pub texts : (s : State) (splices : List Splice) →
     (backwards does s splices).present.text ≡ backwards (λ t x. replaced_text t x.start x.end (clean x.text)) s.present.text splices
 texts s [] = refl
 texts s (x ∷ splices) = go (is_operation x) (texts s splices) where
@@ -43,10 +42,10 @@ texts s (x ∷ splices) = go (is_operation x) (texts s splices) where
   go true e = text_does (backwards does s splices) x ∙ ap (λ (t : List ℕ). replaced_text t x.start x.end (clean x.text)) e
   go false e = e
 
-abbrev AreAtBoundaries : List ℕ → List Splice → Type 0
+abbrev pub AreAtBoundaries : List ℕ → List Splice → Type 0
 AreAtBoundaries text splices = Every (λ x. IsBoundary text x.start × IsBoundary text x.end) splices
 
-at_boundaries : (text : List ℕ) (from : ℕ) (splices : List Splice) → IsUtf8 text → are_ranges text from splices ≡ true → AreAtBoundaries text splices
+pub at_boundaries : (text : List ℕ) (from : ℕ) (splices : List Splice) → IsUtf8 text → are_ranges text from splices ≡ true → AreAtBoundaries text splices
 at_boundaries text from [] utf8 h = tt
 at_boundaries text from (x ∷ splices) utf8 h =
     let rest = are_ranges text x.end splices in
@@ -56,11 +55,11 @@ at_boundaries text from (x ∷ splices) utf8 h =
     (((tells_boundaries text utf8 x.start).0 two.1, (tells_boundaries text utf8 x.end).0 three.1), at_boundaries text x.end splices utf8 all.1)
 
 -- a boundary before the splices is one of the text after them
-boundary_before : (s : State) (from p : ℕ) (splices : List Splice) → AreOrdered (length s.present.text) from splices → p ≤ from → IsBoundary s.present.text p →
+pub boundary_before : (s : State) (from p : ℕ) (splices : List Splice) → AreOrdered (length s.present.text) from splices → p ≤ from → IsBoundary s.present.text p →
     IsBoundary (replayed s (map Did (batch splices))).present.text p
 boundary_before s from p splices h le at =
     let text = s.present.text in
-    let tail = spliced text from splices in
+    let tail = spliced_text text from splices in
     let within = ordered-le (length text) from splices h in
     let long = length-take-le from text within in
     let is : (replayed s (map Did (batch splices))).present.text ≡ take from text ++ tail =

@@ -13,6 +13,11 @@ use Rattle.display_map.proofs.Stamps.{stamps, stamps-wrapped_at}
 
 -- ---- by number
 
+pub slice_get_some : {X : Type 0} (xs : List X) (i : ℕ) (d : X) → i < length xs → slice_get xs i ≡ Some (get_or xs i d)
+slice_get_some [] i d lt = absurd (omega arith)
+slice_get_some (x ∷ xs) zero d lt = refl
+slice_get_some (x ∷ xs) (suc i) d lt = slice_get_some xs i d (omega arith)
+
 first_number : (a : ℕ) (job : SentJob) (jobs : List SentJob) → map (λ j. j.number) (job ∷ jobs) ≡ range_with_len a (length (job ∷ jobs)) → job.number ≡ a
 first_number a job jobs e = ap (λ (l : List ℕ). get_or l 0 0) e
 
@@ -139,7 +144,7 @@ still s (Landed job) other =
     ∙ ap (λ (ms : List Mark). record s.present { marks = ms }) (sym (ap (λ (r : Record). r.marks) (landed_on-is s.present (job_numbered job s.jobs))))
 still s (Published last) other = refl
 
-landed_stamps : (r : Record) (o : Option SentJob) → stamps (landed_marks r o) ≡ stamps r.marks
+pub landed_stamps : (r : Record) (o : Option SentJob) → stamps (landed_marks r o) ≡ stamps r.marks
 landed_stamps r None = refl
 landed_stamps r (Some job) = go (job.width == r.width) where
   go : (b : Bool) → stamps (cond b (wrapped_at job.width job.stamps r.marks) r.marks) ≡ stamps r.marks

@@ -6,9 +6,8 @@ use Rattle.std.proofs.lemmas.List.Folds.{list_any-append}
 use Rattle.cell_units.specs.Record.{Record, Mark}
 use Rattle.display_map.specs.Events.{Landed}
 use Rattle.display_map.specs.Replay.{SentJob, State, holds, wrapped_at, landed_on, happens, waits}
-use Rattle.display_map.proofs.PlainRows.{slice_get_some}
 use Rattle.std.proofs.lemmas.Simd.{map-map}
-use Rattle.display_map.proofs.Jobs.{job_numbered-at, with_landed-at, landed_marks, landed_on-is}
+use Rattle.display_map.proofs.Jobs.{job_numbered-at, slice_get_some, with_landed-at, landed_marks, landed_on-is}
 
 -- the state after the landing of a job that stands at its number
 abbrev pub landed_state : State → ℕ → SentJob → State

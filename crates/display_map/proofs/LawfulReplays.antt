@@ -1,7 +1,6 @@
 -- Each record of a replay is lawful, where its operations are allowed.
 use Rattle.std.proofs.Common.{◌≡◌, ℕ, Bool, true, false, cond, eqb, if◌then◌else◌, List, [], ◌∷◌, refl, sym, ◌∙◌, subst}
 use Rattle.std.specs.Prelude.{Option, Some, None}
-use Rattle.std.specs.List.{All}
 use Rattle.std.proofs.lemmas.Bool.{eqb-true}
 use Rattle.std.proofs.lemmas.List.{length-map}
 use Rattle.cell_units.specs.Text.{IsText}
@@ -13,7 +12,7 @@ use Rattle.cell_units.proofs.LawfulOperations.{opened-lawful}
 use Rattle.display_map.specs.Events.{Event, Line, Did, Sent, Landed, Published}
 use Rattle.display_map.specs.Replay.{SentJob, State, begun, happens, holds, job_numbered, landed_on, replayed, wrapped_at}
 use Rattle.display_map.specs.LawfulStates.{EventFits, EventsFit}
-use Rattle.display_map.proofs.StepLaws.{IsLawful-step}
+use Rattle.display_sheet.proofs.StepLaws.{IsLawful-step}
 
 abbrev HasWidth : Mark → Type 0
 HasWidth m = IsWidth m.width
@@ -37,7 +36,7 @@ landed_lawful r (Some job) s = go (eqb job.width r.width) refl where
         (widths-wrapped job.width job.stamps r.marks (subst IsWidth (sym (eqb-true job.width r.width e)) s.entries.width) (Every-from_All HasWidth r.marks s.widths));
   }
 
-lawful-happens : (s : State) (e : Event) → EventFits s e → IsLawful s.present → IsLawful (happens s e).present
+pub lawful-happens : (s : State) (e : Event) → EventFits s e → IsLawful s.present → IsLawful (happens s e).present
 lawful-happens s (Line number) fits is = is
 lawful-happens s (Did op) fits is = IsLawful-step op s.present is fits
 lawful-happens s (Sent job first count) fits is = is

@@ -1,14 +1,13 @@
 -- The lines of one run among all lines, by their stamps.
-use Rattle.std.proofs.Common.{◌≡◌, ℕ, ◌+◌, ◌≤◌, ◌==◌, ◌&&◌, ◌||◌, not, eqb, cond, Bool, true, false, List, [], ◌∷◌, ◌++◌, length, map, take, drop, replicate, Some, refl, sym, ap, subst, ◌∙◌, arith, length-drop}
+use Rattle.std.proofs.Common.{◌≡◌, ℕ, ◌+◌, ◌≤◌, ◌==◌, ◌&&◌, ◌||◌, not, eqb, cond, Bool, true, false, List, [], ◌∷◌, ◌++◌, length, map, take, drop, replicate, refl, sym, ap, subst, ◌∙◌, arith}
 use Rattle.std.proofs.lemmas.Bool.{eq-eqb}
-use Rattle.std.proofs.lemmas.List.{append_assoc, map-append, map-id, take-append-drop, drop-drop, take-map, drop-map, length-take-le}
-use Rattle.std.proofs.lemmas.Simd.{map-map}
+use Rattle.std.proofs.lemmas.List.{append_assoc, map-append, take-append-drop, drop-drop}
 use Rattle.std.proofs.lemmas.List.Folds.{list_any-append}
-use Rattle.cell_units.specs.Record.{Mark, Record}
+use Rattle.cell_units.specs.Record.{Mark}
 use Rattle.display_map.specs.Events.{Sent}
-use Rattle.display_map.specs.Replay.{SentJob, State, holds, wrapped_at, stamps_of, happens, waits}
+use Rattle.display_map.specs.Replay.{State, holds, stamps_of, happens, waits}
 use Rattle.display_map.proofs.Stamps.{stamps, times, times-cons, times-append}
-use Rattle.display_map.proofs.Jobs.{waits-sent, landed_marks}
+use Rattle.display_map.proofs.Jobs.{waits-sent}
 
 holds_none : (v : ℕ) (xs : List ℕ) → times v xs ≡ 0 → holds xs v ≡ false
 holds_none v [] e = refl
@@ -77,44 +76,6 @@ module _ {Y : Type 0} (F : Bool → Mark → Y) where
       ∙ (λ i. not_held held (take first marks) (λ v. omega (arith, sum v)) i
       ++ (are_held [] own held refl i ++ not_held held rest (λ v. omega (arith, sum v)) i))
       ∙ ap (λ (l : List Mark). map (F false) (take first marks) ++ (map (F true) own ++ map (F false) l)) (drop-drop count first marks)
-
-  -- what is read of the marks, where it is the same of each that is held
-  held_over : (f : Mark → Y) (y : Y) (marks : List Mark) (first count : ℕ) → ((m : Mark) → F false m ≡ f m) → ((m : Mark) → F true m ≡ y) →
-      ((v : ℕ) → times v (stamps marks) ≤ 1) → first + count ≤ length marks →
-      map (by_held (stamps_of marks first count)) marks ≡ take first (map f marks) ++ (replicate count y ++ drop (first + count) (map f marks))
-  held_over f y marks first count other own once within =
-      let long : length (take count (drop first marks)) ≡ count = length-take-le count (drop first marks) (omega (arith, length-drop first marks)) in
-      held_run marks first count once
-      ∙ (λ i. ((λ j. map (λ m. other m j) (take first marks)) ∙ sym (take-map f first marks)) i
-      ++ ((map_same (F true) y own (take count (drop first marks)) ∙ ap (λ (n : ℕ). replicate n y) long) i
-      ++ ((λ j. map (λ m. other m j) (drop (first + count) marks)) ∙ sym (drop-map f (first + count) marks)) i))
-
--- a landing of a run gives its lines the width
-pub wrapped_run : (width : ℕ) (marks : List Mark) (first count : ℕ) → ((v : ℕ) → times v (stamps marks) ≤ 1) →
-    wrapped_at width (stamps_of marks first count) marks
-    ≡ take first marks ++ (map (λ m. record { stamp = m.stamp; width = width }) (take count (drop first marks)) ++ drop (first + count) marks)
-wrapped_run width marks first count once =
-    held_run (λ b m. cond b (record { stamp = m.stamp; width = width }) m) marks first count once
-    ∙ (λ i. map-id (take first marks) i ++ (map (λ m. record { stamp = m.stamp; width = width }) (take count (drop first marks)) ++ map-id (drop (first + count) marks) i))
-
--- and leaves the others theirs
-pub widths_run : (width : ℕ) (marks : List Mark) (first count : ℕ) → ((v : ℕ) → times v (stamps marks) ≤ 1) → first + count ≤ length marks →
-    map (λ m. m.width) (wrapped_at width (stamps_of marks first count) marks)
-    ≡ take first (map (λ m. m.width) marks) ++ (replicate count width ++ drop (first + count) (map (λ m. m.width) marks))
-widths_run width marks first count once within =
-    map-map (λ (m : Mark). m.width) (λ (m : Mark). cond (holds (stamps_of marks first count) m.stamp) (record { stamp = m.stamp; width = width }) m) marks
-    ∙ held_over (λ b m. (cond b (record { stamp = m.stamp; width = width }) m).width) (λ (m : Mark). m.width) width marks first count
-    (λ m. refl) (λ m. refl) once within
-
--- the same of a job of a run
-pub widths_landed : (r : Record) (job : SentJob) (first count : ℕ) → job.width ≡ r.width → job.stamps ≡ stamps_of r.marks first count →
-    ((v : ℕ) → times v (stamps r.marks) ≤ 1) → first + count ≤ length r.marks →
-    map (λ m. m.width) (landed_marks r (Some job))
-    ≡ take first (map (λ m. m.width) r.marks) ++ (replicate count r.width ++ drop (first + count) (map (λ m. m.width) r.marks))
-widths_landed r job first count same held once within =
-    ap (λ (b : Bool). map (λ (m : Mark). m.width) (cond b (wrapped_at job.width job.stamps r.marks) r.marks)) (eq-eqb job.width r.width same)
-    ∙ (λ i. map (λ (m : Mark). m.width) (wrapped_at (same i) (held i) r.marks))
-    ∙ widths_run r.width r.marks first count once within
 
 -- after a run was sent its lines wait no more, and the others as before
 pub waits_run : (s : State) (job first count : ℕ) → ((v : ℕ) → times v (stamps s.present.marks) ≤ 1) →

@@ -42,6 +42,12 @@ range_from a (suc n) =
     All-cons (λ (x : ℕ). a ≤ x) a (range_with_len (a + 1) n) (omega arith)
     (All-weaker (λ (x : ℕ). a + 1 ≤ x) (λ (x : ℕ). a ≤ x) (λ x le. omega (arith, le)) (range_with_len (a + 1) n) (range_from (a + 1) n))
 
+-- a number below a range doesn't stand in it
+pub times-range : (v a n : ℕ) → v < a → times v (range_with_len a n) ≡ 0
+times-range v a n lt =
+    times-absent v (range_with_len a n)
+    (All-weaker (λ (x : ℕ). a ≤ x) (λ (x : ℕ). x ≡ v → ⊥) (λ x le e. omega (arith, le, e, lt)) (range_with_len a n) (range_from a n))
+
 range_to : (a n m : ℕ) → a + n ≤ m → All (λ x. x < m) (range_with_len a n)
 range_to a zero m le = All-nil (λ (x : ℕ). x < m)
 range_to a (suc n) m le = All-cons (λ (x : ℕ). x < m) a (range_with_len (a + 1) n) (omega arith) (range_to (a + 1) n m (omega arith))

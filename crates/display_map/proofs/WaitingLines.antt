@@ -1,11 +1,9 @@
 -- Which lines wait, line by line.
-use Rattle.std.proofs.Common.{◌≡◌, ℕ, ◌+◌, ◌<◌, ◌≤◌, ◌⊎◌, inl, inr, not, min, zero, suc, cond, Bool, true, false, List, [], ◌∷◌, length, take, get_or, sym, ap, ◌∙◌, arith}
+use Rattle.std.proofs.Common.{◌≡◌, ℕ, ◌+◌, ◌<◌, ◌≤◌, ◌⊎◌, inl, inr, min, zero, suc, cond, Bool, true, false, List, [], ◌∷◌, length, take, get_or, ap, ◌∙◌, arith}
 use Rattle.std.specs.List.{prefix_len}
-use Rattle.display_map.specs.declared.wrap.Wrap.{Wrap}
-use Rattle.display_map.specs.Kept.{no_wrap, NoneWaits}
 
 -- a prefix ends where a test fails, or with the list
-prefix_at : {X : Type 0} (p : X → Bool) (xs : List X) (n : ℕ) (d : X) → n ≤ length xs → ((k : ℕ) → k < n → p (get_or xs k d) ≡ true) →
+pub prefix_at : {X : Type 0} (p : X → Bool) (xs : List X) (n : ℕ) (d : X) → n ≤ length xs → ((k : ℕ) → k < n → p (get_or xs k d) ≡ true) →
     (n ≡ length xs) ⊎ (p (get_or xs n d) ≡ false) → prefix_len p xs ≡ n
 prefix_at p [] n d le before here = omega arith
 prefix_at p (x ∷ xs) zero d le before (inl e) = absurd (omega arith)
@@ -24,11 +22,3 @@ prefix-take p (suc n) (x ∷ xs) = go (p x) (prefix-take p n xs) where
   go : (b : Bool) → prefix_len p (take n xs) ≡ min n (prefix_len p xs) → cond b (1 + prefix_len p (take n xs)) 0 ≡ min (suc n) (cond b (1 + prefix_len p xs) 0)
   go true e = omega arith
   go false e = omega arith
-
-pub first_waiting-at : (wraps : List Wrap) (n : ℕ) → n ≤ length wraps → NoneWaits wraps n → (n ≡ length wraps) ⊎ ((get_or wraps n no_wrap).waits ≡ true) →
-    n ≡ prefix_len (λ w. not w.waits) wraps
-first_waiting-at wraps n le none here =
-    sym (prefix_at (λ (w : Wrap). not w.waits) wraps n no_wrap le (λ k lt. ap not (none k lt)) (opposite here)) where
-      opposite : (n ≡ length wraps) ⊎ ((get_or wraps n no_wrap).waits ≡ true) → (n ≡ length wraps) ⊎ (not (get_or wraps n no_wrap).waits ≡ false)
-      opposite (inl e) = inl e
-      opposite (inr e) = inr (ap not e)

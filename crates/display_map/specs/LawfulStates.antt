@@ -3,7 +3,7 @@ use Rattle.std.specs.Prelude.{List, [], ◌∷◌}
 use Rattle.std.specs.List.{All}
 use Rattle.std.specs.Str.{IsUtf8}
 use Rattle.cell_units.specs.Lawful.{IsAllowed}
-use Rattle.display_map.specs.declared.change.Splice.{Splice}
+use Rattle.display_sheet.specs.declared.change.Splice.{Splice}
 use Rattle.display_map.specs.Events.{Event, Did}
 use Rattle.display_map.specs.Replay.{State, happens}
 

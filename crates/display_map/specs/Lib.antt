@@ -1,10 +1,9 @@
-pub mod Changes
+pub mod Displays
 pub mod Events
-pub mod LineStep
+pub mod Identity
+pub mod LawfulStates
+pub mod Outs
 pub mod Replay
-pub mod Shown
-pub mod Faults
-pub mod Kept
 pub mod Sending
 pub mod Splicing
-pub mod LawfulStates
+pub mod Works

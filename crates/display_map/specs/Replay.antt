@@ -5,7 +5,7 @@ use Rattle.cell_units.specs.declared.limits.TheConstants.{RUN_LIMIT}
 use Rattle.cell_line.specs.declared.lines.Run.{Run}
 use Rattle.cell_units.specs.Record.{Mark, Record, opened}
 use Rattle.display_map.specs.Events.{Event, Line, Did, Sent, Landed, Published}
-use Rattle.display_map.specs.LineStep.{line_step}
+use Rattle.display_sheet.specs.LineStep.{line_step}
 
 -- a job: its number, the width and the stamps of its lines when it was sent, and whether it has landed
 pub record SentJob : Type 0 where

@@ -1,10 +1,10 @@
 -- Jobs that a display sends and takes back.
-use Rattle.std.specs.Prelude.{ℕ, ◌≡◌, ◌+◌, ◌==◌, Bool, true, false, List, [], ◌∷◌, ◌++◌, length, Option, Some, None}
+use Rattle.std.specs.Prelude.{ℕ, ◌≡◌, ◌+◌, ◌==◌, Bool, false, List, [], ◌∷◌, ◌++◌, length, Option, Some, None}
 use Rattle.std.specs.List.{list_any}
 use Rattle.cell_line.specs.declared.element.Element.{Element}
 use Rattle.plain_rows.specs.Rows.{line_elements}
 use Rattle.wrap_workers.specs.Jobs.{JobParts}
-use Rattle.display_map.specs.Events.{Event, Did, Sent, Landed}
+use Rattle.display_map.specs.Events.{Event, Sent, Landed}
 use Rattle.display_map.specs.Replay.{History, state_of, present_of, appended, next_run}
 
 -- the event that sends a job
@@ -28,11 +28,7 @@ abbrev pub is_landing : ℕ → Event → Bool
 is_landing number (Landed job) = job == number
 is_landing number _ = false
 
-abbrev pub is_did : Event → Bool
-is_did (Did op) = true
-is_did _ = false
-
--- the display of the history sent the job, which hasn't landed, and no operation was done since
+-- the display of the history sent the job, which hasn't landed
 pub record IsOutstanding (h : History) (job : JobParts (List (List Element))) : Type 0 where
   pub before : List Event
   pub after : List Event
@@ -40,4 +36,3 @@ pub record IsOutstanding (h : History) (job : JobParts (List (List Element))) : 
   pub width_is : job.width ≡ (present_of (record { opening = h.opening; events = before })).width
   pub lines_are : job.lines ≡ line_elements (present_of (record { opening = h.opening; events = before }))
   pub not_landed : list_any (is_landing job.number) after ≡ false
-  pub nothing_done : list_any is_did after ≡ false

@@ -1,47 +1,39 @@
 //! The display.
-ghost use Rattle.std.specs.Prelude.{◌≡◌, ◌+◌, ◌==◌, ◌^◌, ◌<◌, ◌≤◌, [], ◌∷◌, length, map, replicate, OnOk, OnErr, IfOk, IfErr, MatchResult};
-ghost use Rattle.std.specs.Arc.{arc_value};
+ghost use Rattle.std.specs.Prelude.{◌≡◌, ◌+◌, ◌≤◌, false, [], ◌∷◌, None, length, map, OnOk, OnErr, IfOk, IfErr, MatchResult};
 ghost use Rattle.cell_units.specs.declared.limits.TheConstants.{TEXT_LIMIT};
 ghost use Rattle.cell_units.specs.Refusal.{IsAccepted, IsTextRefused};
 ghost use Rattle.cell_units.specs.Text.{clean};
-ghost use Rattle.display_map.specs.Events.{Did, Landed, Line, Published};
-ghost use Rattle.display_map.specs.Changes.{ops_of, change_refusal, batch, edit_refusal};
-ghost use Rattle.display_map.specs.Faults.{event_limit, IsRefusedAs};
-ghost use Rattle.display_map.specs.Kept.{plain_wrap};
+ghost use Rattle.display_sheet.specs.Changes.{batch, change_refusal, edit_refusal, is_replacement, operation_of, operation_refusal, ops_of};
+ghost use Rattle.display_sheet.specs.Faults.{IsRefusedAs};
+ghost use Rattle.display_map.specs.Events.{Did, Landed, Line, Published, event_limit};
+ghost use Rattle.display_map.specs.Replay.{appended, is_settled, present_of};
 ghost use Rattle.display_map.specs.Sending.{IsOutstanding, IsRunTaken};
-ghost use Rattle.display_map.specs.Replay.{present_of, appended, is_settled};
 
-use crate::buffer::Buffer;
-use crate::change::{Change, Op, Splice};
 use crate::event::Event;
-use crate::held::{self, Held};
 use crate::journal::Journal;
-use crate::splicing;
+use crate::outs::{self, Out};
 use crate::version::Version;
 use crate::view::View;
-use crate::wrap::{self, Wrap};
+use crate::{flags, held, splicing, work};
 use cell_units::limits::TEXT_LIMIT;
 use cell_units::{Fault, NoMemory, Refusal, Steps, TextFault, cleaned, read_text};
+use display_sheet::{Buffer, Change, Held, Op, Sheet, Splice};
 use std::alloc::Global;
 use std::marker::Model;
 use std::slice;
 use std::sync::Arc;
 use wrap_workers::{Done, Job};
 
-/// The tab size and the width of a text that was just opened.
-const OPENING_TAB: u32 = 4;
-
-const OPENING_WIDTH: u32 = 80;
-
 /// A text under edits, wrapped run by run. It is seen as its history.
 #[derive(Drop)]
 pub struct Display {
     opening: Arc<Buffer>,
     journal: Journal,
-    text: Arc<Buffer>,
-    wraps: Arc<Vec<Wrap>>,
-    tab: u32,
-    width: u32,
+    sheet: Sheet,
+    /// Of each display line whether it waits.
+    waits: Vec<bool>,
+    /// The jobs that haven't landed, in the order in which they were sent.
+    outs: Vec<Out>,
     /// How many versions were published.
     versions: u32,
     /// How many jobs were sent.
@@ -56,18 +48,11 @@ impl Model for Display {
     ghost Value = { History };
 
     ghost use Rattle.std.specs.Arc.{arc_value};
-    ghost use Rattle.display_map.specs.Kept.{KeepsHistory};
+    ghost use Rattle.display_map.specs.Displays.{KeepsShortDisplay};
 
     ghost view = { λ d. record { opening = arc_value d.opening; events = d.journal } };
 
-    ghost invariant = { λ d. KeepsHistory (record { opening = arc_value d.opening; events = d.journal }) (arc_value d.text) d.tab d.width (arc_value d.wraps).items d.versions d.jobs d.first };
-}
-
-/// A value that may be shared.
-fn shared<T: Drop>(alloc: Global, value: T) -> Result<Arc<T>, NoMemory>
-    ensures { IfOk result (λ shared. arc_value shared ≡ value) }
-{
-    Ok(Arc::new(alloc, value)?)
+    ghost invariant = { λ d. KeepsShortDisplay (record { opening = arc_value d.opening; events = d.journal }) d.sheet d.waits.items d.outs.items d.versions d.jobs d.first };
 }
 
 /// A display of a text.
@@ -76,14 +61,14 @@ fn opened(alloc: Global, text: &str) -> Result<Display, NoMemory>
     ensures { IfOk result (λ display. display ≡ record { opening = clean text.now; events = [] }) }
 {
     let opening = Arc::new(alloc, Buffer::new(alloc, cleaned(alloc, text)?)?)?;
-    let wraps = Arc::new(alloc, wrap::plain(alloc, opening.lines())?)?;
+    let sheet = Sheet::opened(alloc, Arc::try_clone(&opening)?)?;
+    let work = work::finished(alloc, sheet, Vec::new(alloc))?;
     Ok(Display {
-        text: Arc::try_clone(&opening)?,
         opening,
         journal: Journal::none(alloc),
-        wraps,
-        tab: OPENING_TAB,
-        width: OPENING_WIDTH,
+        sheet: work.sheet,
+        waits: work.waits,
+        outs: work.outs,
         versions: 0,
         jobs: 0,
         first: 0,
@@ -148,30 +133,28 @@ impl Display {
         ensures taken { IfOk result (λ job. IsRunTaken self.old self.new job) }
         ensures unchanged { OnErr result (self.new ≡ self.old) }
     {
-        let Some(run) = wrap::next_run(&self.wraps, self.first) else {
+        let Some(run) = flags::next_run(&self.waits, self.first) else {
             return Ok(None);
         };
-        let lines = Held {
-            text: Arc::try_clone(&self.text)?,
-            tab: self.tab,
-        };
-        let events = self.journal.len();
+        let lines = self.sheet.held()?;
+        let width = self.sheet.width();
         let number = self.jobs as u64 + 1;
+        let out = Out::new(alloc, number, width, run.first, run.count)?;
+        let events = self.journal.len();
         let event = Event::Sent {
             job: number,
             first: run.first,
             count: run.count,
         };
         self.journal.push(alloc, event)?;
-        let first = run.first as usize;
-        let count = run.count as usize;
-        if let Err(error) = wrap::send(alloc, &mut self.wraps, first, count) {
+        if let Err(error) = self.outs.push(out) {
             self.journal.truncate(events);
-            return Err(error);
+            return Err(error.into());
         }
+        flags::stop_waiting(&mut self.waits, run);
         self.jobs += 1;
-        self.first = first + count;
-        Ok(Some(held::job(number, lines, run, self.width)))
+        self.first = run.first as usize + run.count as usize;
+        Ok(Some(held::job(number, lines, run, width)))
     }
 
     /// Takes the wraps of a job that this display sent. Where the job's width is the present one, its lines stand wrapped
@@ -189,20 +172,18 @@ impl Display {
         ensures unchanged { OnErr result (self.new ≡ self.old) }
     {
         let job = done.job();
-        let run = job.run();
+        let number = job.number();
+        // The run lies in the job's lines.
+        let _ = job.run();
         let events = self.journal.len();
-        let event = Event::Landed { job: job.number() };
-        if let Err(_) = self.journal.push(alloc, event) {
+        if let Err(_) = self.journal.push(alloc, Event::Landed { job: number }) {
             return Err(done);
         }
-        if job.width() != self.width {
-            return Ok(());
-        }
-        let first = run.first as usize;
-        if let Err(_) = wrap::land(alloc, &mut self.wraps, first, self.width, done.wraps()) {
+        if let Err(_) = work::land(alloc, &mut self.sheet, &self.outs, number, done.wraps()) {
             self.journal.truncate(events);
             return Err(done);
         }
+        outs::remove(&mut self.outs, number);
         Ok(())
     }
 
@@ -214,29 +195,52 @@ impl Display {
         ensures refused { IfErr result (IsRefusedAs (edit_refusal (present_of self.old) splices.now)) }
         ensures unchanged { OnErr result (self.new ≡ self.old) }
     {
-        if !splicing::are_ranges(self.text.as_str(), splices) {
+        let text = self.sheet.text().as_str();
+        if !splicing::are_ranges(text, splices) {
             return Err(Fault::Refused(Refusal::BadRange));
         }
-        let text = splicing::spliced_text(alloc, self.text.as_str(), splices)?;
-        if text.len() > TEXT_LIMIT {
+        if splicing::spliced_text(alloc, text, splices)?.len() > TEXT_LIMIT {
             return Err(Fault::Refused(Refusal::TooLong));
         }
-        let fresh = wrap::fresh(self.width);
-        let wraps = splicing::spliced_wraps(alloc, &self.text, &self.wraps, fresh, splices)?;
-        let text = shared(alloc, Buffer::new(alloc, text)?)?;
-        let wraps = shared(alloc, wraps)?;
+        let work = work::batch(alloc, &self.sheet, &self.outs, splices)?;
         splicing::push_batch(alloc, &mut self.journal, splices)?;
-        self.text = text;
-        self.wraps = wraps;
+        self.sheet = work.sheet;
+        self.waits = work.waits;
+        self.outs = work.outs;
         self.first = 0;
         Ok(())
     }
 
-    /// Does a change. A refused change leaves the display as it was.
+    /// Does an operation that isn't a replacement.
+    fn operate(&mut self, alloc: Global, op: &Op) -> Result<(), Fault>
+        requires other { is_replacement op.now ≡ false }
+        requires room { length self.old.events + 1 ≤ event_limit }
+        ensures accepted { OnOk result (operation_refusal (present_of self.old) (operation_of op.now) ≡ None) }
+        ensures done { OnOk result (self.new ≡ appended self.old (Did (operation_of op.now) ∷ [])) }
+        ensures refused { IfErr result (IsRefusedAs (operation_refusal (present_of self.old) (operation_of op.now))) }
+        ensures unchanged { OnErr result (self.new ≡ self.old) }
+    {
+        let work = work::one(alloc, &self.sheet, &self.outs, op)?;
+        let op = op.copy(alloc)?;
+        self.journal.push(alloc, Event::Did { op })?;
+        self.sheet = work.sheet;
+        self.waits = work.waits;
+        self.outs = work.outs;
+        self.first = 0;
+        Ok(())
+    }
+
+    /// Does a change. A refused change leaves the display as it was. It is refused by the first of these that fits:
     ///
-    /// The ranges of an edit are those of the text before it. It is refused as `BadRange` where one is backwards, past the
-    /// end or off a boundary or starts before the end of the one before it, and else as `TooLong` where the text would be
-    /// longer than a text may be.
+    /// - `BadNumber`: a tab size isn't 1 to 16, or a width neither 0 nor 2 to 10,000;
+    /// - `IdInUse`, `UnknownId`: an id that is added is there already, or one that is removed isn't;
+    /// - `BadRange`: an offset is past the end or no boundary; a fold is backwards or empty; a block's row is past the
+    ///   last; a range of an edit is backwards, or starts before the end of the one before it;
+    /// - `BadText`: an inlay's text is empty; a block has no line, more than 256, or one with a line end;
+    /// - `TooLong`: the text would be longer than a text may be; an inlay's text or a block's line is over 1,024 bytes;
+    ///   65,536 of the kind are there.
+    ///
+    /// The ranges of an edit are those of the text before it.
     pub fn apply(&mut self, alloc: Global, change: &Change, _steps: &mut Steps) -> Result<(), Fault>
         requires room { length self.old.events + length (ops_of change.now) ≤ event_limit }
         ensures accepted { OnOk result (change_refusal (present_of self.old) change.now ≡ None) }
@@ -247,6 +251,7 @@ impl Display {
         match change {
             Change::Edit(splices) => self.edit(alloc, splices),
             Change::One(Op::Replace(splice)) => self.edit(alloc, slice::from_ref(splice)),
+            Change::One(op) => self.operate(alloc, op),
         }
     }
 
@@ -254,7 +259,7 @@ impl Display {
     pub fn settled(&self) -> bool
         ensures { result ≡ is_settled (present_of self.now) }
     {
-        wrap::all_at(&self.wraps, self.width)
+        flags::all_at(self.sheet.wraps(), self.sheet.width())
     }
 
     /// The display as it is now. It takes no memory: `NoMemory` is one holder too many of what is shared.
@@ -264,9 +269,7 @@ impl Display {
         Ok(View {
             opening: Arc::try_clone(&self.opening)?,
             journal: self.journal.share()?,
-            text: Arc::try_clone(&self.text)?,
-            wraps: Arc::try_clone(&self.wraps)?,
-            tab: self.tab,
+            sheet: self.sheet.share()?,
             versions: self.versions,
         })
     }

@@ -2,8 +2,8 @@
 ghost use Rattle.std.specs.Prelude.{◌≡◌, IfOk};
 ghost use Rattle.display_map.specs.Events.{event_of};
 
-use crate::change::Op;
 use cell_units::NoMemory;
+use display_sheet::Op;
 use std::alloc::Global;
 
 /// One event of a display's history.

@@ -25,7 +25,7 @@ impl Model for Journal {
     ghost Value = { List Event };
 
     ghost use Rattle.std.specs.Prelude.{◌≤◌, length, take};
-    ghost use Rattle.display_map.specs.Kept.{kept_events};
+    ghost use Rattle.display_map.specs.Events.{kept_events};
 
     ghost view = { λ j. take j.len (kept_events j.events) };
 

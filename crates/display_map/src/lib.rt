@@ -4,29 +4,22 @@
 //! they show is what the plain functions give for the record that the history replays to.
 #![tactic(auto)]
 
-mod buffer;
-pub mod change;
 pub mod display;
 pub mod event;
-pub mod held;
+mod flags;
+mod held;
 pub mod journal;
 pub mod laws;
-mod paint;
-pub mod shown;
+mod outs;
 mod splicing;
 pub mod version;
 pub mod view;
-mod wrap;
+mod work;
 
-pub use change::{Change, Op, Splice};
 pub use display::Display;
+pub use display_sheet::{Change, Held, Kind, MarkRun, Op, Shown, Splice, step_laws};
 pub use event::Event;
-pub use held::Held;
 pub use journal::Journal;
-pub use laws::{job_laws, replay_laws, step_laws};
-pub use shown::{Kind, Shown};
+pub use laws::{job_laws, replay_laws, stamp_laws};
 pub use version::Version;
 pub use view::View;
-
-#[cfg(test)]
-mod tests;

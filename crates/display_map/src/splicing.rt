@@ -1,23 +1,23 @@
 //! A batch of replacements, in one pass over the text before it.
-ghost use Rattle.std.specs.Prelude.{◌≡◌, ◌+◌, ◌^◌, ◌<◌, ◌≤◌, ◌++◌, true, length, take, replicate, count_by, string_bytes, IfOk, OnOk, OnErr};
-ghost use Rattle.cell_units.specs.Record.{line_count};
-ghost use Rattle.cell_units.specs.Text.{clean, is_boundary, is_feed};
-ghost use Rattle.display_map.specs.Changes.{are_ranges, batch, is_operation};
-ghost use Rattle.display_map.specs.Splicing.{did_events, is_range, spliced_text, spliced_wraps};
+ghost use Rattle.std.specs.Prelude.{◌≡◌, ◌+◌, ◌^◌, ◌<◌, ◌++◌, true, length, take, string_bytes, IfOk, OnOk, OnErr};
+ghost use Rattle.std.specs.Str.{IsUtf8};
+ghost use Rattle.cell_units.specs.Text.{is_boundary};
+ghost use Rattle.display_sheet.specs.Changes.{are_ranges, batch, is_operation};
+ghost use Rattle.display_map.specs.Splicing.{did_events, is_range, spliced_text};
 
-use crate::buffer::Buffer;
-use crate::change::{Op, Splice};
 use crate::event::Event;
 use crate::journal::Journal;
-use crate::wrap::Wrap;
 use cell_units::{NoMemory, push_clean};
+use display_sheet::{Op, Splice};
 use std::alloc::Global;
 
 /// Whether a splice is an operation: it doesn't replace nothing by nothing.
-fn is_operation(splice: &Splice) -> bool
-    ensures { result ≡ is_operation splice.now }
+pub(crate) fn is_operation(splice: &Splice) -> bool
+    ensures operation { result ≡ is_operation splice.now }
+    ensures utf8 { IsUtf8 splice.now.text }
 {
-    !(splice.start == splice.end && splice.text.as_str().len() == 0)
+    let inserted = splice.text.as_str().len();
+    !(splice.start == splice.end && inserted == 0)
 }
 
 /// Whether an offset is a boundary of the text.
@@ -68,62 +68,6 @@ pub(crate) fn spliced_text(
         from = splice.end as usize;
     }
     spliced.push_str(&text[from..])?;
-    Ok(spliced)
-}
-
-/// How many line feeds a piece of text has once it is clean.
-fn feeds(alloc: Global, piece: &str) -> Result<usize, NoMemory>
-    ensures { IfOk result (λ feeds. (feeds ≡ count_by is_feed (clean piece.now)) × (feeds < 2 ^ 63)) }
-{
-    let mut clean = String::new(alloc);
-    push_clean(&mut clean, piece)?;
-    Ok(count_feeds(clean.as_bytes()))
-}
-
-/// How many of the bytes are line feeds.
-fn count_feeds(bytes: &[u8]) -> usize
-    ensures count { result ≡ count_by is_feed bytes.now }
-    ensures size { result < 2 ^ 63 }
-{
-    bytes.iter().filter(|byte| **byte == b'\n').count()
-}
-
-/// Appends lines that stand alike.
-fn push_alike(wraps: &mut Vec<Wrap>, wrap: Wrap, count: usize) -> Result<(), NoMemory>
-    ensures { OnOk result (wraps.new.items ≡ wraps.old.items ++ replicate count wrap) }
-{
-    for _ in 0..count {
-        wraps.push(wrap)?;
-    }
-    Ok(())
-}
-
-/// The wraps with a fresh one for each row of the ends of a splice, and between them.
-pub(crate) fn spliced_wraps(
-    alloc: Global,
-    text: &Buffer,
-    wraps: &[Wrap],
-    fresh: Wrap,
-    splices: &[Splice],
-) -> Result<Vec<Wrap>, NoMemory>
-    requires lines { length wraps.now ≡ line_count text.now }
-    ensures { IfOk result (λ spliced. spliced.items ≡ spliced_wraps fresh text.now wraps.now 0 splices.now) }
-{
-    let mut spliced = Vec::with_capacity(alloc, wraps.len())?;
-    let mut line = 0;
-    for splice in splices {
-        if is_operation(splice) {
-            let first = text.row_of(splice.start);
-            let rows = feeds(alloc, splice.text.as_str())? + 1;
-            if line < first {
-                spliced.extend_from_slice(&wraps[line..first])?;
-            }
-            let fresh_rows = rows.saturating_sub(line.saturating_sub(first));
-            push_alike(&mut spliced, fresh, fresh_rows)?;
-            line = text.row_of(splice.end) + 1;
-        }
-    }
-    spliced.extend_from_slice(&wraps[line..])?;
     Ok(spliced)
 }
 

@@ -1,18 +1,18 @@
 //! Views: what a display showed at one moment.
-ghost use Rattle.std.specs.Prelude.{◌≡◌, ◌^◌, ◌<◌, ◌≤◌, length, slice_get, slice_range, flat_map, IfOk};
-ghost use Rattle.cell_units.specs.BufferLines.{buffer_lines};
-ghost use Rattle.plain_rows.specs.Rows.{rows_of};
-ghost use Rattle.display_map.specs.Kept.{AreWrapped, wrapped_rows};
+ghost use Rattle.std.specs.Prelude.{◌≡◌, ◌≤◌, None, length, take, drop, slice_get, slice_range, IfOk, OnOk, IfErr};
+ghost use Rattle.cell_units.specs.Points.{offset_at};
 ghost use Rattle.cell_units.specs.Text.{IsBoundary};
+ghost use Rattle.plain_rows.specs.Plain.{record_of};
+ghost use Rattle.plain_rows.specs.Rows.{rows_of};
+ghost use Rattle.plain_rows.specs.Spots.{back, clip, show};
+ghost use Rattle.display_sheet.specs.Faults.{IsRefusedAs};
+ghost use Rattle.display_sheet.specs.Shown.{mark_runs, show_refusal, shown_row, shown_rows, unstamped};
 ghost use Rattle.display_map.specs.Replay.{present_of, versions_of};
-ghost use Rattle.display_map.specs.Shown.{shown_row};
 
-use crate::buffer::Buffer;
 use crate::journal::Journal;
-use crate::paint;
-use crate::shown::Shown;
-use crate::wrap::{self, Wrap};
-use cell_units::{NoMemory, Steps, Text};
+use cell_units::{Bias, Fault, NoMemory, Point, Refusal, Spot, Steps, Text};
+use display_sheet::{Buffer, MarkRun, Sheet, Shown};
+use plain_rows::Plain;
 use std::alloc::Global;
 use std::marker::Model;
 use std::sync::Arc;
@@ -22,9 +22,7 @@ use std::sync::Arc;
 pub struct View {
     pub(crate) opening: Arc<Buffer>,
     pub(crate) journal: Journal,
-    pub(crate) text: Arc<Buffer>,
-    pub(crate) wraps: Arc<Vec<Wrap>>,
-    pub(crate) tab: u32,
+    pub(crate) sheet: Sheet,
     /// How many versions were published.
     pub(crate) versions: u32,
 }
@@ -35,31 +33,11 @@ impl Model for View {
     ghost Value = { History };
 
     ghost use Rattle.std.specs.Arc.{arc_value};
-    ghost use Rattle.display_map.specs.Kept.{KeepsView};
+    ghost use Rattle.display_map.specs.Displays.{KeepsView};
 
     ghost view = { λ v. record { opening = arc_value v.opening; events = v.journal } };
 
-    ghost invariant = { λ v. KeepsView (record { opening = arc_value v.opening; events = v.journal }) (arc_value v.text) v.tab (arc_value v.wraps).items v.versions };
-}
-
-/// The row of this number of a text whose lines stand wrapped so.
-fn row_of(
-    alloc: Global,
-    text: &Buffer,
-    tab: u32,
-    wraps: &[Wrap],
-    number: u32,
-) -> Result<Option<Shown>, NoMemory>
-    requires tab { (1 ≤ tab) × (tab ≤ 16) }
-    requires lines { AreWrapped tab (buffer_lines text.now) wraps.now }
-    ensures { IfOk result (λ shown. shown_row shown ≡ slice_get (flat_map (λ rows. rows) (wrapped_rows tab (buffer_lines text.now) wraps.now)) number) }
-{
-    let Some(place) = wrap::row_place(wraps, number) else {
-        return Ok(None);
-    };
-    let elements = paint::text_elements(alloc, text.line(place.line), tab)?;
-    let shown = paint::shown_row(alloc, &elements, wraps[place.line].mark, place.row)?;
-    Ok(Some(shown))
+    ghost invariant = { λ v. KeepsView (record { opening = arc_value v.opening; events = v.journal }) v.sheet v.versions };
 }
 
 impl View {
@@ -67,7 +45,7 @@ impl View {
     pub fn row_count(&self) -> u32
         ensures { result ≡ length (rows_of (present_of self.now)) }
     {
-        wrap::row_count(&self.wraps)
+        self.sheet.row_count()
     }
 
     /// The row of this number, counted from 0; `None` past the last.
@@ -79,7 +57,72 @@ impl View {
     ) -> Result<Option<Shown>, NoMemory>
         ensures { IfOk result (λ shown. shown_row shown ≡ slice_get (rows_of (present_of self.now)) row) }
     {
-        row_of(alloc, &self.text, self.tab, &self.wraps, row)
+        self.sheet.row(alloc, row)
+    }
+
+    /// The rows from number `first` on, as many as there are up to `count`.
+    pub fn rows(
+        &self,
+        alloc: Global,
+        first: u32,
+        count: u32,
+        _steps: &mut Steps,
+    ) -> Result<Vec<Shown>, NoMemory>
+        ensures { IfOk result (λ shown. shown_rows shown.items ≡ take count (drop first (rows_of (present_of self.now)))) }
+    {
+        self.sheet.rows(alloc, first, count)
+    }
+
+    /// Where an offset of the text is shown. `BadRange` where it is past the end or within a character.
+    pub fn show(
+        &self,
+        alloc: Global,
+        offset: u32,
+        bias: Bias,
+        _steps: &mut Steps,
+    ) -> Result<Spot, Fault>
+        ensures shown { IfOk result (λ spot. spot ≡ show (present_of self.now) offset bias) }
+        ensures accepted { OnOk result (show_refusal (present_of self.now) offset ≡ None) }
+        ensures refused { IfErr result (IsRefusedAs (show_refusal (present_of self.now) offset)) }
+    {
+        self.sheet.lawful();
+        if !self.sheet.text().is_boundary(offset) {
+            return Err(Fault::Refused(Refusal::BadRange));
+        }
+        Ok(self.sheet.show(alloc, offset, bias)?)
+    }
+
+    /// The nearest spot at which some offset is shown.
+    pub fn clip(
+        &self,
+        alloc: Global,
+        spot: Spot,
+        bias: Bias,
+        _steps: &mut Steps,
+    ) -> Result<Spot, NoMemory>
+        ensures { IfOk result (λ nearest. nearest ≡ clip (present_of self.now) spot bias) }
+    {
+        self.sheet.clip(alloc, spot, bias)
+    }
+
+    /// The least offset (Left) or the greatest (Right) that is shown at the nearest such spot.
+    pub fn back(
+        &self,
+        alloc: Global,
+        spot: Spot,
+        bias: Bias,
+        _steps: &mut Steps,
+    ) -> Result<u32, NoMemory>
+        ensures { IfOk result (λ offset. offset ≡ back (present_of self.now) spot bias) }
+    {
+        self.sheet.back(alloc, spot, bias)
+    }
+
+    /// The lines that stand wrapped: maximal runs of neighbours at one width.
+    pub fn marks(&self, alloc: Global, _steps: &mut Steps) -> Result<Vec<MarkRun>, NoMemory>
+        ensures { IfOk result (λ runs. runs.items ≡ mark_runs (present_of self.now)) }
+    {
+        self.sheet.marks(alloc)
     }
 
     /// How many versions were published up to this view.
@@ -87,6 +130,21 @@ impl View {
         ensures { result ≡ versions_of self.now.events }
     {
         u64::from(self.versions)
+    }
+
+    /// The record as plain lists.
+    pub fn plain(&self, alloc: Global, _steps: &mut Steps) -> Result<Plain, NoMemory>
+        ensures { IfOk result (λ plain. record_of plain ≡ unstamped (present_of self.now)) }
+    {
+        self.sheet.plain(alloc)
+    }
+
+    /// The offset of a row and a column of the text. Past the last row it is the text's end, and past a row's end that end;
+    /// within a character it is the character's start (Left) or end (Right).
+    pub fn offset_of(&self, point: Point, bias: Bias, _steps: &mut Steps) -> u32
+        ensures { result ≡ offset_at (present_of self.now).text point bias }
+    {
+        self.sheet.offset_of(point, bias)
     }
 
     /// The bytes of the text from `start` up to `end`, two boundaries in order.
@@ -102,6 +160,6 @@ impl View {
         requires order { start ≤ end }
         ensures { IfOk result (λ text. text ≡ slice_range (present_of self.now).text start end) }
     {
-        Text::from_str(alloc, &self.text.as_str()[start as usize..end as usize])
+        self.sheet.slice(alloc, start, end)
     }
 }

@@ -1,6 +1,6 @@
 use Rattle.std.proofs.Common.{◌≡◌, ℕ, ◌<◌, ◌+◌, List, [], ◌∷◌, ◌++◌, get_or, length, take, ap, sym, ◌∙◌, arith}
 use Rattle.std.proofs.lemmas.List.{map-append, take_more}
-use Rattle.display_map.specs.Events.{Event, event_of, events_of}
+use Rattle.display_map.specs.Events.{event_of, events_of}
 use Rattle.display_map.specs.declared.event.Event as declared
 use Rattle.display_map.proofs.journal.copied.Goals as goal
 

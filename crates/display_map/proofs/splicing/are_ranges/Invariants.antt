@@ -1,5 +1,5 @@
 use Rattle.std.proofs.Common.{◌≡◌, drop}
-use Rattle.display_map.specs.Changes.{are_ranges}
+use Rattle.display_sheet.specs.Changes.{are_ranges}
 use Rattle.display_map.proofs.splicing.are_ranges.Given as goal
 
 abbrev pub invariant-loop-splice : goal.invariant-loop-splice

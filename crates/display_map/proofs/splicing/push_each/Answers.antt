@@ -1,7 +1,7 @@
 use Rattle.std.proofs.Common.{◌≡◌, ◌∷◌, [], ◌++◌, List, length, take, drop, refl, sym, ap, ◌∙◌, arith}
 use Rattle.std.proofs.lemmas.List.{take_at}
-use Rattle.display_map.specs.Changes.{replacement}
-use Rattle.display_map.specs.declared.change.Splice.{Splice}
+use Rattle.display_sheet.specs.Changes.{replacement}
+use Rattle.display_sheet.specs.declared.change.Splice.{Splice}
 use Rattle.display_map.specs.Events.{Event, Did}
 use Rattle.display_map.specs.Splicing.{did_events}
 use Rattle.display_map.proofs.DidEvents.{did-none, did-passed, did-pushed, room_for_one}
@@ -20,13 +20,13 @@ pub push-requires : goal.push-requires
 push-requires c =
     omega (
       arith,
-      room_for_one c.args.journal.now c.loop-i.journal c.args.splices.now c.loop-i.i c.index-splices-i.result (omega arith) (omega arith) c.index-splices-i.is (sym c.is_operation.ensures ∙ c.if-is_operation.true) c.loop-i.invariant,
+      room_for_one c.args.journal.now c.loop-i.journal c.args.splices.now c.loop-i.i c.index-splices-i.result (omega arith) (omega arith) c.index-splices-i.is (sym c.is_operation.ensures.operation ∙ c.if-is_operation.true) c.loop-i.invariant,
       c.requires.room,
     )
 
 pub loop-i-preserved-in_ok-push : goal.loop-i-preserved-in_ok-push
 loop-i-preserved-in_ok-push c =
-    did-pushed c.args.journal.now c.loop-i.journal c.push.new.self c.args.splices.now c.loop-i.i c.index-splices-i.result (omega arith) (omega arith) c.index-splices-i.is (sym c.is_operation.ensures ∙ c.if-is_operation.true) c.loop-i.invariant
+    did-pushed c.args.journal.now c.loop-i.journal c.push.new.self c.args.splices.now c.loop-i.i c.index-splices-i.result (omega arith) (omega arith) c.index-splices-i.is (sym c.is_operation.ensures.operation ∙ c.if-is_operation.true) c.loop-i.invariant
     (c.in_ok-push.ensures.appended ∙ ap (λ (s : Splice). c.loop-i.journal ++ Did (replacement s) ∷ []) c.in_ok-copy.ensures)
 
 pub returns-in_err-push-clause-begins : goal.returns-in_err-push-clause-begins
@@ -35,7 +35,7 @@ returns-in_err-push-clause-begins c =
 
 pub loop-i-preserved : goal.loop-i-preserved
 loop-i-preserved c =
-    did-passed c.args.journal.now c.loop-i.journal c.args.splices.now c.loop-i.i c.index-splices-i.result (omega arith) (omega arith) c.index-splices-i.is (sym c.is_operation.ensures ∙ c.if-is_operation.false) c.loop-i.invariant
+    did-passed c.args.journal.now c.loop-i.journal c.args.splices.now c.loop-i.i c.index-splices-i.result (omega arith) (omega arith) c.index-splices-i.is (sym c.is_operation.ensures.operation ∙ c.if-is_operation.false) c.loop-i.invariant
 
 pub returns-clause-begins : goal.returns-clause-begins
 returns-clause-begins c = begins c.args.journal.now c.loop-i.journal (did_events (drop c.loop-i.i c.args.splices.now)) c.loop-i.invariant

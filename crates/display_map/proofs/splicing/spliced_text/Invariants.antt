@@ -1,7 +1,7 @@
 use Rattle.std.proofs.Common.{◌≡◌, ◌++◌, drop, true}
 use Rattle.std.specs.Str.{IsCharBoundary}
 use Rattle.std.specs.String.{string_bytes}
-use Rattle.display_map.specs.Changes.{are_ranges}
+use Rattle.display_sheet.specs.Changes.{are_ranges}
 use Rattle.display_map.specs.Splicing.{spliced_text}
 use Rattle.display_map.proofs.splicing.spliced_text.Given as goal
 

@@ -1,4 +1,4 @@
-use Rattle.display_map.proofs.KeptHistories.{ends-published}
+use Rattle.display_map.proofs.Publishing.{ends-published}
 use Rattle.version_board.proofs.RowLemmas.{may_open, may_follow, row_number}
 use Rattle.version_board.proofs.laws.row_laws.Goals as goal
 

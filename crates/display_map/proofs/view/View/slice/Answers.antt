@@ -1,23 +1,21 @@
--- A boundary of the text is one of the bytes that are lent.
-use Rattle.std.proofs.Common.{◌≡◌, ℕ, List, ap, sym, subst, ◌∙◌}
-use Rattle.std.specs.Arc.{arc_value}
-use Rattle.std.specs.Str.{IsCharBoundary, IsUtf8}
+use Rattle.std.proofs.Common.{◌≡◌, ℕ, List, sym, subst}
+use Rattle.std.specs.List.{slice_range}
+use Rattle.std.specs.Result.{IfOk}
 use Rattle.cell_units.specs.Text.{IsBoundary}
-use Rattle.cell_units.proofs.Boundaries.{boundary_from_test}
-use Rattle.cell_units.proofs.TextLaws.{tells_boundaries}
-use Rattle.display_map.specs.Replay.{History, present_of}
+use Rattle.display_map.proofs.Views.{text-read}
 use Rattle.display_map.proofs.view.View.slice.Goals as goal
 
-lent : (text own : List ℕ) (o : ℕ) → IsUtf8 own → text ≡ own → IsBoundary text o → IsCharBoundary own o
-lent text own o utf8 same at = boundary_from_test own o ((tells_boundaries own utf8 o).1 (subst (λ (t : List ℕ). IsBoundary t o) same at))
+pub slice-requires-clause-start : goal.slice-requires-clause-start
+slice-requires-clause-start c =
+    let text = text-read c.self.invariant c.self.view_is in
+    subst (λ (text : List ℕ). IsBoundary text c.args.start) (sym text) c.requires.start
 
-pub range-requires-clause-start_boundary : goal.range-requires-clause-start_boundary
-range-requires-clause-start_boundary c some =
-    let v = c.self.inside in
-    let text = sym (ap (λ (h : History). (present_of h).text) c.self.view_is) ∙ c.self.invariant.record_is.text_is ∙ sym c.deref.ensures ∙ sym c.as_str.ensures.text in
-    lent (present_of c.args.self.now).text c.as_str.result.now c.args.start c.as_str.utf8 text c.requires.start
+pub slice-requires-clause-end : goal.slice-requires-clause-end
+slice-requires-clause-end c =
+    let text = text-read c.self.invariant c.self.view_is in
+    subst (λ (text : List ℕ). IsBoundary text c.args.end) (sym text) c.requires.end
 
-pub range-requires-clause-end_boundary : goal.range-requires-clause-end_boundary
-range-requires-clause-end_boundary c =
-    let text = sym (ap (λ (h : History). (present_of h).text) c.self.view_is) ∙ c.self.invariant.record_is.text_is ∙ sym c.deref.ensures ∙ sym c.as_str.ensures.text in
-    lent (present_of c.args.self.now).text c.as_str.result.now c.args.end c.as_str.utf8 text c.requires.end
+pub returns : goal.returns
+returns c =
+    let text = text-read c.self.invariant c.self.view_is in
+    subst (λ (text : List ℕ). IfOk c.slice.result (λ own. own ≡ slice_range text c.args.start c.args.end)) text c.slice.ensures

@@ -1,0 +1,22 @@
+use Rattle.std.proofs.Common.{rules, ◌≡◌, true, List, ℕ, ap, sym, ◌∙◌}
+use Rattle.cell_units.specs.Record.{Record}
+use Rattle.cell_units.specs.Text.{is_boundary}
+use Rattle.cell_units.proofs.TextLaws.{tells_boundaries}
+use Rattle.plain_rows.specs.Spots.{show}
+use Rattle.display_sheet.proofs.Unstamped.{show-unstamped}
+use Rattle.display_map.proofs.Views.{read}
+use Rattle.display_map.proofs.view.View.show.Goals as goal
+
+pub show-requires : goal.show-requires
+show-requires c =
+    let o : ℕ = c.args.offset in
+    let text = c.self.inside.sheet.text in
+    let test : is_boundary c.text.result.now o ≡ true = search rules in
+    let same = ap (λ (text : List ℕ). is_boundary text o) c.text.ensures in
+    (tells_boundaries text c.lawful.ensures.entries.source.text.0 o).0 (sym same ∙ test)
+
+pub returns-clause-shown : goal.returns-clause-shown
+returns-clause-shown c =
+    let o : ℕ = c.args.offset in
+    let bias = c.args.bias in
+    c.in_ok-show.ensures ∙ read c.self.invariant c.self.view_is (λ (r : Record). show r o bias) (λ r. show-unstamped r o bias)

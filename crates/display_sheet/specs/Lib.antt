@@ -1,0 +1,11 @@
+pub mod Changes
+pub mod Faults
+pub mod HeldLines
+pub mod Landing
+pub mod LineSplices
+pub mod LineStep
+pub mod Refusals
+pub mod RowCounts
+pub mod Sheets
+pub mod Shown
+pub mod Windows

@@ -1,0 +1,34 @@
+//! Sheets: a record as a display keeps it, what operations make of it, and what is read off it.
+//!
+//! A sheet keeps the text, the lists of inlays, folds and blocks, the display lines laid out, and how each stands
+//! wrapped; all of it is shared with its copies. It is seen as its record, in which the stamps count the lines. The
+//! crate promises that each operation leaves the record that the definitions give, with the one splice of display
+//! lines that they give, and that each reading of a sheet is the plain function of its record.
+#![tactic(auto)]
+
+mod anchor;
+mod blocks;
+pub mod buffer;
+pub mod change;
+mod counting;
+mod folds;
+pub mod held;
+mod inlays;
+mod landing;
+pub mod laws;
+mod marking;
+pub mod operate;
+mod piece_line;
+mod points;
+mod reading;
+pub mod sheet;
+pub mod shown;
+mod spots;
+mod window;
+
+pub use buffer::Buffer;
+pub use change::{Change, Op, Splice};
+pub use held::Held;
+pub use laws::step_laws;
+pub use sheet::{LineSplice, Sheet, Spliced, Wrapped};
+pub use shown::{Kind, MarkRun, Shown};

@@ -1,0 +1,46 @@
+//! Runs of lines that stand wrapped at one width.
+ghost use Rattle.std.specs.Prelude.{◌≡◌, ◌++◌, map, length, IfOk, OnOk};
+ghost use Rattle.display_sheet.specs.Shown.{runs_from};
+ghost use Rattle.display_sheet.specs.Windows.{run_or_none};
+
+use crate::sheet::Wrapped;
+use crate::shown::MarkRun;
+use cell_units::NoMemory;
+use std::alloc::Global;
+
+/// Appends a run of lines that stand wrapped; those at width 0 are none.
+fn push_run(runs: &mut Vec<MarkRun>, run: MarkRun) -> Result<(), NoMemory>
+    ensures { OnOk result (runs.new.items ≡ runs.old.items ++ run_or_none run) }
+{
+    if run.width != 0 {
+        runs.push(run)?;
+    }
+    Ok(())
+}
+
+/// The maximal runs of lines that stand wrapped at one width. `count` is how many lines there are.
+pub fn mark_runs(alloc: Global, wraps: &[Wrapped], count: u32) -> Result<Vec<MarkRun>, NoMemory>
+    requires { length wraps.now ≡ count }
+    ensures { IfOk result (λ runs. runs.items ≡ runs_from 0 (map (λ w. w.mark) wraps.now)) }
+{
+    let mut runs = Vec::new(alloc);
+    let mut run = MarkRun {
+        first: 0,
+        last: 0,
+        width: 0,
+    };
+    for line in 0..count {
+        let width = wraps[line as usize].mark;
+        if width != run.width {
+            push_run(&mut runs, run)?;
+            run = MarkRun {
+                first: line,
+                last: line,
+                width,
+            };
+        }
+        run.last = line;
+    }
+    push_run(&mut runs, run)?;
+    Ok(runs)
+}
