@@ -1,28 +1,18 @@
 -- What a sink took, and what was read, piece after piece.
-use Rattle.std.proofs.Common.{◌≡◌, ℕ, zero, suc, ◌+◌, ◌<◌, ◌≤◌, inl, inr, List, [], ◌∷◌, ◌++◌, length, take, drop, Option, Some, None, refl, sym, ap, ◌∙◌, subst, append_assoc, arith, add-one}
-use Rattle.std.specs.Prelude.{slice_get, IfSome}
-use Rattle.std.proofs.lemmas.Bool.{cases_lt}
-use Rattle.std.specs.List.{enumerate_from}
-use Rattle.std.proofs.lemmas.List.{append-nil, take-append-drop, take-append-le, length-drop, length-take, length-map}
-use Rattle.std.proofs.lemmas.List.FromFn.{length-enumerate_from}
-use Rattle.std.proofs.lemmas.Grind.{flat_map-append}
+use Rattle.std.proofs.Common.{◌≡◌, ℕ, ◌+◌, ◌<◌, ◌≤◌, List, [], ◌∷◌, ◌++◌, length, take, drop, Option, Some, None, Result, Ok, refl, sym, ap, ◌∙◌, subst, append_assoc, arith}
+use Rattle.std.specs.Prelude.{slice_get, IfSome, IfOk}
+use Rattle.std.proofs.lemmas.List.{append-nil, take-append-le, length-drop, length-take}
 use Rattle.std.proofs.Math.Seq.{take-add}
-use Rattle.cell_units.specs.Record.{Record}
 use Rattle.cell_units.specs.Text.{line_feed}
-use Rattle.plain_rows.specs.Rows.{rows_of}
-use Rattle.edit_script.specs.Commands.{query_meaning}
-use Rattle.edit_script.specs.Printed.{query_lines, row_line}
-use Rattle.edit_script.specs.declared.asked.Query.{Query}
-use Rattle.edit_script.specs.declared.asked.Query.TheVariants as queries
-use Rattle.display_cli.specs.Outside.{HasRisen, Appends}
+use Rattle.display_cli.specs.declared.outside.Part.{Part}
+use Rattle.display_cli.specs.Outside.{Faults, Read, InputState, SinkState, HasRisen, HasPartRisen, IsGiven, Appends, Takes, TakesFront, Refuses}
+use Rattle.display_cli.specs.Ended.{AreReadsOf}
 use Rattle.display_cli.specs.Output.{printed}
-use Rattle.display_map.specs.Events.{Event}
 use Rattle.display_cli.specs.declared.stop.Stop.{Stop}
 use Rattle.display_cli.specs.declared.stop.Stop.TheVariants as stops
 use Rattle.display_cli.specs.declared.read.Unread.{Unread}
 use Rattle.display_cli.specs.declared.read.Unread.TheVariants as ends
-use Rattle.display_cli.specs.Reading.{HasFront, IsUnread}
-use Rattle.display_cli.specs.Going.{TakesFront, IsWhy, most_lines}
+use Rattle.display_cli.specs.inside.Reading.{HasFront, IsUnread, IsUnwritten, ReadsOnce, ReadsName}
 
 pub appends-more : (a b c : Option (List ℕ)) (x y : List ℕ) → Appends a b x → Appends b c y → Appends a c (x ++ y)
 appends-more None b c x y p q = tt
@@ -35,87 +25,124 @@ pub appends-none : (a : Option (List ℕ)) → Appends a a []
 appends-none None = tt
 appends-none (Some t) = ap Some (sym (append-nil t))
 
-pub appends-same : (a b : Option (List ℕ)) (x y : List ℕ) → x ≡ y → Appends a b x → Appends a b y
-appends-same a b x y e p = let P : List ℕ → Type 0 = λ z. Appends a b z in subst P e p
+pub takes-more : (a b c : SinkState) (x y : List ℕ) → Takes x a b → Takes y b c → Takes (x ++ y) a c
+takes-more a b c x y p q = record {
+  taken = appends-more a.taken b.taken c.taken x y p.taken q.taken;
+  passed = q.passed ∙ p.passed;
+}
+
+pub takes-none : (a : SinkState) → Takes [] a a
+takes-none a = record { taken = appends-none a.taken; passed = refl }
+
+pub takes-same : (a b : SinkState) (x y : List ℕ) → x ≡ y → Takes x a b → Takes y a b
+takes-same a b x y e p = let P : List ℕ → Type 0 = λ z. Takes z a b in subst P e p
+
+-- all of a part that was taken is a front of what goes on behind it
+pub front-all : (a b : SinkState) (p q whole : List ℕ) → Takes p a b → p ++ q ≡ whole → TakesFront whole a b
+front-all a b p q whole before e = record { front = p; rest = q; is_front = e; taken = before.taken }
+
+pub front-none : (a : SinkState) (whole : List ℕ) → TakesFront whole a a
+front-none a whole = front-all a a [] whole whole (takes-none a) refl
 
 -- a part that was taken behind others, of a whole that goes on behind it
-pub front-behind : (a b c : Option (List ℕ)) (p x q whole : List ℕ)
-    → Appends a b p → TakesFront b c x → (p ++ x) ++ q ≡ whole → TakesFront a c whole
-front-behind a b c p x q whole before it e = (
-  p ++ it.0,
-  it.1 ++ q,
-  append_assoc p it.0 (it.1 ++ q)
-      ∙ (ap (λ l. p ++ l) (sym (append_assoc it.0 it.1 q) ∙ ap (λ l. l ++ q) it.2)
-      ∙ (sym (append_assoc p x q) ∙ e)),
-  appends-more a b c p it.0 before it.3,
-)
+pub front-behind : (a b c : SinkState) (p x q whole : List ℕ)
+    → Takes p a b → TakesFront x b c → (p ++ x) ++ q ≡ whole → TakesFront whole a c
+front-behind a b c p x q whole before it e = record {
+  front = p ++ it.front;
+  rest = it.rest ++ q;
+  is_front = append_assoc p it.front (it.rest ++ q)
+      ∙ (ap (λ l. p ++ l) (sym (append_assoc it.front it.rest q) ∙ ap (λ l. l ++ q) it.is_front)
+      ∙ (sym (append_assoc p x q) ∙ e));
+  taken = appends-more a.taken b.taken c.taken p it.front before.taken it.taken;
+}
 
-pub front-all : (a b : Option (List ℕ)) (p q whole : List ℕ) → Appends a b p → p ++ q ≡ whole → TakesFront a b whole
-front-all a b p q whole before e = (p, q, e, before)
+-- a write that was refused behind others
+pub front-refused : (a b c : SinkState) (p q whole : List ℕ) → Takes p a b → Refuses b c → p ++ q ≡ whole → TakesFront whole a c
+front-refused a b c p q whole before refused e =
+    let P : Option (List ℕ) → Type 0 = λ o. Appends a.taken o p in
+    record { front = p; rest = q; is_front = e; taken = subst P (sym refused.taken) before.taken }
 
-pub front-unchanged : (a b c : Option (List ℕ)) (p q whole : List ℕ)
-    → Appends a b p → c ≡ b → p ++ q ≡ whole → TakesFront a c whole
-front-unchanged a b c p q whole before same e =
-    let P : Option (List ℕ) → Type 0 = λ o. Appends a o p in (p, q, e, subst P (sym same) before)
+-- a count that rose behind calls that passed
+pub risen-behind : (a b c : ℕ) → b ≡ a → HasRisen b c → HasRisen a c
+risen-behind a b c e risen = let P : ℕ → Type 0 = λ n. HasRisen n c in subst P e risen
 
-pub piece-more : (a b c : Option (List ℕ)) (piece : List ℕ) (at n : ℕ)
-    → Appends a b (take at piece) → Appends b c (take n (drop at piece)) → Appends a c (take (at + n) piece)
+pub piece-more : (a b c : SinkState) (piece : List ℕ) (at n : ℕ)
+    → Takes (take at piece) a b → Takes (take n (drop at piece)) b c → Takes (take (at + n) piece) a c
 piece-more a b c piece at n before more =
-    appends-same a c (take at piece ++ take n (drop at piece)) (take (at + n) piece) (sym (take-add at n piece))
-    (appends-more a b c (take at piece) (take n (drop at piece)) before more)
+    takes-same a c (take at piece ++ take n (drop at piece)) (take (at + n) piece) (sym (take-add at n piece))
+    (takes-more a b c (take at piece) (take n (drop at piece)) before more)
 
-pub risen-later : (a b c : ℕ) → a ≤ b → HasRisen b c → HasRisen a c
-risen-later a b c le (inl more) = inl (omega arith)
-risen-later a b c le (inr top) =
-    elim (cases_lt a b) [ inl below ↦ inl (let e = top.1 in omega arith) | inr above ↦ inr (let e = top.0 in let f = top.1 in let same : a ≡ b = omega arith in (same ∙ e, f ∙ sym same)) ]
+-- why a line wasn't written, behind other lines of a whole
+pub unwritten-behind : (a b c : SinkState) (p x q whole : List ℕ) (stop : Stop)
+    → Takes p a b → IsUnwritten x b c stop → (p ++ x) ++ q ≡ whole → IsUnwritten whole a c stop
+unwritten-behind a b c p x q whole stops.Write before it e =
+    (front-behind a b c p x q whole before it.0 e, risen-behind a.faults b.faults c.faults before.passed it.1)
+unwritten-behind a b c p x q whole stops.JournalFull before it e = absurd it
+unwritten-behind a b c p x q whole stops.Memory before it e =
+    (front-behind a b c p x q whole before it.0 e, it.1 ∙ before.passed)
 
-take-one : {X : Type 0} (xs : List X) (at : ℕ) (x : X) → slice_get xs at ≡ Some x → take (suc at) xs ≡ take at xs ++ x ∷ []
-take-one [] at x e = cc
-take-one (y ∷ xs) zero x e = let same : y ≡ x = cc in ap (λ z. z ∷ []) same
-take-one (y ∷ xs) (suc at) x e = ap (λ l. y ∷ l) (take-one xs at x e)
+-- there was no memory for the next line
+pub unwritten-memory : (a b : SinkState) (p q whole : List ℕ) → Takes p a b → p ++ q ≡ whole → IsUnwritten whole a b stops.Memory
+unwritten-memory a b p q whole before e = (front-all a b p q whole before e, before.passed)
 
-take-whole : {X : Type 0} (xs : List X) (at : ℕ) → slice_get xs at ≡ None → take at xs ≡ xs
-take-whole [] zero e = refl
-take-whole [] (suc at) e = refl
-take-whole (x ∷ xs) zero e = cc
-take-whole (x ∷ xs) (suc at) e = ap (λ l. x ∷ l) (take-whole xs at e)
+-- lines of an answer that were written, before those that are left
+pub record AreWritten (all left : List (List ℕ)) (old new : SinkState) : Type 0 where
+  pub front : List ℕ
+  pub taken : Takes front old new
+  pub is_front : front ++ printed left ≡ printed all
 
--- one more line
-pub printed-more : (lines : List (List ℕ)) (at : ℕ) (line : List ℕ) → slice_get lines at ≡ Some line
-    → printed (take at lines) ++ (line ++ line_feed ∷ []) ≡ printed (take (at + 1) lines)
-printed-more lines at line e =
-    ap (λ l. printed (take at lines) ++ l) (sym (append-nil (line ++ line_feed ∷ [])))
-    ∙ (sym (flat_map-append (λ line. line ++ line_feed ∷ []) (take at lines) (line ∷ []))
-    ∙ (ap printed (sym (take-one lines at line e)) ∙ ap (λ k. printed (take k lines)) (sym (add-one at))))
+pub written-none : (all : List (List ℕ)) (a : SinkState) → AreWritten all all a a
+written-none all a = record { front = []; taken = takes-none a; is_front = refl }
 
-pub printed-rest : (lines : List (List ℕ)) (at : ℕ) → printed (take at lines) ++ printed (drop at lines) ≡ printed lines
-printed-rest lines at =
-    sym (flat_map-append (λ line. line ++ line_feed ∷ []) (take at lines) (drop at lines)) ∙ ap printed (take-append-drop at lines)
+-- the next line, and the lines behind it
+line-first : (left rest : List (List ℕ)) (line : List ℕ) → Some line ≡ slice_get left 0 → rest ≡ drop 1 left
+    → (line ++ line_feed ∷ []) ++ printed rest ≡ printed left
+line-first [] rest line is e = cc
+line-first (l ∷ ls) rest line is e =
+    let same : line ≡ l = cc in ap (λ r. (line ++ line_feed ∷ []) ++ printed r) e ∙ ap (λ l. (l ++ line_feed ∷ []) ++ printed ls) same
 
-pub printed-whole : (lines : List (List ℕ)) (at : ℕ) → slice_get lines at ≡ None → printed (take at lines) ≡ printed lines
-printed-whole lines at e = ap printed (take-whole lines at e)
+pub written-more : (all left rest : List (List ℕ)) (a b c : SinkState) (line : List ℕ) → AreWritten all left a b → Some line ≡ slice_get left 0 → rest ≡ drop 1 left
+    → Takes (line ++ line_feed ∷ []) b c → AreWritten all rest a c
+written-more all left rest a b c line before is e taken = record {
+  front = before.front ++ (line ++ line_feed ∷ []);
+  taken = takes-more a b c before.front (line ++ line_feed ∷ []) before.taken taken;
+  is_front = append_assoc before.front (line ++ line_feed ∷ []) (printed rest) ∙ (ap (λ l. before.front ++ l) (line-first left rest line is e) ∙ before.is_front);
+}
 
--- an answer has no more lines than its query says
-pub few-lines : (r : Record) (query : Query) → length (query_lines r (query_meaning query)) ≤ most_lines query
-few-lines r (queries.Rows first count) =
-    let few = length-take count (drop first (rows_of r)) in
-    let numbered = length-enumerate_from first (take count (drop first (rows_of r))) in
-    let mapped = length-map (enumerate_from first (take count (drop first (rows_of r)))) (λ n. row_line n.0 n.1) in
-    omega arith
+-- the line wasn't written whole
+pub written-stopped : (all left rest : List (List ℕ)) (a b c : SinkState) (line : List ℕ) (stop : Stop) → AreWritten all left a b → Some line ≡ slice_get left 0
+    → rest ≡ drop 1 left → IsUnwritten (line ++ line_feed ∷ []) b c stop → IsUnwritten (printed all) a c stop
+written-stopped all left rest a b c line stop before is e why =
+    unwritten-behind a b c before.front (line ++ line_feed ∷ []) (printed rest) (printed all) stop before.taken why
+    (append_assoc before.front (line ++ line_feed ∷ []) (printed rest) ∙ (ap (λ l. before.front ++ l) (line-first left rest line is e) ∙ before.is_front))
 
-pub front-more : (told : Option (List ℕ)) (old room rest new : List ℕ) (n at : ℕ)
-    → at ≡ length old → n ≤ length room → HasFront told old
-    → IfSome told (λ b. take n room ≡ take n (drop at b)) → IfSome told (λ b. n ≤ length (drop at b))
+-- no line is left
+none-first : (left : List (List ℕ)) → None ≡ slice_get left 0 → left ≡ []
+none-first [] e = refl
+none-first (l ∷ ls) e = cc
+
+pub written-all : (all left : List (List ℕ)) (a b : SinkState) → AreWritten all left a b → None ≡ slice_get left 0 → Takes (printed all) a b
+written-all all left a b before none =
+    takes-same a b before.front (printed all)
+    (sym (append-nil before.front) ∙ (ap (λ l. before.front ++ printed l) (sym (none-first left none)) ∙ before.is_front)) before.taken
+
+pub fewer-left : (left rest : List (List ℕ)) (line : List ℕ) → Some line ≡ slice_get left 0 → rest ≡ drop 1 left → length rest < length left
+fewer-left [] rest line is e = cc
+fewer-left (l ∷ ls) rest line is e = let same = ap length e in omega arith
+
+pub front-more : (told : Option (List ℕ)) (old before room rest new : List ℕ) (n at : ℕ)
+    → at ≡ length old → n ≤ length room → HasFront told old → IfSome told (IsGiven at before room n)
     → new ≡ old ++ take n (room ++ rest) → HasFront told new
-front-more None old room rest new n at e le front bytes all is = tt
-front-more (Some b) old room rest new n at e le front bytes all is =
+front-more None old before room rest new n at e le front given is = tt
+front-more (Some b) old before room rest new n at e le front given is =
     let piece : take n (room ++ rest) ≡ take n (drop (length old) b) =
-    take-append-le n room rest le ∙ (bytes ∙ ap (λ k. take n (drop k b)) e) in
+    take-append-le n room rest le ∙ (given.same ∙ ap (λ k. take n (drop k b)) e) in
     let joined : new ≡ take (length old + n) b =
     is ∙ (ap (λ l. old ++ l) piece
     ∙ (ap (λ l. l ++ take n (drop (length old) b)) front.1 ∙ sym (take-add (length old) n b))) in
     let left = length-drop at b in
     let most = front.0 in
+    let all = given.there in
     let within : length old + n ≤ length b = omega arith in
     let counted : length new ≡ length old + n = ap length joined ∙ (length-take (length old + n) b ∙ (omega arith)) in
     (omega arith, joined ∙ ap (λ k. take k b) (sym counted))
@@ -125,17 +152,82 @@ pub front-long : (told : Option (List ℕ)) (read : List ℕ) (limit : ℕ) → 
 front-long None read limit front more = tt
 front-long (Some b) read limit front more = let most = front.0 in omega arith
 
-pub front-none : (told : Option (List ℕ)) → HasFront told []
-front-none None = tt
-front-none (Some b) = (omega arith, refl)
+pub front-nothing : (told : Option (List ℕ)) → HasFront told []
+front-nothing None = tt
+front-nothing (Some b) = (omega arith, refl)
 
--- what is said of a later part of a run is said of the whole
-pub why-later : (script : List ℕ) (a b c : ℕ) (events : List Event) (stop : Stop) → a ≤ b → IsWhy script b c events stop → IsWhy script a c events stop
-why-later script a b c events stops.Write le why = risen-later a b c le why
-why-later script a b c events stops.JournalFull le why = why
-why-later script a b c events stops.Memory le why = tt
+-- why a name wasn't read, behind reads that passed
+pub unread-behind : (part : Part) (t u : Option (List ℕ)) (limit : ℕ) (a b c : Faults) (e : Unread) → t ≡ u → b ≡ a
+    → IsUnread part t limit b c e → IsUnread part u limit a c e
+unread-behind part t u limit a b c ends.Failed same e why = let P : Faults → Type 0 = λ f. HasPartRisen part f c in subst P e why
+unread-behind part t u limit a b c ends.TooLong same e why = let P : Option (List ℕ) → Type 0 = λ o. IfSome o (λ b. limit < length b) in subst P same why
+unread-behind part t u limit a b c ends.NoMemory same e why = why ∙ e
 
-pub unread-later : (t u : Option (List ℕ)) (limit a b c : ℕ) (e : Unread) → t ≡ u → a ≤ b → IsUnread t limit b c e → IsUnread u limit a c e
-unread-later t u limit a b c ends.Failed same le why = risen-later a b c le why
-unread-later t u limit a b c ends.TooLong same le why = let P : Option (List ℕ) → Type 0 = λ o. IfSome o (λ b. limit < length b) in subst P same why
-unread-later t u limit a b c ends.NoMemory same le why = tt
+-- ---- reads in order
+
+-- where reads that begin at a byte end
+abbrev pub reads_end : ℕ → List Read → ℕ
+reads_end at [] = at
+reads_end at (read ∷ reads) = reads_end (at + read.count) reads
+
+pub reads_end-snoc : (at : ℕ) (reads : List Read) (read : Read) → reads_end at (reads ++ read ∷ []) ≡ reads_end at reads + read.count
+reads_end-snoc at [] read = refl
+reads_end-snoc at (r ∷ reads) read = reads_end-snoc (at + r.count) reads read
+
+-- one more read from where the others end
+pub reads-snoc : (part : Part) (name : List ℕ) (at : ℕ) (reads : List Read) (from count : ℕ) → AreReadsOf part name at reads → from ≡ reads_end at reads
+    → AreReadsOf part name at (reads ++ record { part = part; name = name; at = from; count = count } ∷ [])
+reads-snoc part name at [] from count are e = (refl, refl, e, tt)
+reads-snoc part name at (r ∷ reads) from count are e = (are.0, are.1, are.2, reads-snoc part name (at + r.count) reads from count are.3 e)
+
+-- reads of a name so far, up to a byte, behind those of a state
+pub record ReadsUpTo (part : Part) (name : List ℕ) (end : ℕ) (old new : InputState) : Type 0 where
+  pub tells : (any : List ℕ) → new.told any ≡ old.told any
+  pub reads : List Read
+  pub made : new.reads ≡ old.reads ++ reads
+  pub in_order : AreReadsOf part name 0 reads
+  pub end_is : end ≡ reads_end 0 reads
+  pub passed : new.faults ≡ old.faults
+
+pub up-to-none : (part : Part) (name : List ℕ) (s : InputState) (end : ℕ) → end ≡ 0 → ReadsUpTo part name end s s
+up-to-none part name s end e = record {
+  tells = λ any. refl;
+  reads = [];
+  made = sym (append-nil s.reads);
+  in_order = tt;
+  end_is = e;
+  passed = refl;
+}
+
+-- whatever became of one more read, the reads are in order
+pub reads-once-more : (part : Part) (name : List ℕ) (end : ℕ) (result : Result ℕ Unread) (a b c : InputState)
+    → ReadsUpTo part name end a b → ReadsOnce part name end result b c → ReadsName part name a c
+reads-once-more part name end result a b c before once = record {
+  tells = λ any. once.tells any ∙ before.tells any;
+  reads = before.reads ++ record { part = part; name = name; at = end; count = once.count } ∷ [];
+  made = once.made ∙ (ap (λ l. l ++ record { part = part; name = name; at = end; count = once.count } ∷ []) before.made
+      ∙ append_assoc a.reads before.reads (record { part = part; name = name; at = end; count = once.count } ∷ []));
+  in_order = reads-snoc part name 0 before.reads end once.count before.in_order before.end_is;
+}
+
+-- where it passed, they go on to its end
+pub up-to-more : (part : Part) (name : List ℕ) (end n new_end : ℕ) (result : Result ℕ Unread) (a b c : InputState)
+    → ReadsUpTo part name end a b → ReadsOnce part name end result b c → result ≡ Ok n → new_end ≡ end + n → c.faults ≡ b.faults
+    → ReadsUpTo part name new_end a c
+unfolding reads-once-more
+up-to-more part name end n new_end result a b c before once is grows passed =
+    let P : Result ℕ Unread → Type 0 = λ r. IfOk r (λ n. n ≡ once.count) in
+    let counted : n ≡ once.count = subst P is once.counted in
+    let more = reads-once-more part name end result a b c before once in
+    record {
+      tells = more.tells;
+      reads = before.reads ++ record { part = part; name = name; at = end; count = once.count } ∷ [];
+      made = more.made;
+      in_order = more.in_order;
+      end_is = grows ∙ (ap (λ k. end + k) counted ∙ (ap (λ k. k + once.count) before.end_is
+          ∙ sym (reads_end-snoc 0 before.reads (record { part = part; name = name; at = end; count = once.count }))));
+      passed = passed ∙ before.passed;
+    }
+
+pub reads-up-to : (part : Part) (name : List ℕ) (end : ℕ) (a b : InputState) → ReadsUpTo part name end a b → ReadsName part name a b
+reads-up-to part name end a b it = record { tells = it.tells; reads = it.reads; made = it.made; in_order = it.in_order }

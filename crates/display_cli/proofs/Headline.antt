@@ -1,22 +1,80 @@
--- What a run is, what caused its note, and which notes are owed.
-use Rattle.std.proofs.Common.{◌≡◌, ℕ, ◌<◌, ◌≤◌, ◌⊎◌, inl, inr, Bool, true, List, [], length, Err, Option, Some, refl, sym, ap, ◌∙◌, subst, arith}
-use Rattle.std.specs.Prelude.{◌↔◌, ◌≢◌, IfSome}
+-- What a run is by its note, and which notes are owed.
+use Rattle.std.proofs.Common.{◌≡◌, ℕ, ◌<◌, ◌≤◌, ◌⊎◌, inl, inr, Bool, true, List, [], ◌++◌, length, Result, Ok, Err, Option, Some, refl, sym, ap, ◌∙◌, subst, arith, append_assoc}
+use Rattle.std.specs.Prelude.{◌↔◌, IfSome, OnOk, OnErr}
 use Rattle.std.specs.Str.{IsUtf8}
 use Rattle.std.specs.Str.Lossy.{utf8_valid_len}
-use Rattle.cell_units.specs.Refusal.{IsAccepted}
-use Rattle.cell_units.specs.declared.limits.TheConstants.{TEXT_LIMIT}
-use Rattle.cell_units.specs.Text.{clean}
 use Rattle.display_map.specs.Events.{Event}
+use Rattle.cell_units.specs.declared.limits.TheConstants.{TEXT_LIMIT}
+use Rattle.cell_units.specs.Refusal.{IsAccepted}
 use Rattle.display_map.specs.Replay.{History}
+use Rattle.std.proofs.lemmas.List.{append-nil}
 use Rattle.display_cli.specs.declared.words.Plan.{Plan}
+use Rattle.display_cli.specs.declared.outside.Part.TheVariants as parts
+use Rattle.display_cli.specs.declared.outside.Failed.{Failed}
+use Rattle.display_cli.specs.declared.ended.Seen.{Seen}
 use Rattle.display_cli.specs.declared.stop.Stop.{Stop}
 use Rattle.display_cli.specs.declared.stop.Stop.TheVariants as stops
 use Rattle.display_cli.specs.declared.ended.Note.{Note}
 use Rattle.display_cli.specs.declared.ended.Note.TheVariants.{Fine, Usage, ReadText, ReadScript, Write, TextNotUtf8, TextTooLong, ScriptTooLong, JournalFull, Memory}
-use Rattle.display_cli.specs.Outside.{Faults, HasRisen, AreTold}
-use Rattle.display_cli.specs.Ended.{Run, IsNothing, IsRunOf, IsCaused, IsOwed, IsComplete, script_limit}
-use Rattle.display_cli.specs.Going.{Course, IsPlayed, IsCut, IsWhy, HasEnded, course_of}
-use Rattle.display_cli.specs.Opening.{IsOpenedOn, IsTextRefused, IsScript, IsScriptRefused, history_of, HasRun, note_of}
+use Rattle.display_cli.specs.Notes.{note_line}
+use Rattle.display_cli.specs.Outside.{Faults, InputState, SinkState, HasRisen, AreTold, Takes, TakesFront}
+use Rattle.display_cli.specs.Entries.{numbered_lines}
+use Rattle.display_cli.specs.Ended.{Run, Course, IsFinished, IsStopped, IsRefused, HasRead, HasText, IsNotUtf8At, IsEndedAs, ReadsInOrder, IsTextUnfailed, IsScriptUnfailed, IsOwed, IsComplete, IsRun, Says, course_of, script_limit}
+use Rattle.display_cli.specs.inside.Going.{Stage, IsCut, IsPlayed, HasEnded}
+use Rattle.display_cli.specs.inside.Opening.{IsOpenedOn, IsTextRefused, IsScript, IsScriptRefused, HasRun, note_of}
+use Rattle.display_cli.specs.inside.Reading.{ReadsName}
+use Rattle.display_cli.proofs.Fronts.{front-all}
+
+-- ---- the run of a script
+
+pub run-ok : (course : Course) (refused : Bool) (s : Stage) (status : ℕ) (events : List Event) (note : Note)
+    → IsPlayed course refused s → events ≡ s.history.events → (status ≡ 1) ↔ (refused ≡ true) → note ≡ Fine → HasRun course status events s.sink note
+run-ok course refused s status events note it same says is =
+    let P : List Event → Type 0 = λ l. IsFinished course l s.sink [] status in
+    let N : Note → Type 0 = λ n. HasRun course status events s.sink n in
+    subst N (sym is) (subst P (sym same) (it status says))
+
+stopped-as : (course : Course) (s : Stage) (status : ℕ) (stop : Stop) → IsCut course s stop → HasRun course status s.history.events s.sink (note_of stop)
+stopped-as course s status stops.Write cut = (cut.stopped, cut.why)
+stopped-as course s status stops.JournalFull cut = (cut.stopped, cut.why)
+stopped-as course s status stops.Memory cut = let why = cut.why in (why.1, inl (cut.stopped, why.0))
+
+pub run-err : (course : Course) (s : Stage) (status : ℕ) (events : List Event) (stop : Stop) (note : Note)
+    → HasEnded course s (Err stop) → events ≡ s.history.events → note ≡ note_of stop → HasRun course status events s.sink note
+run-err course s status events stop note it same is =
+    let P : List Event → Type 0 = λ l. HasRun course status l s.sink (note_of stop) in
+    let N : Note → Type 0 = λ n. HasRun course status events s.sink n in
+    let S : Stop → Type 0 = λ stop. HasRun course status s.history.events s.sink (note_of stop) in
+    subst N (sym is) (subst P (sym same) (elim it [
+      | inl cut ↦ stopped-as course s status stop cut
+      | inr none ↦ subst S (sym none.0) (ap (λ k. k.faults) none.2, inr (none.1, none.2))
+    ]))
+
+-- ---- the reads of a run
+
+pub reads-both : (plan : Plan) (a b c : InputState) → ReadsName parts.Text plan.text a b → ReadsName parts.Script plan.script b c
+    → ReadsInOrder plan a.reads c.reads
+reads-both plan a b c of_text of_script = record {
+  text = of_text.reads;
+  script = of_script.reads;
+  made = of_script.made ∙ (ap (λ l. l ++ of_script.reads) of_text.made ∙ append_assoc a.reads of_text.reads of_script.reads);
+  of_text = of_text.in_order;
+  of_script = of_script.in_order;
+}
+
+pub reads-text : (plan : Plan) (a b : InputState) → ReadsName parts.Text plan.text a b → ReadsInOrder plan a.reads b.reads
+reads-text plan a b of_text = record {
+  text = of_text.reads;
+  script = [];
+  made = of_text.made ∙ ap (λ l. a.reads ++ l) (sym (append-nil of_text.reads));
+  of_text = of_text.in_order;
+  of_script = tt;
+}
+
+pub reads-none : (plan : Plan) (a : InputState) → ReadsInOrder plan a.reads a.reads
+reads-none plan a = record { text = []; script = []; made = sym (append-nil a.reads); of_text = tt; of_script = tt }
+
+-- ---- what a run is by its note
 
 told-accepted : {o : Option (List ℕ)} (b bytes : List ℕ) → o ≡ Some bytes → AreTold o b → IsAccepted b → IsAccepted bytes
 told-accepted {o} b bytes is told accepted =
@@ -30,238 +88,187 @@ told-fits {o} b bytes is told fits =
     let same : bytes ≡ b = subst P is told in
     let Q : List ℕ → Type 0 = λ l. length l ≤ script_limit in subst Q (sym same) fits
 
-pub run-ok : (course : Course) (refused : Bool) (a b : ℕ) (taken : Option (List ℕ)) (h : History) (status : ℕ) (events : List Event)
-    → IsPlayed course refused taken h → events ≡ h.events → (status ≡ 1) ↔ (refused ≡ true) → HasRun course a b taken status events Fine
-run-ok course refused a b taken h status events played same says =
-    let P : List ℕ → Type 0 = λ text. IsPlayed course refused taken (record { opening = text; events = h.events }) in
-    let Q : List Event → Type 0 = λ l. IsPlayed course refused taken (history_of course l) in
-    (refused, subst Q (sym same) (subst P played.opening played), says)
+module _ (plan : Plan) (run : Run) where
+  -- a text that wasn't opened
+  pub ended-unopened : (note : Note) → IsRefused run → IsTextRefused (run.inputs.told plan.text) run.inputs.faults run.inputs_after.faults note
+      → IsEndedAs plan run note
+  ended-unopened ReadText refused it = (refused, it)
+  ended-unopened TextTooLong refused it = (refused, it)
+  ended-unopened (TextNotUtf8 at) refused it = (refused, it)
+  ended-unopened Memory refused it = record { ended = inr refused; reads_passed = it; writes_passed = ap (λ s. s.faults) refused.sink }
+  ended-unopened Fine refused it = absurd it
+  ended-unopened Usage refused it = absurd it
+  ended-unopened ReadScript refused it = absurd it
+  ended-unopened Write refused it = absurd it
+  ended-unopened ScriptTooLong refused it = absurd it
+  ended-unopened JournalFull refused it = absurd it
 
-run-stopped : (course : Course) (a b : ℕ) (taken : Option (List ℕ)) (status : ℕ) (events : List Event) (stop : Stop)
-    → IsCut course taken (history_of course events) → IsWhy course.script a b events stop → HasRun course a b taken status events (note_of stop)
-run-stopped course a b taken status events stops.Write cut why = (cut, why)
-run-stopped course a b taken status events stops.JournalFull cut why = (cut, why)
-run-stopped course a b taken status events stops.Memory cut why = inl cut
+  unread-as : (note : Note) → IsRefused run → HasText plan run
+      → IsScriptRefused (run.inputs.told plan.script) run.inputs.faults run.inputs_after.faults note → IsEndedAs plan run note
+  unread-as ReadScript refused text it = (refused, it, text)
+  unread-as ScriptTooLong refused text it = (refused, it, text)
+  unread-as Memory refused text it = record { ended = inr refused; reads_passed = it; writes_passed = ap (λ s. s.faults) refused.sink }
+  unread-as Fine refused text it = absurd it
+  unread-as Usage refused text it = absurd it
+  unread-as ReadText refused text it = absurd it
+  unread-as (TextNotUtf8 at) refused text it = absurd it
+  unread-as TextTooLong refused text it = absurd it
+  unread-as Write refused text it = absurd it
+  unread-as JournalFull refused text it = absurd it
 
-pub run-err : (course : Course) (a b : ℕ) (taken : Option (List ℕ)) (h : History) (status : ℕ) (events : List Event) (stop : Stop) (note : Note)
-    → HasEnded course a b taken h (Err stop) → events ≡ h.events → note ≡ note_of stop → HasRun course a b taken status events note
-run-err course a b taken h status events stop note it same is =
-    let P : List ℕ → Type 0 = λ text. IsCut course taken (record { opening = text; events = h.events }) in
-    let Q : List Event → Type 0 = λ l. IsCut course taken (history_of course l) in
-    let W : List Event → Type 0 = λ l. IsWhy course.script a b l stop in
-    let S : Stop → Type 0 = λ s. HasRun course a b taken status events (note_of s) in
-    let N : Note → Type 0 = λ n. HasRun course a b taken status events n in
-    subst N (sym is) (elim it [
-      | inl cut ↦ run-stopped course a b taken status events stop (subst Q (sym same) (subst P cut.0.opening cut.0)) (subst W (sym same) cut.1)
-      | inr none ↦ subst S (sym none.0) (inr (same ∙ none.1.0, none.1.1))
-    ])
+  -- a script that wasn't read, behind reads of the text that passed
+  pub ended-unread : (note : Note) (told : Option (List ℕ)) (faults : Faults) (display : History) → IsRefused run
+      → IsOpenedOn (run.inputs.told plan.text) display → told ≡ run.inputs.told plan.script → faults ≡ run.inputs.faults
+      → IsScriptRefused told faults run.inputs_after.faults note → IsEndedAs plan run note
+  ended-unread note told faults display refused opened tells passed it =
+      let T : Option (List ℕ) → Type 0 = λ o. IsScriptRefused o faults run.inputs_after.faults note in
+      let F : Faults → Type 0 = λ f. IsScriptRefused (run.inputs.told plan.script) f run.inputs_after.faults note in
+      unread-as note refused (opened.0, opened.1, opened.2) (subst F passed (subst T tells it))
 
-module _ (told : List ℕ → Option (List ℕ)) (plan : Plan) (old new : Faults) (a b : ℕ) (before taken : Option (List ℕ)) (status : ℕ) (events : List Event) where
-  abbrev the-run : Run
-  the-run = record { told = told; taken_before = before; taken_after = taken; status = status; history = events }
-
-  -- what is to be shown of the run of a plan
-  pub record IsRunWell (note : Note) : Type 0 where
-    pub read : note ≢ Usage
-    pub meaning : IsRunOf (record { told = told; taken_before = before; taken_after = taken; status = status; history = events }) plan note
-    pub caused : IsCaused told plan old new a b events note
-
-  ran : (bytes script : List ℕ) (note : Note) → AreTold (told plan.text) bytes → IsAccepted bytes → IsScript (told plan.script) script
-      → HasRun (record { text = clean bytes; script = script; before = before }) a b taken status events note → IsRunWell note
-  ran bytes script Fine text accepted read it =
-      let played = it.1 in
-      let same = played.refusals in
-      let says = it.2 in
+  run-as : (note : Note) (read : HasRead plan run) → run.watched ≡ [] → run.inputs_after.faults ≡ run.inputs.faults
+      → HasRun (course_of plan read.bytes read.script run.sink) run.status run.history run.sink_after note → IsEndedAs plan run note
+  run-as Fine read unwatched passed it =
+      let W : List (List Seen) → Type 0 = λ w. IsFinished (course_of plan read.bytes read.script run.sink) run.history run.sink_after w run.status in
+      record { read = read; finished = subst W (sym unwatched) it }
+  run-as Write read unwatched passed it =
+      let W : List (List Seen) → Type 0 = λ w. IsStopped (course_of plan read.bytes read.script run.sink) run.history run.sink_after w in
+      record { read = read; stopped = subst W (sym unwatched) it.0; caused = it.1 }
+  run-as JournalFull read unwatched passed it =
+      let W : List (List Seen) → Type 0 = λ w. IsStopped (course_of plan read.bytes read.script run.sink) run.history run.sink_after w in
+      record { read = read; stopped = subst W (sym unwatched) it.0; caused = it.1 }
+  run-as Memory read unwatched passed it =
+      let W : List (List Seen) → Type 0 = λ w. IsStopped (course_of plan read.bytes read.script run.sink) run.history run.sink_after w in
       record {
-        read = λ e. cc;
-        meaning = record {
-          bytes = bytes;
-          script = script;
-          read = record { text_told = text; script_told = read.0; text_accepted = accepted; script_fits = read.1 };
-          legal = played.legal;
-          written = played.written;
-          status = (λ e. same ∙ says.0 e, λ e. says.1 (sym same ∙ e));
-        };
-        caused = tt;
-      }
-  ran bytes script Write text accepted read it =
-      let cut = it.0 in
-      record {
-        read = λ e. cc;
-        meaning = record {
-          bytes = bytes;
-          script = script;
-          read = record { text_told = text; script_told = read.0; text_accepted = accepted; script_fits = read.1 };
-          begun = cut.begun;
-          legal = cut.legal;
-          front = cut.front;
-          rest = cut.rest;
-          written = cut.written;
-          is_front = cut.is_front;
-        };
-        caused = it.1;
-      }
-  ran bytes script JournalFull text accepted read it =
-      let cut = it.0 in
-      record {
-        read = λ e. cc;
-        meaning = record {
-          bytes = bytes;
-          script = script;
-          read = record { text_told = text; script_told = read.0; text_accepted = accepted; script_fits = read.1 };
-          begun = cut.begun;
-          legal = cut.legal;
-          front = cut.front;
-          rest = cut.rest;
-          written = cut.written;
-          is_front = cut.is_front;
-        };
-        caused = (script, read.0, it.1);
-      }
-  ran bytes script Memory text accepted read it =
-      record {
-        read = λ e. cc;
-        meaning = elim it [
-          | inl cut ↦ inl (record {
-            bytes = bytes;
-            script = script;
-            read = record { text_told = text; script_told = read.0; text_accepted = accepted; script_fits = read.1 };
-            begun = cut.begun;
-            legal = cut.legal;
-            front = cut.front;
-            rest = cut.rest;
-            written = cut.written;
-            is_front = cut.is_front;
-          })
-          | inr none ↦ inr none
+        ended = elim it.1 [
+          | inl stopped ↦ inl (record { read = read; stopped = subst W (sym unwatched) stopped.0; caused = stopped.1 })
+          | inr none ↦ inr (record { history = none.0; watched = unwatched; sink = none.1 })
         ];
-        caused = tt;
+        reads_passed = passed;
+        writes_passed = it.0;
       }
-  ran bytes script Usage text accepted read it = absurd it
-  ran bytes script ReadText text accepted read it = absurd it
-  ran bytes script ReadScript text accepted read it = absurd it
-  ran bytes script (TextNotUtf8 at) text accepted read it = absurd it
-  ran bytes script TextTooLong text accepted read it = absurd it
-  ran bytes script ScriptTooLong text accepted read it = absurd it
+  run-as Usage read unwatched passed it = absurd it
+  run-as ReadText read unwatched passed it = absurd it
+  run-as ReadScript read unwatched passed it = absurd it
+  run-as (TextNotUtf8 at) read unwatched passed it = absurd it
+  run-as TextTooLong read unwatched passed it = absurd it
+  run-as ScriptTooLong read unwatched passed it = absurd it
 
   -- the script was run
-  pub well-run : (told' : Option (List ℕ)) (display : History) (script : List ℕ) (note : Note)
-      → IsOpenedOn (told plan.text) display → told' ≡ told plan.script → IsScript told' script
-      → HasRun (course_of display script before) a b taken status events note → IsRunWell note
-  well-run told' display script note opened same read it =
-      let P : History → Type 0 = λ h. HasRun (course_of h script before) a b taken status events note in
-      let S : Option (List ℕ) → Type 0 = λ o. IsScript o script in
-      ran opened.0 script note opened.1 opened.2 (subst S same read) (subst P opened.3 it)
+  pub ended-run : (note : Note) (told : Option (List ℕ)) (display : History) (script : List ℕ) → run.watched ≡ []
+      → IsOpenedOn (run.inputs.told plan.text) display → told ≡ run.inputs.told plan.script → IsScript told script
+      → run.inputs_after.faults ≡ run.inputs.faults
+      → HasRun (record { text = display.opening; entries = numbered_lines script; workers = plan.workers; sink = run.sink }) run.status run.history run.sink_after note
+      → IsEndedAs plan run note
+  ended-run note told display script unwatched opened tells read passed it =
+      let T : Option (List ℕ) → Type 0 = λ o. IsScript o script in
+      let script_read = subst T tells read in
+      let H : History → Type 0 = λ h. HasRun (record { text = h.opening; entries = numbered_lines script; workers = plan.workers; sink = run.sink })
+      run.status run.history run.sink_after note in
+      run-as note (record {
+        bytes = opened.0;
+        script = script;
+        text_told = opened.1;
+        script_told = script_read.0;
+        text_accepted = opened.2;
+        script_fits = script_read.1;
+      }) unwatched passed (subst H opened.3 it)
 
-  text-unread : (note : Note) → IsNothing the-run → IsTextRefused (told plan.text) old.text new.text note → IsRunWell note
-  text-unread ReadText none it = record { read = λ e. cc; meaning = none; caused = it }
-  text-unread TextTooLong none it = record { read = λ e. cc; meaning = none; caused = it }
-  text-unread (TextNotUtf8 at) none it = record { read = λ e. cc; meaning = none; caused = it }
-  text-unread Memory none it = record { read = λ e. cc; meaning = inr none; caused = tt }
-  text-unread Fine none it = absurd it
-  text-unread Usage none it = absurd it
-  text-unread ReadScript none it = absurd it
-  text-unread Write none it = absurd it
-  text-unread ScriptTooLong none it = absurd it
-  text-unread JournalFull none it = absurd it
+  -- ---- what is owed
 
-  script-unread : (note : Note) → IsNothing the-run → ((bytes : List ℕ) × AreTold (told plan.text) bytes × IsAccepted bytes)
-      → IsScriptRefused (told plan.script) old.script new.script note → IsRunWell note
-  script-unread ReadScript none text it = record { read = λ e. cc; meaning = none; caused = (it, text) }
-  script-unread ScriptTooLong none text it = record { read = λ e. cc; meaning = none; caused = (text, it) }
-  script-unread Memory none text it = record { read = λ e. cc; meaning = inr none; caused = tt }
-  script-unread Fine none text it = absurd it
-  script-unread Usage none text it = absurd it
-  script-unread ReadText none text it = absurd it
-  script-unread (TextNotUtf8 at) none text it = absurd it
-  script-unread TextTooLong none text it = absurd it
-  script-unread Write none text it = absurd it
-  script-unread JournalFull none text it = absurd it
+  read-text : (bytes : List ℕ) → run.inputs.told plan.text ≡ Some bytes → HasRead plan run → IsAccepted bytes
+  read-text bytes is read = told-accepted read.bytes bytes is read.text_told read.text_accepted
 
-  -- the text wasn't opened
-  pub well-unopened : (note note' : Note) → note' ≡ note → events ≡ [] → taken ≡ before → IsTextRefused (told plan.text) old.text new.text note → IsRunWell note'
-  well-unopened note note' same none kept it = let P : Note → Type 0 = IsRunWell in subst P (sym same) (text-unread note (none, kept) it)
+  read-script : (script : List ℕ) → run.inputs.told plan.script ≡ Some script → HasRead plan run → length script ≤ script_limit
+  read-script script is read = told-fits read.script script is read.script_told read.script_fits
 
-  -- the script wasn't read
-  pub well-unread : (told' : Option (List ℕ)) (display : History) (middle : ℕ) (note note' : Note) → note' ≡ note → events ≡ [] → taken ≡ before
-      → IsOpenedOn (told plan.text) display → told' ≡ told plan.script → middle ≡ old.script → IsScriptRefused told' middle new.script note → IsRunWell note'
-  well-unread told' display middle note note' same none kept opened tells stays it =
-      let P : Note → Type 0 = IsRunWell in
-      let T : Option (List ℕ) → Type 0 = λ o. IsScriptRefused o middle new.script note in
-      let M : ℕ → Type 0 = λ n. IsScriptRefused (told plan.script) n new.script note in
-      subst P (sym same) (script-unread note (none, kept) (opened.0, opened.1, opened.2) (subst M stays (subst T tells it)))
-
-  -- what a note says of a text that is told
-  text-note : (note : Note) (bytes : List ℕ) → IsRunWell note → told plan.text ≡ Some bytes → (HasRisen old.text new.text → ⊥)
-      → (note ≡ Memory) ⊎ (((note ≡ TextTooLong) × (TEXT_LIMIT < length bytes))
+  -- no memory, a text that is too long, one that isn't UTF-8, or one that is accepted
+  TextEnd : Note → List ℕ → Type 0
+  TextEnd note bytes =
+      (note ≡ Memory) ⊎ (((note ≡ TextTooLong) × (TEXT_LIMIT < length bytes))
       ⊎ (((note ≡ TextNotUtf8 (utf8_valid_len bytes)) × (length bytes ≤ TEXT_LIMIT) × (IsUtf8 bytes → ⊥)) ⊎ IsAccepted bytes))
-  text-note Fine bytes well is unrisen = let it = well.meaning in let read = it.read in inr (inr (inr (told-accepted it.bytes bytes is read.text_told read.text_accepted)))
-  text-note Usage bytes well is unrisen = absurd (well.read refl)
-  text-note ReadText bytes well is unrisen = absurd (unrisen well.caused)
-  text-note ReadScript bytes well is unrisen = let it = well.caused in inr (inr (inr (told-accepted it.1.0 bytes is it.1.1 it.1.2)))
-  text-note Write bytes well is unrisen = let it = well.meaning in let read = it.read in inr (inr (inr (told-accepted it.bytes bytes is read.text_told read.text_accepted)))
-  text-note (TextNotUtf8 at) bytes well is unrisen =
-      let P : Option (List ℕ) → Type 0 = λ o. IfSome o (λ bytes. (length bytes ≤ TEXT_LIMIT) × (IsUtf8 bytes → ⊥) × (at ≡ utf8_valid_len bytes)) in
-      let it = subst P is well.caused in inr (inr (inl (ap (λ n. TextNotUtf8 n) it.2, it.0, it.1)))
-  text-note TextTooLong bytes well is unrisen =
-      let P : Option (List ℕ) → Type 0 = λ o. IfSome o (λ bytes. TEXT_LIMIT < length bytes) in inr (inl (refl, subst P is well.caused))
-  text-note ScriptTooLong bytes well is unrisen = let it = well.caused in inr (inr (inr (told-accepted it.0.0 bytes is it.0.1 it.0.2)))
-  text-note JournalFull bytes well is unrisen = let it = well.meaning in let read = it.read in inr (inr (inr (told-accepted it.bytes bytes is read.text_told read.text_accepted)))
-  text-note Memory bytes well is unrisen = inl refl
 
-  -- what a note says of a script that is told, behind an accepted text
-  script-note : (note : Note) (bytes script : List ℕ) → IsRunWell note → told plan.text ≡ Some bytes → told plan.script ≡ Some script
-      → (HasRisen old.text new.text → ⊥) → (HasRisen old.script new.script → ⊥) → IsAccepted bytes
-      → (note ≡ Memory) ⊎ (((note ≡ ScriptTooLong) × (script_limit < length script))
-      ⊎ ((length script ≤ script_limit) × ((note ≡ Fine) ⊎ ((note ≡ JournalFull) ⊎ HasRisen a b))))
-  script-note Fine bytes script well is is' unrisen unrisen' accepted =
-      let it = well.meaning in let read = it.read in inr (inr (told-fits it.script script is' read.script_told read.script_fits, inl refl))
-  script-note Usage bytes script well is is' unrisen unrisen' accepted = absurd (well.read refl)
-  script-note ReadText bytes script well is is' unrisen unrisen' accepted = absurd (unrisen well.caused)
-  script-note ReadScript bytes script well is is' unrisen unrisen' accepted = let it = well.caused in absurd (unrisen' it.0)
-  script-note Write bytes script well is is' unrisen unrisen' accepted =
-      let it = well.meaning in let read = it.read in inr (inr (told-fits it.script script is' read.script_told read.script_fits, inr (inr well.caused)))
-  script-note (TextNotUtf8 at) bytes script well is is' unrisen unrisen' accepted =
-      let P : Option (List ℕ) → Type 0 = λ o. IfSome o (λ bytes. (length bytes ≤ TEXT_LIMIT) × (IsUtf8 bytes → ⊥) × (at ≡ utf8_valid_len bytes)) in
-      let it = subst P is well.caused in absurd (it.1 accepted.1)
-  script-note TextTooLong bytes script well is is' unrisen unrisen' accepted =
+  text-end : (note : Note) (bytes : List ℕ) → IsEndedAs plan run note → run.inputs.told plan.text ≡ Some bytes → IsTextUnfailed run → TextEnd note bytes
+  unfolding TextEnd
+  text-end Fine bytes it is unfailed = inr (inr (inr (read-text bytes is it.read)))
+  text-end Usage bytes it is unfailed = absurd it
+  text-end ReadText bytes it is unfailed = absurd (unfailed it.1)
+  text-end ReadScript bytes it is unfailed = inr (inr (inr (told-accepted it.2.0 bytes is it.2.1 it.2.2)))
+  text-end Write bytes it is unfailed = inr (inr (inr (read-text bytes is it.read)))
+  text-end (TextNotUtf8 at) bytes it is unfailed =
+      let P : Option (List ℕ) → Type 0 = λ o. IfSome o (IsNotUtf8At at) in
+      let bad = subst P is it.1 in inr (inr (inl (ap (λ n. TextNotUtf8 n) bad.2, bad.0, bad.1)))
+  text-end TextTooLong bytes it is unfailed =
+      let P : Option (List ℕ) → Type 0 = λ o. IfSome o (λ bytes. TEXT_LIMIT < length bytes) in inr (inl (refl, subst P is it.1))
+  text-end ScriptTooLong bytes it is unfailed = inr (inr (inr (told-accepted it.2.0 bytes is it.2.1 it.2.2)))
+  text-end JournalFull bytes it is unfailed = inr (inr (inr (read-text bytes is it.read)))
+  text-end Memory bytes it is unfailed = inl refl
+
+  -- behind an accepted text: no memory, a script that is too long, or one that was run
+  ScriptEnd : Note → List ℕ → Type 0
+  ScriptEnd note script =
+      (note ≡ Memory) ⊎ (((note ≡ ScriptTooLong) × (script_limit < length script))
+      ⊎ ((length script ≤ script_limit) × ((note ≡ Fine) ⊎ ((note ≡ JournalFull) ⊎ HasRisen run.sink.faults run.sink_after.faults))))
+
+  script-end : (note : Note) (bytes script : List ℕ) → IsEndedAs plan run note → run.inputs.told plan.text ≡ Some bytes → run.inputs.told plan.script ≡ Some script
+      → IsTextUnfailed run → IsScriptUnfailed run → IsAccepted bytes → ScriptEnd note script
+  unfolding ScriptEnd
+  script-end Fine bytes script it is is' unfailed unfailed' accepted = inr (inr (read-script script is' it.read, inl refl))
+  script-end Usage bytes script it is is' unfailed unfailed' accepted = absurd it
+  script-end ReadText bytes script it is is' unfailed unfailed' accepted = absurd (unfailed it.1)
+  script-end ReadScript bytes script it is is' unfailed unfailed' accepted = absurd (unfailed' it.1)
+  script-end Write bytes script it is is' unfailed unfailed' accepted = inr (inr (read-script script is' it.read, inr (inr it.caused)))
+  script-end (TextNotUtf8 at) bytes script it is is' unfailed unfailed' accepted =
+      let P : Option (List ℕ) → Type 0 = λ o. IfSome o (IsNotUtf8At at) in let bad = subst P is it.1 in absurd (bad.1 accepted.1)
+  script-end TextTooLong bytes script it is is' unfailed unfailed' accepted =
       let P : Option (List ℕ) → Type 0 = λ o. IfSome o (λ bytes. TEXT_LIMIT < length bytes) in
-      let long = subst P is well.caused in let fits = accepted.0 in absurd (omega arith)
-  script-note ScriptTooLong bytes script well is is' unrisen unrisen' accepted =
-      let P : Option (List ℕ) → Type 0 = λ o. IfSome o (λ script. script_limit < length script) in
-      let it = well.caused in inr (inl (refl, subst P is' it.1))
-  script-note JournalFull bytes script well is is' unrisen unrisen' accepted =
-      let it = well.meaning in let read = it.read in inr (inr (told-fits it.script script is' read.script_told read.script_fits, inr (inl refl)))
-  script-note Memory bytes script well is is' unrisen unrisen' accepted = inl refl
+      let long = subst P is it.1 in let fits = accepted.0 in absurd (omega arith)
+  script-end ScriptTooLong bytes script it is is' unfailed unfailed' accepted =
+      let P : Option (List ℕ) → Type 0 = λ o. IfSome o (λ script. script_limit < length script) in inr (inl (refl, subst P is' it.1))
+  script-end JournalFull bytes script it is is' unfailed unfailed' accepted = inr (inr (read-script script is' it.read, inr (inl refl)))
+  script-end Memory bytes script it is is' unfailed unfailed' accepted = inl refl
 
-  pub well-owed : (note : Note) → IsRunWell note → IsOwed told plan old new note
-  well-owed note well =
+  owed : IsEndedAs plan run run.note → IsOwed plan run
+  unfolding TextEnd ScriptEnd
+  owed it =
       record {
-        too_long = λ bytes is unrisen long. elim (text-note note bytes well is unrisen) [
+        too_long = λ bytes is unfailed long. elim (text-end run.note bytes it is unfailed) [
           | inl e ↦ inr e
           | inr (inl e) ↦ inl e.0
           | inr (inr (inl e)) ↦ absurd (let fits = e.1 in omega arith)
           | inr (inr (inr e)) ↦ absurd (let fits = e.0 in omega arith)
         ];
-        not_utf8 = λ bytes is unrisen fits bad. elim (text-note note bytes well is unrisen) [
+        not_utf8 = λ bytes is unfailed fits bad. elim (text-end run.note bytes it is unfailed) [
           | inl e ↦ inr e
           | inr (inl e) ↦ absurd (let long = e.1 in omega arith)
           | inr (inr (inl e)) ↦ inl e.0
           | inr (inr (inr e)) ↦ absurd (bad e.1)
         ];
-        script_too_long = λ bytes script is is' unrisen unrisen' accepted long. elim (script-note note bytes script well is is' unrisen unrisen' accepted) [
+        script_too_long = λ bytes script is is' unfailed unfailed' accepted long. elim (script-end run.note bytes script it is is' unfailed unfailed' accepted) [
           | inl e ↦ inr e
           | inr (inl e) ↦ inl e.0
           | inr (inr e) ↦ absurd (let fits = e.0 in omega arith)
         ];
       }
 
-  pub well-complete : (note : Note) → IsRunWell note → IsComplete told plan old new a b note
-  well-complete note well bytes script is is' accepted fits unrisen unrisen' unfailed =
-      elim (script-note note bytes script well is is' unrisen unrisen' accepted) [
+  complete : IsEndedAs plan run run.note → IsComplete plan run
+  unfolding ScriptEnd
+  complete it bytes script is is' accepted fits unfailed unfailed' unwritten =
+      elim (script-end run.note bytes script it is is' unfailed unfailed' accepted) [
         | inl e ↦ inr (inl e)
         | inr (inl e) ↦ absurd (let long = e.1 in omega arith)
         | inr (inr (e, inl fine)) ↦ inl fine
         | inr (inr (e, inr (inl full))) ↦ inr (inr full)
-        | inr (inr (e, inr (inr failed))) ↦ absurd (unfailed failed)
+        | inr (inr (e, inr (inr failed))) ↦ absurd (unwritten failed)
       ]
+
+  pub is-run : IsEndedAs plan run run.note → ReadsInOrder plan run.inputs.reads run.inputs_after.reads → IsRun run plan
+  is-run it reads = record { outcome = it; reads = reads; owed = owed it; complete = complete it }
+
+pub not-usage : (plan : Plan) (run : Run) (note : Note) → IsEndedAs plan run note → note ≡ Usage → ⊥
+not-usage plan run note it e = let P : Note → Type 0 = IsEndedAs plan run in subst P e it
+
+-- what `say` answered is what the program says
+pub says : (note : Note) (a b : SinkState) (r : Result (Unit {0}) Failed) → OnOk r (Takes (note_line note) a b) → OnErr r (TakesFront (note_line note) a b)
+    → OnErr r (HasRisen a.faults b.faults) → Says note a b
+says note a b (Ok done) whole front failed = record { front = front-all a b (note_line note) [] (note_line note) whole (append-nil (note_line note)); whole = λ unfailed. whole }
+says note a b (Err error) whole front failed = record { front = front; whole = λ unfailed. absurd (unfailed failed) }

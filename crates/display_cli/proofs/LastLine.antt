@@ -2,7 +2,8 @@
 use Rattle.std.proofs.Common.{◌≡◌, ℕ, Bool, true, false, List, [], ◌∷◌, ◌++◌, map, refl, sym, ap, ◌∙◌, append_assoc}
 use Rattle.std.proofs.lemmas.List.{map-append}
 use Rattle.cell_units.specs.Operation.{Operation}
-use Rattle.display_map.specs.Events.{Event, Line, Did}
+use Rattle.display_map.specs.Events.{Event}
+use Rattle.display_map.specs.Events.{Line, Did}
 
 abbrev pub dids : List Operation → List Event
 dids ops = map (λ op. Did op) ops

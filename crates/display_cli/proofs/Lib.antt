@@ -2,6 +2,7 @@ pub mod Snoc
 pub mod LastLine
 pub mod Next
 pub mod Rounds
+pub mod Ready
 pub mod GoingOn
 pub mod Results
 pub mod Fronts
@@ -9,3 +10,4 @@ pub mod Lines
 pub mod Handled
 pub mod Played
 pub mod Headline
+pub mod ReadLines

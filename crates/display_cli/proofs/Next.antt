@@ -4,60 +4,61 @@ use Rattle.std.specs.Option.{option_map}
 use Rattle.std.specs.List.{last_or, list_any}
 use Rattle.std.proofs.lemmas.List.{append-nil}
 use Rattle.cell_units.specs.Operation.{Operation}
-use Rattle.display_map.specs.Events.{Event, Line, Did, Sent, Landed, Published}
-use Rattle.display_map.specs.Changes.{ChangeParts, operations_in}
-use Rattle.display_map.specs.Replay.{State, waits, is_settled, job_numbered}
-use Rattle.edit_script.specs.Commands.{Apply}
-use Rattle.edit_script.specs.Verdict.{Accepted}
-use Rattle.display_cli.specs.Legal.{Opens, TakesNextLine, IsChanging, IsChanged, DoesChanges, PublishesLandings, IsSend, Sends, LandsOnce, AnswersSettled, KeepsBusy, IsDone, Ends, IsLegalSoFar, after, next_line, next_verdict, is_landed, is_end}
-use Rattle.display_cli.specs.Going.{IsFree}
+use Rattle.display_map.specs.Events.{Event}
+use Rattle.display_map.specs.Events.{Line, Did, Sent, Landed, Published}
+use Rattle.display_map.specs.Replay.{State, state_of, waits, is_settled, job_numbered}
+use Rattle.edit_script.specs.Commands.{Command}
+use Rattle.edit_script.specs.Verdict.{Accepted, ops_of}
+use Rattle.display_cli.specs.Entries.{Entry}
+use Rattle.display_cli.specs.Legal.{Opens, TakesNextLine, IsChanging, IsChanged, DoesChanges, PublishesLandings, IsSend, Sends, LandsOnce, AnswersSettled, KeepsBusy, IsDone, Ends, IsLegalSoFar, history_of, next_entry, next_verdict, is_landed, is_end}
+use Rattle.display_cli.specs.inside.Going.{IsFree}
 use Rattle.display_cli.proofs.Snoc.{AtEach-snoc, last-snoc, any-snoc}
 use Rattle.display_cli.proofs.LastLine.{dids, is_change, same-end, end-changes, end-not-empty, append-same}
 
--- all that a legal history asks of its next event, with one worker
-pub record IsNext (text script : List ℕ) (past : List Event) (e : Event) : Type 0 where
+-- all that a legal history asks of its next event
+pub record IsNext (text : List ℕ) (entries : List (ℕ × Entry)) (workers : ℕ) (past : List Event) (e : Event) : Type 0 where
   pub opening : Opens past e
-  pub lines_in_order : TakesNextLine script past e
-  pub changes : DoesChanges text script past e
-  pub landings : PublishesLandings text script past e
-  pub sends : Sends text 1 past e
+  pub lines_in_order : TakesNextLine entries past e
+  pub changes : DoesChanges text entries past e
+  pub landings : PublishesLandings text entries past e
+  pub sends : Sends text workers past e
   pub once : LandsOnce text past e
-  pub settled : AnswersSettled text script past e
-  pub busy : KeepsBusy text 1 past e
-  pub ending : Ends text script past e
+  pub settled : AnswersSettled text entries past e
+  pub busy : KeepsBusy text workers past e
+  pub ending : Ends text entries past e
 
 pub legal-snoc :
-    (text script : List ℕ) (h : List Event) (e : Event)
-    → IsLegalSoFar text script 1 h → IsNext text script h e → IsLegalSoFar text script 1 (h ++ e ∷ [])
-legal-snoc text script h e legal next =
+    (text : List ℕ) (entries : List (ℕ × Entry)) (workers : ℕ) (h : List Event) (e : Event)
+    → IsLegalSoFar text entries workers h → IsNext text entries workers h e → IsLegalSoFar text entries workers (h ++ e ∷ [])
+legal-snoc text entries workers h e legal next =
     record {
       opening = AtEach-snoc Opens h e legal.opening next.opening;
-      lines_in_order = AtEach-snoc (TakesNextLine script) h e legal.lines_in_order next.lines_in_order;
-      changes = AtEach-snoc (DoesChanges text script) h e legal.changes next.changes;
-      landings = AtEach-snoc (PublishesLandings text script) h e legal.landings next.landings;
-      sends = AtEach-snoc (Sends text 1) h e legal.sends next.sends;
+      lines_in_order = AtEach-snoc (TakesNextLine entries) h e legal.lines_in_order next.lines_in_order;
+      changes = AtEach-snoc (DoesChanges text entries) h e legal.changes next.changes;
+      landings = AtEach-snoc (PublishesLandings text entries) h e legal.landings next.landings;
+      sends = AtEach-snoc (Sends text workers) h e legal.sends next.sends;
       once = AtEach-snoc (LandsOnce text) h e legal.once next.once;
-      settled = AtEach-snoc (AnswersSettled text script) h e legal.settled next.settled;
-      busy = AtEach-snoc (KeepsBusy text 1) h e legal.busy next.busy;
-      ending = AtEach-snoc (Ends text script) h e legal.ending next.ending;
+      settled = AtEach-snoc (AnswersSettled text entries) h e legal.settled next.settled;
+      busy = AtEach-snoc (KeepsBusy text workers) h e legal.busy next.busy;
+      ending = AtEach-snoc (Ends text entries) h e legal.ending next.ending;
     }
 
 -- behind an event that is neither a line nor an operation no change is under way
 pub not-changing :
-    (text script : List ℕ) (h : List Event) (e : Event) → is_change e ≡ false
-    → (done rest : List Operation) → IsChanging text script (h ++ e ∷ []) done rest → ⊥
-not-changing text script h e plain done rest c =
+    (text : List ℕ) (entries : List (ℕ × Entry)) (h : List Event) (e : Event) → is_change e ≡ false
+    → (done rest : List Operation) → IsChanging text entries (h ++ e ∷ []) done rest → ⊥
+not-changing text entries h e plain done rest c =
     true≢false (sym (end-changes h e c.past c.number done c.ends) ∙ plain)
 
 pub free-snoc :
-    (text script : List ℕ) (h : List Event) (e : Event)
+    (text : List ℕ) (entries : List (ℕ × Entry)) (h : List Event) (e : Event)
     → is_change e ≡ false → is_landed (Some e) ≡ false → is_end e ≡ false → list_any is_end h ≡ false
-    → IsFree text script (h ++ e ∷ [])
-free-snoc text script h e plain unlanded goes_on before =
+    → IsFree text entries (h ++ e ∷ [])
+free-snoc text entries h e plain unlanded goes_on before =
     record {
       begun = end-not-empty h e [];
-      unchanging = λ done rest op c. not-changing text script h e plain done (op ∷ rest) c;
-      unchanged = λ c. not-changing text script h e plain (c.0 ∷ c.1) [] c.2;
+      unchanging = λ done rest op c. not-changing text entries h e plain done (op ∷ rest) c;
+      unchanged = λ c. not-changing text entries h e plain (c.0 ∷ c.1) [] c.2;
       unlanded = ap is_landed (last-snoc None h e) ∙ unlanded;
       goes_on = any-snoc is_end h e ∙ (cc);
     }
@@ -68,12 +69,12 @@ line-same a b e = cc
 did-same : (a b : Operation) → Did a ≡ Did b → a ≡ b
 did-same a b e = cc
 
-change-same : (a b : ChangeParts) → Some (Accepted (Apply a)) ≡ Some (Accepted (Apply b)) → a ≡ b
-change-same a b e = cc
+accepted-same : (a b : Command) → Some (Accepted a) ≡ Some (Accepted b) → a ≡ b
+accepted-same a b e = cc
 
 -- the first event publishes version 0
-pub next-opening : (text script : List ℕ) → IsNext text script [] (Published false)
-next-opening text script =
+pub next-opening : (text : List ℕ) (entries : List (ℕ × Entry)) (workers : ℕ) → IsNext text entries workers [] (Published false)
+next-opening text entries workers =
     record {
       opening = λ _. refl;
       lines_in_order = λ number e. cc;
@@ -91,16 +92,16 @@ next-opening text script =
     }
 
 -- the parts of a send, as a fact about an event
-IsSendAt : State → Event → Type 0
-IsSendAt s (Sent job first count) = IsSend 1 s job first count
-IsSendAt s _ = Unit {0}
+IsSendAt : ℕ → State → Event → Type 0
+IsSendAt workers s (Sent job first count) = IsSend workers s job first count
+IsSendAt workers s _ = Unit {0}
 
 -- where no event is owed, a run that waits may be sent
 pub next-sent :
-    (text script : List ℕ) (h : List Event) (job first count : ℕ)
-    → IsFree text script h → IsSend 1 (after text h) job first count → IsNext text script h (Sent job first count)
+    (text : List ℕ) (entries : List (ℕ × Entry)) (workers : ℕ) (h : List Event) (job first count : ℕ)
+    → IsFree text entries h → IsSend workers (state_of (history_of text h)) job first count → IsNext text entries workers h (Sent job first count)
 unfolding IsSendAt
-next-sent text script h job first count free send =
+next-sent text entries workers h job first count free send =
     record {
       opening = λ e. absurd (free.begun e);
       lines_in_order = λ number e. cc;
@@ -113,7 +114,7 @@ next-sent text script h job first count free send =
         publishes = λ e. absurd (true≢false (sym e ∙ free.unlanded));
         only = λ e. cc;
       };
-      sends = λ j f c e. let P : Event → Type 0 = IsSendAt (after text h) in subst P e send;
+      sends = λ j f c e. let P : Event → Type 0 = IsSendAt workers (state_of (history_of text h)) in subst P e send;
       once = λ j e. cc;
       settled = λ number e q. cc;
       busy = λ number e. cc;
@@ -126,11 +127,11 @@ job-is s _ = Unit {0}
 
 -- where no event is owed, a job that is outstanding may land
 pub next-landed :
-    (text script : List ℕ) (h : List Event) (job : ℕ)
-    → IsFree text script h → option_map (λ j. j.landed) (job_numbered job (after text h).jobs) ≡ Some false
-    → IsNext text script h (Landed job)
+    (text : List ℕ) (entries : List (ℕ × Entry)) (workers : ℕ) (h : List Event) (job : ℕ)
+    → IsFree text entries h → option_map (λ j. j.landed) (job_numbered job (state_of (history_of text h)).jobs) ≡ Some false
+    → IsNext text entries workers h (Landed job)
 unfolding job-is
-next-landed text script h job free out =
+next-landed text entries workers h job free out =
     record {
       opening = λ e. absurd (free.begun e);
       lines_in_order = λ number e. cc;
@@ -144,7 +145,7 @@ next-landed text script h job free out =
         only = λ e. cc;
       };
       sends = λ j f c e. cc;
-      once = λ j e. let P : Event → Type 0 = job-is (after text h) in subst P e out;
+      once = λ j e. let P : Event → Type 0 = job-is (state_of (history_of text h)) in subst P e out;
       settled = λ number e q. cc;
       busy = λ number e. cc;
       ending = record { is_done = λ e. cc; none_behind = free.goes_on };
@@ -152,11 +153,11 @@ next-landed text script h job free out =
 
 -- where a version is owed and no operation is, it may be published
 pub next-published :
-    (text script : List ℕ) (h : List Event)
-    → ((done rest : List Operation) (op : Operation) → IsChanging text script h done (op ∷ rest) → ⊥)
-    → IsChanged text script h ⊎ (is_landed (last_or None h) ≡ true) → list_any is_end h ≡ false
-    → IsNext text script h (Published false)
-next-published text script h unchanging owed goes_on =
+    (text : List ℕ) (entries : List (ℕ × Entry)) (workers : ℕ) (h : List Event)
+    → ((done rest : List Operation) (op : Operation) → IsChanging text entries h done (op ∷ rest) → ⊥)
+    → IsChanged text entries h ⊎ (is_landed (last_or None h) ≡ true) → list_any is_end h ≡ false
+    → IsNext text entries workers h (Published false)
+next-published text entries workers h unchanging owed goes_on =
     record {
       opening = λ e. refl;
       lines_in_order = λ number e. cc;
@@ -175,9 +176,9 @@ next-published text script h unchanging owed goes_on =
 
 -- where no event is owed and all is done, the last version may be published
 pub next-last :
-    (text script : List ℕ) (h : List Event)
-    → IsFree text script h → IsDone text script h → IsNext text script h (Published true)
-next-last text script h free is_done =
+    (text : List ℕ) (entries : List (ℕ × Entry)) (workers : ℕ) (h : List Event)
+    → IsFree text entries h → IsDone text entries h → IsNext text entries workers h (Published true)
+next-last text entries workers h free is_done =
     record {
       opening = λ e. absurd (free.begun e);
       lines_in_order = λ number e. cc;
@@ -199,12 +200,12 @@ next-last text script h free is_done =
 
 -- where no event is owed, all stands wrapped and no line waits, the next line may be handled
 pub next-line-event :
-    (text script : List ℕ) (h : List Event) (number : ℕ)
-    → IsFree text script h → option_map (λ l. l.0) (next_line script h) ≡ Some number
-    → is_settled (after text h).present ≡ true
-    → list_any (waits (after text h)) (after text h).present.marks ≡ false
-    → IsNext text script h (Line number)
-next-line-event text script h number free line settled calm =
+    (text : List ℕ) (entries : List (ℕ × Entry)) (workers : ℕ) (h : List Event) (number : ℕ)
+    → IsFree text entries h → option_map (λ l. l.0) (next_entry entries h) ≡ Some number
+    → is_settled (state_of (history_of text h)).present ≡ true
+    → list_any (waits (state_of (history_of text h))) (state_of (history_of text h)).present.marks ≡ false
+    → IsNext text entries workers h (Line number)
+next-line-event text entries workers h number free line settled calm =
     record {
       opening = λ e. absurd (free.begun e);
       lines_in_order = λ n e. line ∙ ap Some (line-same number n e);
@@ -225,39 +226,39 @@ next-line-event text script h number free line settled calm =
     }
 
 -- what is known behind the line of an accepted change and some of its operations
-module _ (text script : List ℕ) (past : List Event) (number : ℕ) (parts : ChangeParts) where
+module _ (text : List ℕ) (entries : List (ℕ × Entry)) (past : List Event) (number : ℕ) (command : Command) where
   same-rest :
       (done done' rest rest' : List Operation)
-      → next_verdict text script past ≡ Some (Accepted (Apply parts)) → operations_in parts ≡ done ++ rest
-      → IsChanging text script (past ++ (Line number ∷ dids done)) done' rest' → rest ≡ rest'
+      → next_verdict text entries past ≡ Some (Accepted command) → ops_of command ≡ done ++ rest
+      → IsChanging text entries (past ++ (Line number ∷ dids done)) done' rest' → rest ≡ rest'
   same-rest done done' rest rest' accepted operations c =
       let same = same-end past c.past number c.number done done' c.ends in
       let pasts : past ≡ c.past = same.past in
       let dones : done ≡ done' = same.done in
-      let verdicts : Some (Accepted (Apply parts)) ≡ Some (Accepted (Apply c.parts)) =
-      sym accepted ∙ (ap (next_verdict text script) pasts ∙ c.accepted) in
-      let batches : done ++ rest ≡ done' ++ rest' = sym operations ∙ (ap operations_in (change-same parts c.parts verdicts) ∙ c.operations) in
+      let verdicts : Some (Accepted command) ≡ Some (Accepted c.command) =
+      sym accepted ∙ (ap (next_verdict text entries) pasts ∙ c.accepted) in
+      let batches : done ++ rest ≡ done' ++ rest' = sym operations ∙ (ap ops_of (accepted-same command c.command verdicts) ∙ c.operations) in
       let aligned : done ++ rest ≡ done ++ rest' = batches ∙ ap (λ d. d ++ rest') (sym dones) in
       append-same done rest rest' aligned
 
   pub not-done :
       (done rest : List Operation) (op : Operation)
-      → next_verdict text script past ≡ Some (Accepted (Apply parts)) → operations_in parts ≡ done ++ (op ∷ rest)
-      → IsChanged text script (past ++ (Line number ∷ dids done)) → ⊥
+      → next_verdict text entries past ≡ Some (Accepted command) → ops_of command ≡ done ++ (op ∷ rest)
+      → IsChanged text entries (past ++ (Line number ∷ dids done)) → ⊥
   not-done done rest op accepted operations c =
       let e : (op ∷ rest) ≡ [] = same-rest done (c.0 ∷ c.1) (op ∷ rest) [] accepted operations c.2 in cc
 
   pub all-done :
       (done rest : List Operation) (op : Operation) (done' : List Operation)
-      → next_verdict text script past ≡ Some (Accepted (Apply parts)) → operations_in parts ≡ done
-      → IsChanging text script (past ++ (Line number ∷ dids done)) done' (op ∷ rest) → ⊥
+      → next_verdict text entries past ≡ Some (Accepted command) → ops_of command ≡ done
+      → IsChanging text entries (past ++ (Line number ∷ dids done)) done' (op ∷ rest) → ⊥
   all-done done rest op done' accepted operations c =
       let e : [] ≡ (op ∷ rest) = same-rest done done' [] (op ∷ rest) accepted (operations ∙ sym (append-nil done)) c in cc
 
   only-op :
       (done done' rest rest' : List Operation) (op op' : Operation)
-      → next_verdict text script past ≡ Some (Accepted (Apply parts)) → operations_in parts ≡ done ++ (op ∷ rest)
-      → IsChanging text script (past ++ (Line number ∷ dids done)) done' (op' ∷ rest') → Did op ≡ Did op'
+      → next_verdict text entries past ≡ Some (Accepted command) → ops_of command ≡ done ++ (op ∷ rest)
+      → IsChanging text entries (past ++ (Line number ∷ dids done)) done' (op' ∷ rest') → Did op ≡ Did op'
   only-op done done' rest rest' op op' accepted operations c =
       let e : (op ∷ rest) ≡ (op' ∷ rest') = same-rest done done' (op ∷ rest) (op' ∷ rest') accepted operations c in
       let it : op ≡ op' = cc in ap (λ o. Did o) it
@@ -274,18 +275,18 @@ module _ (text script : List ℕ) (past : List Event) (number : ℕ) (parts : Ch
   unlanded done = unlanded-behind None past done
 
   pub next-did :
-      (done rest : List Operation) (op : Operation)
-      → next_verdict text script past ≡ Some (Accepted (Apply parts)) → operations_in parts ≡ done ++ (op ∷ rest)
+      (workers : ℕ) (done rest : List Operation) (op : Operation)
+      → next_verdict text entries past ≡ Some (Accepted command) → ops_of command ≡ done ++ (op ∷ rest)
       → list_any is_end (past ++ (Line number ∷ dids done)) ≡ false
-      → IsNext text script (past ++ (Line number ∷ dids done)) (Did op)
-  next-did done rest op accepted operations goes_on =
+      → IsNext text entries workers (past ++ (Line number ∷ dids done)) (Did op)
+  next-did workers done rest op accepted operations goes_on =
       record {
         opening = λ e. absurd (end-not-empty past (Line number) (dids done) e);
         lines_in_order = λ n e. cc;
         changes = record {
           goes_on = λ done' rest' op' c. only-op done done' rest rest' op op' accepted operations c;
           publishes = λ c. absurd (not-done done rest op accepted operations c);
-          only = λ op' e. (done, rest, record { past = past; number = number; parts = parts; ends = refl; accepted = accepted; operations = operations ∙ ap (λ o. done ++ (o ∷ rest)) (did-same op op' e) });
+          only = λ op' e. (done, rest, record { past = past; number = number; command = command; ends = refl; accepted = accepted; operations = operations ∙ ap (λ o. done ++ (o ∷ rest)) (did-same op op' e) });
         };
         landings = record {
           publishes = λ e. absurd (true≢false (sym e ∙ unlanded done));

@@ -1,64 +1,64 @@
 -- A run from its first version to its last.
-use Rattle.std.proofs.Common.{◌≡◌, ℕ, zero, suc, ◌+◌, ◌<◌, ◌≤◌, inl, inr, Bool, true, false, not, cond, List, [], ◌∷◌, ◌++◌, map, length, take, drop, get_or, Option, Some, None, Result, Ok, Err, refl, sym, ap, ◌∙◌, subst, arith}
+use Rattle.std.proofs.Common.{◌≡◌, ℕ, zero, suc, ◌+◌, ◌<◌, ◌≤◌, inl, inr, Bool, true, false, not, cond, List, [], ◌∷◌, ◌++◌, map, length, take, drop, get_or, Some, None, Result, Ok, Err, refl, sym, ap, ◌∙◌, subst, arith}
 use Rattle.std.specs.Prelude.{◌||◌, ◌==◌, nat_lt}
 use Rattle.std.specs.Result.{IsErrAnd}
-use Rattle.std.specs.List.{filter, position, position_or_len, prefix_len}
+use Rattle.std.specs.List.{enumerate_from, filter, position, position_or_len, prefix_len}
 use Rattle.std.proofs.lemmas.Bool.{ltb-false, eqb-true}
 use Rattle.std.proofs.lemmas.List.Sums.{prefix_len_passes}
 use Rattle.cell_units.specs.Text.{is_feed}
 use Rattle.cell_units.specs.Cutting.{cut_lines, onto_line}
-use Rattle.display_map.specs.Events.{Event, Published}
-use Rattle.display_map.specs.Faults.{event_limit}
-use Rattle.display_cli.specs.Ended.{IsFull}
+use Rattle.display_map.specs.Events.{Event}
+use Rattle.display_map.specs.Events.{Published}
 use Rattle.display_map.specs.Replay.{History, replayed, state_of, appended}
+use Rattle.edit_script.specs.declared.asked.Form.{Form}
 use Rattle.edit_script.specs.Verdict.{is_blank}
 use Rattle.display_cli.specs.declared.stop.Stop.{Stop}
 use Rattle.display_cli.specs.declared.stop.Stop.TheVariants as stops
-use Rattle.display_cli.specs.Outside.{Appends}
-use Rattle.display_cli.specs.Legal.{AtEach, Opens, TakesNextLine, DoesChanges, PublishesLandings, Sends, LandsOnce, AnswersSettled, KeepsBusy, Ends, IsLegalSoFar, IsDone, script_lines, numbered_lines, lines_in}
-use Rattle.display_cli.specs.Going.{Course, IsGoing, IsCut, IsCalm, IsWhy, IsUnbegun, AreOver, IsHandled, IsPlayed, HasEnded, course_of, numbered_from}
+use Rattle.display_cli.specs.Entries.{Entry, Bytes, script_lines, numbered_from}
+use Rattle.display_cli.specs.Outside.{SinkState, Takes}
+use Rattle.display_cli.specs.Output.{any_refused}
+use Rattle.display_cli.specs.Legal.{AtEach, Opens, TakesNextLine, DoesChanges, PublishesLandings, Sends, LandsOnce, AnswersSettled, KeepsBusy, Ends, IsLegalSoFar, IsDone, lines_in}
+use Rattle.display_cli.specs.Ended.{Course, IsFinished}
+use Rattle.display_cli.specs.inside.Going as going
+use Rattle.display_cli.specs.inside.Going.{Stage, at, IsGoing, IsCut, IsReady, IsCalm, AreOver, IsPlayed, HasEnded}
 use Rattle.display_cli.proofs.Snoc.{quiet-append, last-snoc}
 use Rattle.display_cli.proofs.Next.{legal-snoc, free-snoc, next-opening, next-last}
 use Rattle.display_cli.proofs.Rounds.{all-settled, none-outstanding}
-use Rattle.display_cli.proofs.Fronts.{appends-none, why-later}
-use Rattle.display_cli.proofs.Lines.{over-jobless, none-left}
+use Rattle.display_cli.proofs.Fronts.{takes-none}
+use Rattle.display_cli.proofs.Ready.{over-jobless}
+use Rattle.display_cli.proofs.GoingOn.{output-unwatched}
+use Rattle.display_cli.proofs.Lines.{none-left}
 
-numbered-step : (number : ℕ) (line : List ℕ) (lines : List (List ℕ)) (b : Bool) → is_blank line ≡ b
-    → numbered_from number (line ∷ lines) ≡ cond (not b) ((number, line) ∷ numbered_from (number + 1) lines) (numbered_from (number + 1) lines)
-numbered-step number line lines b e =
-    ap (λ b. cond (not b) ((number, line) ∷ numbered_from (number + 1) lines) (numbered_from (number + 1) lines)) e
+numbered-step : (form : Form) (number : ℕ) (line : List ℕ) (lines : List (List ℕ)) (b : Bool) → is_blank line ≡ b
+    → numbered_from form number (line ∷ lines)
+    ≡ cond (not b) ((number, Bytes form line) ∷ numbered_from form (number + 1) lines) (numbered_from form (number + 1) lines)
+numbered-step form number line lines b e =
+    ap (λ b. map {B = ℕ × Entry} (λ l. (l.0, Bytes form l.1)) (cond (not b) ((number, line) ∷ rest) rest)) e ∙ either b
+  where
+    rest : List (ℕ × List ℕ)
+    rest = filter (λ l. not (is_blank l.1)) (enumerate_from (number + 1) lines)
+
+    either : (b : Bool) → map {B = ℕ × Entry} (λ l. (l.0, Bytes form l.1)) (cond (not b) ((number, line) ∷ rest) rest)
+        ≡ cond (not b) ((number, Bytes form line) ∷ map {B = ℕ × Entry} (λ l. (l.0, Bytes form l.1)) rest) (map {B = ℕ × Entry} (λ l. (l.0, Bytes form l.1)) rest)
+    either true = refl
+    either false = refl
 
 or-none : (a : Bool) → (a || false) ≡ a
 or-none true = refl
 or-none false = refl
 
-module _ (course : Course) (number : ℕ) (line : List ℕ) (lines : List (List ℕ)) (refused : Bool) (taken : Option (List ℕ)) (h : History)
-    (going : IsGoing course (numbered_from number (line ∷ lines)) refused taken h) where
-  pub over-blank : is_blank line ≡ true → IsGoing course (numbered_from (number + 1) lines) (refused || false) taken h
+module _ (course : Course) (form : Form) (number : ℕ) (line : List ℕ) (lines : List (List ℕ)) (refused : Bool) (s : Stage)
+    (going : IsGoing course (numbered_from form number (line ∷ lines)) refused s) where
+  pub over-blank : is_blank line ≡ true → IsGoing course (numbered_from form (number + 1) lines) (refused || false) s
   over-blank e =
-      let P : List (ℕ × List ℕ) → Type 0 = λ left. IsGoing course left refused taken h in
-      let Q : Bool → Type 0 = λ b. IsGoing course (numbered_from (number + 1) lines) b taken h in
-      subst Q (sym (or-none refused)) (subst P (numbered-step number line lines true e) going)
+      let P : List (ℕ × Entry) → Type 0 = λ left. IsGoing course left refused s in
+      let Q : Bool → Type 0 = λ b. IsGoing course (numbered_from form (number + 1) lines) b s in
+      subst Q (sym (or-none refused)) (subst P (numbered-step form number line lines true e) going)
 
-  pub at-line : is_blank line ≡ false → IsGoing course ((number, line) ∷ numbered_from (number + 1) lines) refused taken h
+  pub at-line : is_blank line ≡ false → IsGoing course ((number, Bytes form line) ∷ numbered_from form (number + 1) lines) refused s
   at-line e =
-      let P : List (ℕ × List ℕ) → Type 0 = λ left. IsGoing course left refused taken h in
-      subst P (numbered-step number line lines false e) going
-
--- what is said of a later part of a run is said of the whole
-pub handled-later : (course : Course) (left left' : List (ℕ × List ℕ)) (refused refused' : Bool) (a b c : ℕ) (taken : Option (List ℕ)) (h : History) (r r' : Result Bool Stop) (stop : Stop)
-    → r ≡ Err stop → IsErrAnd r' (λ e. e ≡ stop) → a ≤ b → IsHandled course left refused b c taken h r → IsHandled course left' refused' a c taken h r'
-handled-later course left left' refused refused' a b c taken h r (Ok now) stop e e' le it = absurd e'
-handled-later course left left' refused refused' a b c taken h r (Err other) stop e e' le it =
-    let P : Result Bool Stop → Type 0 = IsHandled course left refused b c taken h in
-    let here = subst P e it in
-    let Q : Stop → Type 0 = λ s. IsCut course taken h × IsWhy course.script a c h.events s in
-    subst Q (sym e') (here.0, why-later course.script a b c h.events stop le here.1)
-
-pub handled-ok : (course : Course) (left : List (ℕ × List ℕ)) (refused : Bool) (a b : ℕ) (taken : Option (List ℕ)) (h : History) (r : Result Bool Stop) (now : Bool)
-    → r ≡ Ok now → IsHandled course left refused a b taken h r → IsGoing course left (refused || now) taken h
-handled-ok course left refused a b taken h r now e it =
-    let P : Result Bool Stop → Type 0 = IsHandled course left refused a b taken h in subst P e it
+      let P : List (ℕ × Entry) → Type 0 = λ left. IsGoing course left refused s in
+      subst P (numbered-step form number line lines false e) going
 
 -- the lines of a script, cut at the first line feed
 onto-lines : (x : ℕ) (cut : List (List ℕ)) (a : List ℕ) (more : List (List ℕ)) → is_feed x ≡ false
@@ -129,80 +129,85 @@ none-each : (P : List Event → Event → Type 0) → AtEach P []
 none-each P k e at = cc
 
 -- nothing happened yet
-none-legal : (text script : List ℕ) → IsLegalSoFar text script 1 []
-none-legal text script =
+none-legal : (text : List ℕ) (entries : List (ℕ × Entry)) (workers : ℕ) → IsLegalSoFar text entries workers []
+none-legal text entries workers =
     record {
       opening = none-each Opens;
-      lines_in_order = none-each (TakesNextLine script);
-      changes = none-each (DoesChanges text script);
-      landings = none-each (PublishesLandings text script);
-      sends = none-each (Sends text 1);
+      lines_in_order = none-each (TakesNextLine entries);
+      changes = none-each (DoesChanges text entries);
+      landings = none-each (PublishesLandings text entries);
+      sends = none-each (Sends text workers);
       once = none-each (LandsOnce text);
-      settled = none-each (AnswersSettled text script);
-      busy = none-each (KeepsBusy text 1);
-      ending = none-each (Ends text script);
+      settled = none-each (AnswersSettled text entries);
+      busy = none-each (KeepsBusy text workers);
+      ending = none-each (Ends text entries);
     }
 
-module _ (h : History) (script : List ℕ) (before : Option (List ℕ)) (fresh : h.events ≡ []) where
-  pub going-fresh : IsGoing (course_of h script before) (numbered_from 1 (script_lines script)) false before (appended h (Published false ∷ []))
-  going-fresh =
-      let P : List Event → Type 0 = λ events. IsGoing (course_of h script before) (numbered_from 1 (script_lines script)) false before
-      (record { opening = h.opening; events = events ++ Published false ∷ [] }) in
+module _ (h : History) (fresh : h.events ≡ []) where
+  pub going-fresh : (entries : List (ℕ × Entry)) (workers : ℕ) (sink : SinkState) → 1 ≤ workers
+      → IsGoing (record { text = h.opening; entries = entries; workers = workers; sink = sink }) entries false (at (appended h (Published false ∷ [])) sink)
+  going-fresh entries workers sink some_worker =
+      let P : List Event → Type 0 = λ events. IsGoing (record { text = h.opening; entries = entries; workers = workers; sink = sink }) entries false
+      (at (record { opening = h.opening; events = events ++ Published false ∷ [] }) sink) in
       subst P (sym fresh) (record {
+        some_worker = some_worker;
         opening = refl;
-        legal = legal-snoc h.opening script [] (Published false) (none-legal h.opening script) (next-opening h.opening script);
-        free = free-snoc h.opening script [] (Published false) refl refl refl refl;
+        legal = legal-snoc h.opening entries workers [] (Published false) (none-legal h.opening entries workers) (next-opening h.opening entries workers);
+        free = free-snoc h.opening entries [] (Published false) refl refl refl refl;
         lines = refl;
-        written = appends-none before;
+        written = takes-none sink;
         refusals = refl;
       })
 
-  pub over-fresh : AreOver (state_of (appended h (Published false ∷ []))).jobs
+  pub ready-fresh : IsReady (appended h (Published false ∷ []))
   unfolding replayed
-  over-fresh =
-      let P : List Event → Type 0 = λ events. AreOver (state_of (record { opening = h.opening; events = events })).jobs in
-      over-jobless h (Published false ∷ []) refl (subst P (sym fresh) (none-over h.opening))
+  ready-fresh =
+      let P : List Event → Type 0 = λ events. IsReady (record { opening = h.opening; events = events ++ Published false ∷ [] }) in
+      subst P (sym fresh) (record { over = over-jobless (record { opening = h.opening; events = [] }) (Published false ∷ []) refl (none-over h.opening); published = omega arith })
     where
       none-over : (text : List ℕ) → AreOver (state_of (record { opening = text; events = [] })).jobs
       none-over text = refl
 
 -- the last version is published
-pub played : (course : Course) (refused : Bool) (taken : Option (List ℕ)) (h : History)
-    → IsGoing course [] refused taken h → IsCalm h → IsPlayed course refused taken (appended h (Published true ∷ []))
-played course refused taken h going calm =
-    let is_done : IsDone h.opening course.script h.events = record {
-      lines = none-left (numbered_lines course.script) (lines_in h.events) going.lines;
-      settled = all-settled (state_of h) calm.0 calm.1;
-      landed = none-outstanding (state_of h) calm.0;
+pub played : (course : Course) (refused : Bool) (s : Stage) → IsGoing course [] refused s → IsCalm s.history
+    → IsPlayed course refused (at (appended s.history (Published true ∷ [])) s.sink)
+played course refused s going calm status says =
+    let h : History = s.history in
+    let is_done : IsDone h.opening course.entries h.events = record {
+      lines = none-left course.entries (lines_in h.events) going.lines;
+      settled = all-settled (state_of h) calm.ready.over calm.none_waits;
+      landed = none-outstanding (state_of h) calm.ready.over;
     } in
-    let quiet = quiet-append h.opening course.script h.events (Published true ∷ []) refl in
-    let P : List ℕ → Type 0 = λ bytes. Appends course.before taken bytes in
-    record {
-      opening = going.opening;
+    let quiet = quiet-append h.opening course.entries h.events (Published true ∷ []) refl in
+    let W : List ℕ → Type 0 = λ bytes. Takes bytes course.sink s.sink in
+    let P : List ℕ → Type 0 = λ text. IsFinished (record { text = text; entries = course.entries; workers = course.workers; sink = course.sink })
+    (h.events ++ Published true ∷ []) s.sink [] status in
+    let same : any_refused h.opening course.entries (h.events ++ Published true ∷ []) ≡ refused = quiet.refused ∙ going.refusals in
+    subst P going.opening (record {
       legal = record {
-        so_far = legal-snoc h.opening course.script h.events (Published true) going.legal (next-last h.opening course.script h.events going.free is_done);
+        so_far = legal-snoc h.opening course.entries course.workers h.events (Published true) going.legal (next-last h.opening course.entries course.workers h.events going.free is_done);
         ends = last-snoc None h.events (Published true);
       };
-      written = subst P (sym quiet.output) going.written;
-      refusals = quiet.refused ∙ going.refusals;
-    }
-
--- a journal without room for three events has none for the next line
-pub full-anyway : (script : List ℕ) (events : List Event) → event_limit < length events + 3 + 0 → IsFull script events
-full-anyway script events more = omega arith
+      written = subst W (sym (output-unwatched h.opening course.entries (h.events ++ Published true ∷ []) ∙ quiet.answered)) going.written;
+      refusals = (λ e. same ∙ says.0 e, λ e. says.1 (sym same ∙ e));
+    })
 
 pub none-lines : (rest : List ℕ) → (length rest == 0) ≡ true → script_lines rest ≡ []
 none-lines [] e = refl
 none-lines (x ∷ rest) e = absurd (let no_length : suc (length rest) ≡ 0 = eqb-true (suc (length rest)) 0 e in omega arith)
 
-pub ended-err : (course : Course) (a b : ℕ) (taken : Option (List ℕ)) (h : History) (r : Result Bool Stop) (stop : Stop)
-    → IsErrAnd r (λ e. e ≡ stop) → IsCut course taken h × IsWhy course.script a b h.events stop → HasEnded course a b taken h r
-ended-err course a b taken h (Ok now) stop e it = absurd e
-ended-err course a b taken h (Err other) stop e it =
-    let P : Stop → Type 0 = λ s. HasEnded course a b taken h (Err s) in subst P (sym e) (inl it)
+pub ended-err : (course : Course) (s : Stage) (r : Result Bool Stop) (stop : Stop) → IsErrAnd r (λ e. e ≡ stop) → IsCut course s stop → HasEnded course s r
+ended-err course s (Ok now) stop e it = absurd e
+ended-err course s (Err other) stop e it = let P : Stop → Type 0 = λ stop. HasEnded course s (Err stop) in subst P (sym e) (inl it)
 
 -- there was no memory to begin
-pub ended-unbegun : (course : Course) (a b : ℕ) (taken : Option (List ℕ)) (h : History) (r : Result Bool Stop)
-    → IsErrAnd r (λ e. e ≡ stops.Memory) → IsUnbegun course taken h.events → HasEnded course a b taken h r
-ended-unbegun course a b taken h (Ok now) e it = absurd e
-ended-unbegun course a b taken h (Err other) e it = inr (e, it)
+pub ended-unbegun : (course : Course) (s : Stage) (r : Result Bool Stop) → IsErrAnd r (λ e. e ≡ stops.Memory)
+    → s.history.events ≡ [] → s.sink ≡ course.sink → HasEnded course s r
+ended-unbegun course s (Ok now) e none same = absurd e
+ended-unbegun course s (Err other) e none same = inr (e, none, same)
+
+pub ends-err : (old new : History) (r : Result (Unit {0}) Stop) (stop : Stop) → IsErrAnd r (λ e. e ≡ stop)
+    → ((course : Course) (refused : Bool) (sink : SinkState) → IsGoing course [] refused (at old sink) → IsCut course (at new sink) stop) → going.Ends old new r
+ends-err old new (Ok done) stop e it = absurd e
+ends-err old new (Err other) stop e it =
+    λ course refused sink going. (let P : Stop → Type 0 = λ s. IsCut course (at new sink) s in subst P (sym e) (it course refused sink going))

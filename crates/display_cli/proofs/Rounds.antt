@@ -10,10 +10,11 @@ use Rattle.std.proofs.Math.Seq.{drop-cons}
 use Rattle.cell_units.specs.declared.limits.TheConstants.{RUN_LIMIT}
 use Rattle.cell_line.specs.declared.lines.Run.{Run}
 use Rattle.cell_units.specs.Record.{Mark, Record}
-use Rattle.display_map.specs.Events.{Event, Sent, Landed}
+use Rattle.display_map.specs.Events.{Event}
+use Rattle.display_map.specs.Events.{Sent, Landed}
 use Rattle.display_map.specs.Replay.{SentJob, State, History, begun, happens, replayed, state_of, appended, waits, is_held, holds, stamps_of, wrapped_at, landed_on, landed_if, with_landed, job_numbered, run_from, first_waiting, next_run, is_settled}
 use Rattle.display_cli.specs.Legal.{IsSend, outstanding}
-use Rattle.display_cli.specs.Going.{is_over, AreOver, round}
+use Rattle.display_cli.specs.inside.Going.{is_over, AreOver, round}
 
 some-same : {X : Type 0} (x y : X) → Some x ≡ Some y → x ≡ y
 some-same x y e = cc
@@ -118,8 +119,8 @@ pub none-outstanding : (s : State) → AreOver s.jobs → outstanding s ≡ 0
 none-outstanding s over = count-over (length s.jobs) s.jobs over
 
 -- a run that may be sent
-pub send-next : (s : State) (run : Run) → AreOver s.jobs → IsNextRun s run → IsSend 1 s (length s.jobs + 1) run.first run.count
-send-next s run over next =
+pub send-next : (workers : ℕ) (s : State) (run : Run) → 1 ≤ workers → AreOver s.jobs → IsNextRun s run → IsSend workers s (length s.jobs + 1) run.first run.count
+send-next workers s run some_worker over next =
     let none : outstanding s ≡ 0 = none-outstanding s over in
     let e = next.count in
     let some : 1 ≤ run.count = count-some s run next in

@@ -1,12 +1,10 @@
+-- What the crate promises
 pub mod Outside
 pub mod Words
+pub mod Entries
 pub mod Legal
 pub mod Output
 pub mod Ended
-pub mod Reading
-pub mod Going
-pub mod Opening
-pub mod Named
 pub mod Notes
-pub mod Calls
-pub mod Telling
+-- What its parts say to each other
+pub mod inside

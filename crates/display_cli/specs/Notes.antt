@@ -7,7 +7,7 @@ use Rattle.display_cli.specs.declared.ended.Note.TheVariants.{Fine, Usage, ReadT
 -- what is said of a note that isn't fine
 abbrev pub message : Note → List ℕ
 message Fine = []
-message Usage = codes "displaymap: usage: displaymap TEXT SCRIPT"
+message Usage = codes "displaymap: usage: displaymap TEXT SCRIPT [--workers N] [--watch R]"
 message ReadText = codes "displaymap: cannot read the text"
 message ReadScript = codes "displaymap: cannot read the script"
 message Write = codes "displaymap: cannot write"

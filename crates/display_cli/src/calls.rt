@@ -1,6 +1,6 @@
 //! Calls of which some fail.
 ghost use Rattle.std.specs.Prelude.{◌≡◌};
-ghost use Rattle.display_cli.specs.Calls.{next_call, is_one_of};
+ghost use Rattle.display_cli.specs.inside.Calls.{is_failing, one_more};
 
 /// The calls that were made, and the numbers of those that fail. They are counted from 1.
 #[derive(Debug, Drop)]
@@ -20,8 +20,8 @@ impl Calls {
 
     /// Counts a call, and answers whether it fails.
     pub(crate) fn next_fails(&mut self) -> bool
-        ensures fails { result ≡ is_one_of self.old.failing.items self.new.made }
-        ensures counted { self.new ≡ record self.old { made = next_call self.old.made } }
+        ensures fails { result ≡ is_failing self.old self.new }
+        ensures counted { self.new ≡ one_more self.old }
     {
         self.made = self.made.saturating_add(1);
         self.failing.contains(&self.made)

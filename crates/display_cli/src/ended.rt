@@ -26,10 +26,24 @@ pub enum Note {
     Memory,
 }
 
-/// The end of a run.
+/// A version that a watcher saw: its number, and how many rows it has.
+#[derive(Clone, Copy, Debug, PartialEq, Eq)]
+pub struct Seen {
+    pub version: u64,
+    pub rows: u32,
+}
+
+/// What a watcher saw, in order.
+#[derive(Debug, Drop)]
+pub struct Watched {
+    pub seen: Vec<Seen>,
+}
+
+/// The end of a run: its status and why it has it, the history of its display, and what each watcher saw.
 #[derive(Drop)]
 pub struct Ended {
     pub status: u8,
     pub note: Note,
     pub history: Journal,
+    pub watched: Vec<Watched>,
 }

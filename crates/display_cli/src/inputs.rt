@@ -1,12 +1,14 @@
 //! Inputs: over names in memory, and over files.
-ghost use Rattle.std.specs.Prelude.{◌≡◌, ◌<◌, ◌≤◌, ◌⊎◌, true, false, ℕ, List, None, length, take, drop, min, IfOk, OnOk, OnErr, IfSome, IsSome};
+ghost use Rattle.std.specs.Prelude.{◌≡◌, ◌<◌, ◌≤◌, ◌⊎◌, true, false, ℕ, List, [], None, length, take, drop, min, IfOk, OnOk, OnErr, IfSome, IsSome};
 ghost use Rattle.std.specs.Option.{option_copied};
-ghost use Rattle.display_cli.specs.Calls.{next_call, is_one_of};
-ghost use Rattle.display_cli.specs.Named.{bytes_named, bytes_or_none, faults_in};
-ghost use Rattle.display_cli.specs.Outside.{Faults, HasRisen, faults_of, no_faults, other};
+ghost use Rattle.display_cli.specs.inside.Calls.{is_failing, one_more};
+ghost use Rattle.display_cli.specs.inside.Named.{IsMost, bytes_named, bytes_or_none, faults_in, map_state, told_by};
+ghost use Rattle.display_cli.specs.inside.Telling.{reads_told};
+ghost use Rattle.display_cli.specs.Outside.{Faults, HasPartRisen, IsGiven, Reads, count_of, no_faults};
 
 use crate::calls::Calls;
 use crate::outside::{Failed, Inputs, Part};
+use crate::told::ReadsTold;
 use cell_units::Text;
 use std::fs;
 use std::io::Read;
@@ -28,15 +30,23 @@ impl FaultCounts {
 
     /// Counts a fault of the part.
     fn count(&mut self, part: Part) -> Failed
-        ensures risen { HasRisen (faults_of (faults_in self.old) part) (faults_of (faults_in self.new) part) }
-        ensures not_fallen { faults_of (faults_in self.old) part ≤ faults_of (faults_in self.new) part }
-        ensures stays { faults_of (faults_in self.new) (other part) ≡ faults_of (faults_in self.old) (other part) }
+        ensures { HasPartRisen part (faults_in self.old) (faults_in self.new) }
     {
         match part {
             Part::Text => self.text = self.text.saturating_add(1),
             Part::Script => self.script = self.script.saturating_add(1),
         }
         Failed
+    }
+}
+
+/// How many bytes a read gave.
+fn count_of(read: Result<usize, Failed>) -> u64
+    ensures { result ≡ count_of read }
+{
+    match read {
+        Ok(count) => count as u64,
+        Err(_) => 0,
     }
 }
 
@@ -72,11 +82,12 @@ fn copy_from(bytes: &[u8], at: u64, room: &mut [u8]) -> usize
 }
 
 /// Inputs in memory, of which the calls of some numbers fail. Calls are counted from 1.
-#[derive(Debug, Drop)]
+#[derive(Drop)]
 pub struct MapInputs {
     files: Vec<NamedBytes>,
     calls: Calls,
     faults: FaultCounts,
+    reads: ReadsTold,
 }
 
 impl MapInputs {
@@ -86,36 +97,39 @@ impl MapInputs {
         ensures failing { result.calls.failing ≡ failing }
         ensures made { result.calls.made ≡ 0 }
         ensures faults { faults_in result.faults ≡ no_faults }
+        ensures reads { reads_told result.reads ≡ [] }
     {
         MapInputs {
             files,
             calls: Calls::new(failing),
             faults: FaultCounts::none(),
+            reads: ReadsTold::Nothing,
         }
     }
-}
 
-impl Inputs for MapInputs {
-    ghost faults = { λ s. faults_in s.faults };
-
-    ghost told = { λ s name. bytes_named s.files.items name };
-
-    /// Fails exactly where the call's number is one of those that fail, or where the name isn't there, and else reads as many
-    /// bytes as there are and fit.
-    fn read(&mut self, part: Part, name: &str, at: u64, room: &mut [u8]) -> Result<usize, Failed>
+    /// Reads as `read` does, but records no read.
+    fn read_named(
+        &mut self,
+        part: Part,
+        name: &str,
+        at: u64,
+        room: &mut [u8],
+    ) -> Result<usize, Failed>
         ensures within { IfOk result (λ n. n ≤ length room.old) }
-        ensures bytes { IfOk result (λ n. IfSome (bytes_named self.old.files.items name.now) (λ bytes. take n room.new ≡ take n (drop at bytes))) }
-        ensures all { IfOk result (λ n. IfSome (bytes_named self.old.files.items name.now) (λ bytes. n ≤ length (drop at bytes))) }
-        ensures some { IfOk result (λ n. IfSome (bytes_named self.old.files.items name.now) (λ bytes. at < length bytes → 0 < length room.old → 1 ≤ n)) }
-        ensures tells { (any : List ℕ) → bytes_named self.new.files.items any ≡ bytes_named self.old.files.items any }
-        ensures failed { OnErr result (HasRisen (faults_of (faults_in self.old.faults) part) (faults_of (faults_in self.new.faults) part)) }
-        ensures rises { faults_of (faults_in self.old.faults) part ≤ faults_of (faults_in self.new.faults) part }
-        ensures stays { faults_of (faults_in self.new.faults) (other part) ≡ faults_of (faults_in self.old.faults) (other part) }
-        ensures most { IfOk result (λ n. IfSome (bytes_named self.old.files.items name.now) (λ bytes. n ≡ min (length room.old) (length (drop at bytes)))) }
-        ensures there { OnOk result (IsSome (bytes_named self.old.files.items name.now)) }
-        ensures passes { OnOk result (is_one_of self.old.calls.failing.items self.new.calls.made ≡ false) }
-        ensures fails { OnErr result ((is_one_of self.old.calls.failing.items self.new.calls.made ≡ true) ⊎ (bytes_named self.old.files.items name.now ≡ None)) }
-        ensures counted { self.new.calls ≡ record self.old.calls { made = next_call self.old.calls.made } }
+        ensures given { IfOk result
+            (λ n. IfSome (told_by self.old name.now) (IsGiven at room.old room.new n)) }
+        ensures most { IfOk result
+            (λ n. IfSome (told_by self.old name.now) (IsMost at room.old n)) }
+        ensures there { OnOk result (IsSome (told_by self.old name.now)) }
+        ensures passes { OnOk result (is_failing self.old.calls self.new.calls ≡ false) }
+        ensures passed { OnOk result (faults_in self.new.faults ≡ faults_in self.old.faults) }
+        ensures fails { OnErr result ((is_failing self.old.calls self.new.calls ≡ true)
+            ⊎ (told_by self.old name.now ≡ None)) }
+        ensures failed { OnErr result
+            (HasPartRisen part (faults_in self.old.faults) (faults_in self.new.faults)) }
+        ensures counted { self.new.calls ≡ one_more self.old.calls }
+        ensures files { self.new.files ≡ self.old.files }
+        ensures reads { reads_told self.new.reads ≡ reads_told self.old.reads }
     {
         if self.calls.next_fails() {
             return Err(self.faults.count(part));
@@ -127,33 +141,64 @@ impl Inputs for MapInputs {
     }
 }
 
+impl Inputs for MapInputs {
+    ghost state = { λ s. map_state s };
+
+    /// Fails exactly where the call's number is one of those that fail, or where the name isn't there, and else reads as many
+    /// bytes as there are and fit.
+    fn read(&mut self, part: Part, name: &str, at: u64, room: &mut [u8]) -> Result<usize, Failed>
+        ensures within { IfOk result (λ n. n ≤ length room.old) }
+        ensures given { IfOk result (λ n. IfSome ((map_state self.old).told name.now)
+            (IsGiven at room.old room.new n)) }
+        ensures reads { Reads part name.now at result (map_state self.old) (map_state self.new) }
+
+        // All that is there and fits is read, where the call and the name don't fail.
+        ensures most { IfOk result
+            (λ n. IfSome (told_by self.old name.now) (IsMost at room.old n)) }
+        ensures there { OnOk result (IsSome (told_by self.old name.now)) }
+        ensures passes { OnOk result (is_failing self.old.calls self.new.calls ≡ false) }
+        ensures fails { OnErr result ((is_failing self.old.calls self.new.calls ≡ true)
+            ⊎ (told_by self.old name.now ≡ None)) }
+        ensures counted { self.new.calls ≡ one_more self.old.calls }
+    {
+        let read = self.read_named(part, name, at, room);
+        self.reads.push(part, name, at, count_of(read));
+        read
+    }
+}
+
 /// Inputs in memory that never fail. A name that isn't there is empty.
-#[derive(Debug, Drop)]
+#[derive(Drop)]
 pub struct SureInputs {
     files: Vec<NamedBytes>,
+    reads: ReadsTold,
 }
 
 impl SureInputs {
     /// Inputs of these files.
     pub fn new(files: Vec<NamedBytes>) -> SureInputs
-        ensures { result.files ≡ files }
+        ensures files { result.files ≡ files }
+        ensures reads { reads_told result.reads ≡ [] }
     {
-        SureInputs { files }
+        SureInputs {
+            files,
+            reads: ReadsTold::Nothing,
+        }
     }
 }
 
 impl Inputs for SureInputs {
     ghost use Rattle.std.specs.Prelude.{Some};
 
-    ghost faults = { λ _. no_faults };
+    ghost state = { λ s. record { told = λ name. Some (bytes_or_none s.files.items name); faults = no_faults; reads = reads_told s.reads } };
 
-    ghost told = { λ s name. Some (bytes_or_none s.files.items name) };
-
-    fn read(&mut self, _part: Part, name: &str, at: u64, room: &mut [u8]) -> Result<usize, Failed> {
-        match find_bytes(self.files.as_slice(), name) {
-            Some(bytes) => Ok(copy_from(bytes, at, room)),
-            None => Ok(0),
-        }
+    fn read(&mut self, part: Part, name: &str, at: u64, room: &mut [u8]) -> Result<usize, Failed> {
+        let count = match find_bytes(self.files.as_slice(), name) {
+            Some(bytes) => copy_from(bytes, at, room),
+            None => 0,
+        };
+        self.reads.push(part, name, at, count as u64);
+        Ok(count)
     }
 }
 
@@ -171,6 +216,7 @@ pub struct FileInputs<'a, R: Files> {
     files: &'a R,
     opened: Option<Opened<R::File>>,
     faults: FaultCounts,
+    reads: ReadsTold,
 }
 
 impl<'a, R: Files> FileInputs<'a, R> {
@@ -178,11 +224,13 @@ impl<'a, R: Files> FileInputs<'a, R> {
     pub fn new(files: &'a R) -> FileInputs<'a, R>
         ensures opened { result.opened ≡ None }
         ensures faults { faults_in result.faults ≡ no_faults }
+        ensures reads { reads_told result.reads ≡ [] }
     {
         FileInputs {
             files,
             opened: None,
             faults: FaultCounts::none(),
+            reads: ReadsTold::Nothing,
         }
     }
 }
@@ -217,14 +265,18 @@ fn read_opened<R: Files>(
 impl<'a, R: Files> Inputs for FileInputs<'a, R> {
     ghost use Rattle.std.specs.Prelude.{None};
 
-    ghost faults = { λ s. faults_in s.faults };
-
-    ghost told = { λ _ _. None };
+    ghost state = { λ s. record { told = λ _. None; faults = faults_in s.faults; reads = reads_told s.reads } };
 
     fn read(&mut self, part: Part, name: &str, at: u64, room: &mut [u8]) -> Result<usize, Failed> {
         match read_opened(&mut self.opened, self.files, part, name, at, room) {
-            Some(count) => Ok(count),
-            None => Err(self.faults.count(part)),
+            Some(count) => {
+                self.reads.push(part, name, at, count as u64);
+                Ok(count)
+            }
+            None => {
+                self.reads.push(part, name, at, 0);
+                Err(self.faults.count(part))
+            }
         }
     }
 }

@@ -1,17 +1,17 @@
 //! The program `displaymap`: it runs a script on a text and prints the rows that the script asks for.
 //!
-//! `run` carries the headline theorem. `main` gives it the real files and the standard output, says on standard error why a
-//! run ended before its script did, and ends with the run's status.
+//! `run` carries the headline theorem, and `program` ties the exit status and what is said to it. `main` gives `program`
+//! the real files, the standard output and standard error.
 #![tactic(auto)]
 
 mod calls;
 mod ended;
 mod inputs;
 mod outside;
-mod owner;
 mod read;
+mod runner;
 mod say;
-mod script;
+mod settling;
 mod sinks;
 mod stop;
 mod told;
@@ -19,11 +19,9 @@ mod top;
 mod words;
 mod write;
 
-use crate::ended::Note;
 use crate::inputs::FileInputs;
-use crate::say::say;
 use crate::sinks::StreamSink;
-use crate::top::run;
+use crate::top::{give_up, program};
 use std::env::Env;
 use std::process::ExitCode;
 use std::{env, io};
@@ -37,16 +35,17 @@ fn given_words(rt: &(impl Env + AllocGlobal)) -> io::Result<Vec<String>> {
 }
 
 fn main(rt: HostRuntime) -> ExitCode {
-    let (status, note) = match given_words(&rt) {
-        Ok(words) => {
-            let mut inputs = FileInputs::new(&rt);
-            let mut out = StreamSink::new(rt.stdout());
-            let ended = run(rt.alloc(), words.as_slice(), &mut inputs, &mut out);
-            (ended.status, ended.note)
-        }
-        Err(_) => (6, Note::Memory),
+    let mut err = StreamSink::new(rt.stderr());
+    let Ok(words) = given_words(&rt) else {
+        return ExitCode::from(give_up(&mut err));
     };
-    // Where standard error fails too, there is nobody to tell.
-    let _ = say(&note, &mut StreamSink::new(rt.stderr()));
-    ExitCode::from(status)
+    let mut inputs = FileInputs::new(&rt);
+    let mut out = StreamSink::new(rt.stdout());
+    ExitCode::from(program(
+        rt.alloc(),
+        words.as_slice(),
+        &mut inputs,
+        &mut out,
+        &mut err,
+    ))
 }

@@ -1,7 +1,7 @@
 //! Reading the text and the script.
 ghost use Rattle.std.specs.Prelude.{◌≡◌, ◌+◌, ◌<◌, ◌≤◌, ◌^◌, ℕ, List, length, take, IfOk, OnOk, IfErr, OnErr, IfSome};
-ghost use Rattle.display_cli.specs.Outside.{Faults, faults_of, other, HasRisen, AreTold};
-ghost use Rattle.display_cli.specs.Reading.{HasFront, IsWholeWithin, IsUnread};
+ghost use Rattle.display_cli.specs.Outside.{AreTold};
+ghost use Rattle.display_cli.specs.inside.Reading.{HasFront, IsWholeWithin, IsUnread, ReadsOnce, ReadsName};
 
 use crate::outside::{Failed, Inputs, Part};
 use cell_units::NoMemory;
@@ -62,15 +62,17 @@ fn read_more<I: Inputs>(
     requires some { 0 < length room.old }
     requires within { length bytes.old.items ≤ limit }
     requires limit { limit < 2 ^ 32 }
-    requires front { HasFront (I.told inputs.old name.now) bytes.old.items }
+    requires front { HasFront ((I.state inputs.old).told name.now) bytes.old.items }
     ensures grows { IfOk result (λ n. length bytes.new.items ≡ length bytes.old.items + n) }
     ensures within { OnOk result (length bytes.new.items ≤ limit + 1) }
-    ensures front { OnOk result (HasFront (I.told inputs.old name.now) bytes.new.items) }
-    ensures end { IfOk result (λ n. n ≡ 0 → AreTold (I.told inputs.old name.now) bytes.new.items) }
-    ensures failed { IfErr result (IsUnread (I.told inputs.old name.now) limit (faults_of (I.faults inputs.old) part) (faults_of (I.faults inputs.new) part)) }
-    ensures rises { faults_of (I.faults inputs.old) part ≤ faults_of (I.faults inputs.new) part }
-    ensures tells { (other_name : List ℕ) → I.told inputs.new other_name ≡ I.told inputs.old other_name }
-    ensures stays { faults_of (I.faults inputs.new) (other part) ≡ faults_of (I.faults inputs.old) (other part) }
+    ensures front { OnOk result (HasFront ((I.state inputs.old).told name.now) bytes.new.items) }
+    ensures end { IfOk result
+        (λ n. n ≡ 0 → AreTold ((I.state inputs.old).told name.now) bytes.new.items) }
+    ensures passed { OnOk result ((I.state inputs.new).faults ≡ (I.state inputs.old).faults) }
+    ensures failed { IfErr result (IsUnread part ((I.state inputs.old).told name.now) limit
+        (I.state inputs.old).faults (I.state inputs.new).faults) }
+    ensures reads { ReadsOnce part name.now (length bytes.old.items) result
+        (I.state inputs.old) (I.state inputs.new) }
 {
     let asked = (limit + 1 - bytes.len()).min(room.len());
     let count = inputs.read(part, name, bytes.len() as u64, &mut room[..asked])?;
@@ -87,10 +89,12 @@ pub(crate) fn read_whole<I: Inputs>(
     limit: usize,
 ) -> Result<Vec<u8>, Unread>
     requires { limit < 2 ^ 32 }
-    ensures whole { IfOk result (λ bytes. IsWholeWithin (I.told inputs.old name.now) limit bytes.items) }
-    ensures failed { IfErr result (IsUnread (I.told inputs.old name.now) limit (faults_of (I.faults inputs.old) part) (faults_of (I.faults inputs.new) part)) }
-    ensures tells { (other_name : List ℕ) → I.told inputs.new other_name ≡ I.told inputs.old other_name }
-    ensures stays { faults_of (I.faults inputs.new) (other part) ≡ faults_of (I.faults inputs.old) (other part) }
+    ensures whole { IfOk result
+        (λ bytes. IsWholeWithin ((I.state inputs.old).told name.now) limit bytes.items) }
+    ensures passed { OnOk result ((I.state inputs.new).faults ≡ (I.state inputs.old).faults) }
+    ensures failed { IfErr result (IsUnread part ((I.state inputs.old).told name.now) limit
+        (I.state inputs.old).faults (I.state inputs.new).faults) }
+    ensures reads { ReadsName part name.now (I.state inputs.old) (I.state inputs.new) }
 {
     let mut room = zeros(alloc, PIECE)?;
     let mut bytes = Vec::new(alloc);

@@ -1,8 +1,7 @@
 //! What is said of the end of a run.
 ghost use Rattle.std.specs.Prelude.{◌≡◌, ◌≤◌, ◌++◌, OnOk, OnErr};
 ghost use Rattle.display_cli.specs.Notes.{note_line, IsParted};
-ghost use Rattle.display_cli.specs.Outside.{Appends, HasRisen};
-ghost use Rattle.display_cli.specs.Going.{TakesFront};
+ghost use Rattle.display_cli.specs.Outside.{HasRisen, Takes, TakesFront};
 
 use crate::ended::Note;
 use crate::outside::{Failed, Sink};
@@ -15,7 +14,10 @@ fn line_parts(note: &Note) -> (&'static [u8], &'static [u8])
 {
     match note {
         Note::Fine => (b"", b""),
-        Note::Usage => (b"displaymap: usage: displaymap TEXT SCRIPT", b"\n"),
+        Note::Usage => (
+            b"displaymap: usage: displaymap TEXT SCRIPT [--workers N] [--watch R]",
+            b"\n",
+        ),
         Note::ReadText => (b"displaymap: cannot read the text", b"\n"),
         Note::ReadScript => (b"displaymap: cannot read the script", b"\n"),
         Note::Write => (b"displaymap: cannot write", b"\n"),
@@ -37,26 +39,23 @@ fn write_three<K: Sink>(
     second: &[u8],
     third: &[u8],
 ) -> Result<(), Failed>
-    ensures ok { OnOk result (Appends (K.taken out.old) (K.taken out.new) (first.now ++ (second.now ++ third.now))) }
-    ensures front { OnErr result (TakesFront (K.taken out.old) (K.taken out.new) (first.now ++ (second.now ++ third.now))) }
-    ensures failed { OnErr result (HasRisen (K.faults out.old) (K.faults out.new)) }
+    ensures ok { OnOk result
+        (Takes (first.now ++ (second.now ++ third.now)) (K.state out.old) (K.state out.new)) }
+    ensures front { OnErr result
+        (TakesFront (first.now ++ (second.now ++ third.now)) (K.state out.old) (K.state out.new)) }
+    ensures failed { OnErr result (HasRisen (K.state out.old).faults (K.state out.new).faults) }
 {
-    match write_piece(first, out) {
-        Ok(()) => {}
-        Err(failed) => return Err(failed),
-    }
-    match write_piece(second, out) {
-        Ok(()) => {}
-        Err(failed) => return Err(failed),
-    }
+    write_piece(first, out)?;
+    write_piece(second, out)?;
     write_piece(third, out)
 }
 
 /// Writes the line of a note; of a fine end nothing. It takes no memory.
 pub fn say<K: Sink>(note: &Note, out: &mut K) -> Result<(), Failed>
-    ensures ok { OnOk result (Appends (K.taken out.old) (K.taken out.new) (note_line note.now)) }
-    ensures front { OnErr result (TakesFront (K.taken out.old) (K.taken out.new) (note_line note.now)) }
-    ensures failed { OnErr result (HasRisen (K.faults out.old) (K.faults out.new)) }
+    ensures ok { OnOk result (Takes (note_line note.now) (K.state out.old) (K.state out.new)) }
+    ensures front { OnErr result
+        (TakesFront (note_line note.now) (K.state out.old) (K.state out.new)) }
+    ensures failed { OnErr result (HasRisen (K.state out.old).faults (K.state out.new).faults) }
 {
     let (front, end) = line_parts(note);
     match note {

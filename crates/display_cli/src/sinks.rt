@@ -1,8 +1,9 @@
 //! Sinks: over a list in memory, over nothing but what contracts see, and over a writer.
 ghost use Rattle.std.specs.Prelude.{◌≡◌, ◌++◌, ◌<◌, ◌≤◌, false, [], Some, Ok, length, take, IfOk, OnOk, OnErr};
-ghost use Rattle.display_cli.specs.Calls.{next_call, is_one_of};
-ghost use Rattle.display_cli.specs.Outside.{Appends, HasRisen};
-ghost use Rattle.display_cli.specs.Telling.{bytes_told};
+ghost use Rattle.display_cli.specs.inside.Calls.{is_failing, one_more};
+ghost use Rattle.display_cli.specs.inside.Named.{list_state};
+ghost use Rattle.display_cli.specs.inside.Telling.{bytes_told};
+ghost use Rattle.display_cli.specs.Outside.{SinkState, Takes, Refuses};
 
 use crate::calls::Calls;
 use crate::outside::{Failed, Sink};
@@ -42,22 +43,21 @@ impl ListSink {
 }
 
 impl Sink for ListSink {
-    ghost faults = { λ s. s.faults };
-
-    ghost taken = { λ s. Some s.taken.items };
+    ghost state = { λ s. list_state s };
 
     /// Takes the whole piece, or fails, as it does where the call's number is one of those that fail. Want of memory is a
     /// fault too.
     fn write(&mut self, piece: &[u8]) -> Result<usize, Failed>
         ensures within { IfOk result (λ n. n ≤ length piece.now) }
         ensures some { IfOk result (λ n. 0 < length piece.now → 1 ≤ n) }
-        ensures taken { IfOk result (λ n. Appends (Some self.old.taken.items) (Some self.new.taken.items) (take n piece.now)) }
-        ensures unchanged { OnErr result (Some self.new.taken.items ≡ Some self.old.taken.items) }
-        ensures failed { OnErr result (HasRisen self.old.faults self.new.faults) }
-        ensures rises { self.old.faults ≤ self.new.faults }
+        ensures taken { IfOk result
+            (λ n. Takes (take n piece.now) (list_state self.old) (list_state self.new)) }
+        ensures refused { OnErr result (Refuses (list_state self.old) (list_state self.new)) }
+
+        // The piece is taken whole, where the call doesn't fail.
         ensures whole { IfOk result (λ n. n ≡ length piece.now) }
-        ensures passes { OnOk result (is_one_of self.old.calls.failing.items self.new.calls.made ≡ false) }
-        ensures counted { self.new.calls ≡ record self.old.calls { made = next_call self.old.calls.made } }
+        ensures passes { OnOk result (is_failing self.old.calls self.new.calls ≡ false) }
+        ensures counted { self.new.calls ≡ one_more self.old.calls }
     {
         let fails = self.calls.next_fails();
         if fails || self.taken.extend_from_slice(piece).is_err() {
@@ -86,9 +86,7 @@ impl SureSink {
 }
 
 impl Sink for SureSink {
-    ghost faults = { λ _. 0 };
-
-    ghost taken = { λ s. Some (bytes_told s.told) };
+    ghost state = { λ s. record { taken = Some (bytes_told s.told); faults = 0 } };
 
     /// Takes the whole piece.
     fn write(&mut self, piece: &[u8]) -> Result<usize, Failed>
@@ -128,9 +126,7 @@ impl<W: Write> StreamSink<W> {
 impl<W: Write> Sink for StreamSink<W> {
     ghost use Rattle.std.specs.Prelude.{None};
 
-    ghost faults = { λ s. s.faults };
-
-    ghost taken = { λ _. None };
+    ghost state = { λ s. record { taken = None; faults = s.faults } };
 
     /// A writer that takes nothing of a piece that isn't empty has failed.
     fn write(&mut self, piece: &[u8]) -> Result<usize, Failed> {

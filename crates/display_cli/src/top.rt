@@ -1,21 +1,24 @@
-//! The top call.
-ghost use Rattle.std.specs.Prelude.{◌≡◌, ◌≢◌, ◌↔◌, ℕ, true, List, [], map, string_bytes, None, Some, IfOk, IfErr};
-ghost use Rattle.display_cli.specs.declared.words.Plan.{Plan};
+//! The top calls: the run of a script, and the program that says how its run ended.
+ghost use Rattle.std.specs.Prelude.{◌≡◌, ◌≢◌, ◌≤◌, ◌↔◌, ℕ, true, [], None, Some, IfOk, IfErr, IfSome, OnOk};
 ghost use Rattle.display_cli.specs.declared.ended.Note.TheVariants as notes;
-ghost use Rattle.display_cli.specs.Words.{reading};
-ghost use Rattle.display_cli.specs.Ended.{HasStatus, run_of, IsRunOf, IsNothing, IsCaused, IsOwed, IsComplete};
-ghost use Rattle.display_cli.specs.Opening.{IsOpenedOn, IsTextRefused, IsScript, IsScriptRefused, HasRun, note_of};
-ghost use Rattle.display_cli.specs.Going.{course_of};
+ghost use Rattle.display_cli.specs.declared.outside.Part.TheVariants as parts;
+ghost use Rattle.display_cli.specs.Outside.{HasRisen};
+ghost use Rattle.display_cli.specs.Words.{plan_of};
+ghost use Rattle.display_cli.specs.Ended.{HasStatus, run_of, IsRefused, IsEndedAs, ReadsInOrder, IsRun, IsRunOfWords, Says, IsProgram};
+ghost use Rattle.display_cli.specs.inside.Opening.{IsOpenedOn, IsStartRefused, IsTextRefused, IsScript, IsScriptRefused, HasRunOn, note_of};
+ghost use Rattle.display_cli.specs.inside.Reading.{ReadsName};
 
 use crate::ended::{Ended, Note};
 use crate::outside::{Inputs, Part, Sink};
 use crate::read::{Unread, read_whole};
-use crate::script::play;
+use crate::runner::Runner;
+use crate::say::say;
 use crate::stop::Stop;
 use crate::words::{Plan, read_words};
 use cell_units::limits::TEXT_LIMIT;
 use cell_units::{NoMemory, Steps, TextFault};
 use display_map::{Display, Journal};
+use edit_script::Form;
 use std::alloc::Global;
 
 /// The greatest length of a script, in bytes.
@@ -49,18 +52,20 @@ fn nothing(alloc: Global, note: Note) -> Ended
     ensures note { result.note ≡ note }
     ensures status { HasStatus note result.status }
     ensures history { result.history ≡ [] }
+    ensures watched { result.watched.items ≡ [] }
 {
     Ended {
         status: status_of(note),
         note,
         history: Journal::none(alloc),
+        watched: Vec::new(alloc),
     }
 }
 
 /// Starts a display on the text that was read.
 fn start(alloc: Global, bytes: &[u8]) -> Result<Display, Note>
     ensures started { IfOk result (IsOpenedOn (Some bytes.now)) }
-    ensures refused { IfErr result (IsTextRefused (Some bytes.now) 0 0) }
+    ensures refused { IfErr result (IsStartRefused bytes.now) }
 {
     match Display::start(alloc, bytes, &mut Steps::new()) {
         Ok(display) => Ok(display),
@@ -72,10 +77,11 @@ fn start(alloc: Global, bytes: &[u8]) -> Result<Display, Note>
 
 /// Reads the text of a plan, and starts a display on it.
 fn open_text<I: Inputs>(alloc: Global, plan: &Plan, inputs: &mut I) -> Result<Display, Note>
-    ensures opened { IfOk result (IsOpenedOn (I.told inputs.old plan.now.text)) }
-    ensures refused { IfErr result (IsTextRefused (I.told inputs.old plan.now.text) (I.faults inputs.old).text (I.faults inputs.new).text) }
-    ensures tells { (name : List ℕ) → I.told inputs.new name ≡ I.told inputs.old name }
-    ensures stays { (I.faults inputs.new).script ≡ (I.faults inputs.old).script }
+    ensures opened { IfOk result (IsOpenedOn ((I.state inputs.old).told plan.now.text)) }
+    ensures passed { OnOk result ((I.state inputs.new).faults ≡ (I.state inputs.old).faults) }
+    ensures refused { IfErr result (IsTextRefused ((I.state inputs.old).told plan.now.text)
+        (I.state inputs.old).faults (I.state inputs.new).faults) }
+    ensures reads { ReadsName parts.Text plan.now.text (I.state inputs.old) (I.state inputs.new) }
 {
     match read_whole(alloc, inputs, Part::Text, plan.text.as_str(), TEXT_LIMIT) {
         Ok(bytes) => start(alloc, bytes.as_slice()),
@@ -87,8 +93,13 @@ fn open_text<I: Inputs>(alloc: Global, plan: &Plan, inputs: &mut I) -> Result<Di
 
 /// Reads the script of a plan.
 fn read_script<I: Inputs>(alloc: Global, plan: &Plan, inputs: &mut I) -> Result<Vec<u8>, Note>
-    ensures read { IfOk result (λ script. IsScript (I.told inputs.old plan.now.script) script.items) }
-    ensures refused { IfErr result (IsScriptRefused (I.told inputs.old plan.now.script) (I.faults inputs.old).script (I.faults inputs.new).script) }
+    ensures read { IfOk result
+        (λ script. IsScript ((I.state inputs.old).told plan.now.script) script.items) }
+    ensures passed { OnOk result ((I.state inputs.new).faults ≡ (I.state inputs.old).faults) }
+    ensures refused { IfErr result (IsScriptRefused ((I.state inputs.old).told plan.now.script)
+        (I.state inputs.old).faults (I.state inputs.new).faults) }
+    ensures reads { ReadsName parts.Script plan.now.script
+        (I.state inputs.old) (I.state inputs.new) }
 {
     match read_whole(
         alloc,
@@ -115,25 +126,43 @@ fn note_of(stop: Stop) -> Note
     }
 }
 
+/// Gives a sink back as it is: with this call rattle knows what a runner left behind its reference.
+fn give_back<K>(out: &mut K)
+    ensures { out.new ≡ out.old }
+{}
+
 /// Runs a script on a display that was just started.
 fn run_script<K: Sink>(alloc: Global, script: &[u8], display: Display, out: &mut K) -> Ended
     requires { display.events ≡ [] }
     ensures status { HasStatus result.note result.status }
-    ensures run { HasRun (course_of display script.now (K.taken out.old)) (K.faults out.old) (K.faults out.new) (K.taken out.new) result.status result.history result.note }
+    ensures watched { result.watched.items ≡ [] }
+    ensures run { HasRunOn display.opening script.now (K.state out.old) (K.state out.new) result }
 {
-    let mut display = display;
-    match play(alloc, script, &mut display, out) {
+    let mut runner = Runner {
+        alloc,
+        form: Form::First,
+        display,
+        out,
+        steps: Steps::new(),
+    };
+    let played = runner.play(script);
+    let Runner { display, out, .. } = runner;
+    give_back(out);
+    let history = display.into_journal();
+    match played {
         Ok(refused) => Ended {
             status: fine_status(refused),
             note: Note::Fine,
-            history: display.into_journal(),
+            history,
+            watched: Vec::new(alloc),
         },
         Err(stop) => {
             let note = note_of(stop);
             Ended {
                 status: status_of(note),
                 note,
-                history: display.into_journal(),
+                history,
+                watched: Vec::new(alloc),
             }
         }
     }
@@ -141,10 +170,11 @@ fn run_script<K: Sink>(alloc: Global, script: &[u8], display: Display, out: &mut
 
 /// Runs a plan.
 fn run_plan<I: Inputs, K: Sink>(alloc: Global, plan: &Plan, inputs: &mut I, out: &mut K) -> Ended
-    ensures read { result.note ≢ notes.Usage }
+    requires { 1 ≤ plan.now.workers }
     ensures status { HasStatus result.note result.status }
-    ensures meaning { IsRunOf (run_of (I.told inputs.old) (K.taken out.old) (K.taken out.new) result) plan.now result.note }
-    ensures caused { IsCaused (I.told inputs.old) plan.now (I.faults inputs.old) (I.faults inputs.new) (K.faults out.old) (K.faults out.new) result.history result.note }
+    ensures ended { IsEndedAs plan.now
+        (run_of (I.state inputs.old) (I.state inputs.new) (K.state out.old) (K.state out.new) result) result.note }
+    ensures reads { ReadsInOrder plan.now (I.state inputs.old).reads (I.state inputs.new).reads }
 {
     let display = match open_text(alloc, plan, inputs) {
         Ok(display) => display,
@@ -172,18 +202,43 @@ pub fn run<I: Inputs, K: Sink>(
     inputs: &mut I,
     out: &mut K,
 ) -> Ended
-    ensures usage { (reading (map string_bytes words.now) ≡ None) ↔ (result.note ≡ notes.Usage) }
-    ensures status { HasStatus result.note result.status }
-    ensures nothing { result.note ≡ notes.Usage → IsNothing (run_of (I.told inputs.old) (K.taken out.old) (K.taken out.new) result) }
-    ensures untouched { result.note ≡ notes.Usage → (inputs.new ≡ inputs.old) × (out.new ≡ out.old) }
-    ensures meaning { (plan : Plan) → reading (map string_bytes words.now) ≡ Some plan → IsRunOf (run_of (I.told inputs.old) (K.taken out.old) (K.taken out.new) result) plan result.note }
-    ensures caused { (plan : Plan) → reading (map string_bytes words.now) ≡ Some plan → IsCaused (I.told inputs.old) plan (I.faults inputs.old) (I.faults inputs.new) (K.faults out.old) (K.faults out.new) result.history result.note }
-    ensures owed { (plan : Plan) → reading (map string_bytes words.now) ≡ Some plan → IsOwed (I.told inputs.old) plan (I.faults inputs.old) (I.faults inputs.new) result.note }
-    ensures complete { (plan : Plan) → reading (map string_bytes words.now) ≡ Some plan → IsComplete (I.told inputs.old) plan (I.faults inputs.old) (I.faults inputs.new) (K.faults out.old) (K.faults out.new) result.note }
+    // What the run is by its note, which reads it made, and which notes were owed.
+    ensures run { IsRunOfWords (plan_of words.now)
+        (run_of (I.state inputs.old) (I.state inputs.new) (K.state out.old) (K.state out.new) result) }
+
+    // Words without a reading leave the outside as it is.
+    ensures untouched { result.note ≡ notes.Usage
+        → (inputs.new ≡ inputs.old) × (out.new ≡ out.old) }
 {
     match read_words(alloc, words) {
         Ok(Some(plan)) => run_plan(alloc, &plan, inputs, out),
         Ok(None) => nothing(alloc, Note::Usage),
         Err(NoMemory) => nothing(alloc, Note::Memory),
     }
+}
+
+/// Says on `err` that there was no memory for the words, and answers the status of that.
+pub fn give_up<E: Sink>(err: &mut E) -> u8
+    ensures said { Says notes.Memory (E.state err.old) (E.state err.new) }
+    ensures status { HasStatus notes.Memory result }
+{
+    let _ = say(&Note::Memory, err);
+    status_of(Note::Memory)
+}
+
+/// Runs the program on its words, says on `err` why its run ended before its script did, and answers the status of the
+/// run. Where `err` fails too, there is nobody to tell.
+pub fn program<I: Inputs, K: Sink, E: Sink>(
+    alloc: Global,
+    words: &[String],
+    inputs: &mut I,
+    out: &mut K,
+    err: &mut E,
+) -> u8
+    ensures { IsProgram (plan_of words.now) (I.state inputs.old) (I.state inputs.new)
+        (K.state out.old) (K.state out.new) (E.state err.old) (E.state err.new) result }
+{
+    let ended = run(alloc, words, inputs, out);
+    let _ = say(&ended.note, err);
+    ended.status
 }

@@ -1,5 +1,6 @@
 mod Forms
 mod Lines
 mod RowLines
+mod Versions
 mod Writing
 pub mod Verdicts

@@ -1,57 +1,127 @@
--- Which row the line of an answer is of.
-use Rattle.std.proofs.Common.{◌≡◌, ℕ, zero, suc, ◌+◌, ◌<◌, ◌≤◌, List, [], ◌∷◌, length, take, drop, slice_get, Some, None, option_map, refl, ap, sym, ◌∙◌, arith}
-use Rattle.std.proofs.lemmas.Option.{slice_get_past}
+-- The lines of rows that are left.
+use Rattle.std.proofs.Common.{◌≡◌, ℕ, zero, suc, ◌+◌, ◌-◌, ◌<◌, ◌≤◌, min, List, [], ◌∷◌, length, map, take, drop, get_or, Some, refl, ap, sym, ◌∙◌, arith, inl, inr}
+use Rattle.std.specs.Prelude.{slice_get}
+use Rattle.std.proofs.lemmas.Bool.{cases_lt}
+use Rattle.std.proofs.lemmas.List.{take_all, length-drop, length-take, length-map}
 use Rattle.plain_rows.specs.Rows.{Row}
+use Rattle.display_sheet.specs.declared.shown.Shown.{Shown}
+use Rattle.display_sheet.specs.Shown.{row_of_shown}
 use Rattle.edit_script.specs.Printed.{row_line, row_lines}
+use Rattle.edit_script.specs.Answers.{rows_in}
 
-slice_get-drop : {X : Type 0} (n : ℕ) (xs : List X) (i : ℕ) → slice_get (drop n xs) i ≡ slice_get xs (n + i)
-slice_get-drop zero xs i = ap (slice_get xs) (omega arith)
-slice_get-drop (suc n) [] i = refl
-slice_get-drop (suc n) (x ∷ xs) i = let e : suc (n + i) ≡ suc n + i = omega arith in slice_get-drop n xs i ∙ ap (slice_get (x ∷ xs)) e
+-- a count is cut to what there is
+take-cut : {X : Type 0} (n : ℕ) (xs : List X) → take (min n (length xs)) xs ≡ take n xs
+take-cut n xs =
+    elim (cases_lt (length xs) n) [
+      | inl below ↦ (let k : min n (length xs) ≡ length xs = omega arith in
+          ap (λ k. take k xs) k ∙ (take_all (length xs) xs (omega arith) ∙ sym (take_all n xs (omega arith))))
+      | inr above ↦ (let k : min n (length xs) ≡ n = omega arith in ap (λ k. take k xs) k)
+    ]
 
-slice_get-take : {X : Type 0} (n : ℕ) (xs : List X) (i : ℕ) → i < n → slice_get (take n xs) i ≡ slice_get xs i
-slice_get-take zero xs i h = absurd (omega arith)
-slice_get-take (suc n) [] i h = refl
-slice_get-take (suc n) (x ∷ xs) zero h = refl
-slice_get-take (suc n) (x ∷ xs) (suc i) h = slice_get-take n xs i (omega arith)
+drop-past : {X : Type 0} (n : ℕ) (xs : List X) → length xs ≤ n → drop n xs ≡ []
+drop-past zero [] h = refl
+drop-past zero (x ∷ xs) h = absurd (omega arith)
+drop-past (suc n) [] h = refl
+drop-past (suc n) (x ∷ xs) h = drop-past n xs (omega arith)
 
-slice_get-take_past : {X : Type 0} (n : ℕ) (xs : List X) (i : ℕ) → n ≤ i → slice_get (take n xs) i ≡ None
-slice_get-take_past zero xs i h = refl
-slice_get-take_past (suc n) [] i h = refl
-slice_get-take_past (suc n) (x ∷ xs) zero h = absurd (omega arith)
-slice_get-take_past (suc n) (x ∷ xs) (suc i) h = slice_get-take_past n xs i (omega arith)
+none-in : (next left : ℕ) (rows : List Row) → length rows ≤ next → rows_in next left rows ≡ []
+none-in next left rows h = ap (λ l. row_lines next (take left l)) (drop-past next rows h) ∙ ap (row_lines next) (take-none left)
+  where
+    take-none : (left : ℕ) → take left (let none : List Row = [] in none) ≡ []
+    take-none zero = refl
+    take-none (suc left) = refl
 
--- lines are numbered on from the first row
-slice_get-row_lines : (first : ℕ) (rows : List Row) (at : ℕ) → slice_get (row_lines first rows) at ≡ option_map (row_line (first + at)) (slice_get rows at)
-slice_get-row_lines first [] at = refl
-slice_get-row_lines first (row ∷ rows) zero = let e : first ≡ first + 0 = omega arith in ap (λ n. Some (row_line n row)) e
-slice_get-row_lines first (row ∷ rows) (suc at) =
-    let e : first + 1 + at ≡ first + suc at = omega arith in
-    slice_get-row_lines (first + 1) rows at ∙ ap (λ n. option_map (row_line n) (slice_get rows at)) e
+-- a first row and a count that are cut to what there is
+pub rows_in-cut : (first count : ℕ) (rows : List Row) (next left : ℕ) → next ≡ min first (length rows) → left ≡ min count (length rows - next)
+    → rows_in next left rows ≡ rows_in first count rows
+rows_in-cut first count rows next left e f =
+    elim (cases_lt (length rows) first) [
+      | inl below ↦ none-in next left rows (omega arith) ∙ sym (none-in first count rows (omega arith))
+      | inr above ↦
+          (let same : next ≡ first = omega arith in
+          let dropped = length-drop next rows in
+          let cut : left ≡ min count (length (drop next rows)) = omega arith in
+          ap (λ k. row_lines next (take k (drop next rows))) cut
+          ∙ (ap (row_lines next) (take-cut count (drop next rows)) ∙ ap (λ n. rows_in n count rows) same))
+    ]
 
--- within the count the line is that of the row, if there is one
-pub line_within : (first count at : ℕ) (rows : List Row) → at < count → slice_get (row_lines first (take count (drop first rows))) at ≡ option_map (row_line (first + at)) (slice_get rows (first + at))
-line_within first count at rows h =
-    slice_get-row_lines first (take count (drop first rows)) at
-    ∙ ap (option_map (row_line (first + at))) (slice_get-take count (drop first rows) at h ∙ slice_get-drop first rows at)
+drop-more : {X : Type 0} (n : ℕ) (xs : List X) → drop n xs ≡ drop n xs → drop (suc n) xs ≡ drop 1 (drop n xs)
+drop-more zero [] e = refl
+drop-more zero (x ∷ xs) e = refl
+drop-more (suc n) [] e = refl
+drop-more (suc n) (x ∷ xs) e = drop-more n xs refl
 
-pub line_past_count : (first count at : ℕ) (rows : List Row) → count ≤ at → slice_get (row_lines first (take count (drop first rows))) at ≡ None
-line_past_count first count at rows h =
-    slice_get-row_lines first (take count (drop first rows)) at
-    ∙ ap (option_map (row_line (first + at))) (slice_get-take_past count (drop first rows) at h)
+drop-next : {X : Type 0} (n : ℕ) (xs : List X) → drop (suc n) xs ≡ drop 1 (drop n xs)
+drop-next n xs = drop-more n xs refl
 
-pub line_past_rows : (first count at : ℕ) (rows : List Row) → at < count → length rows ≤ first + at → slice_get (row_lines first (take count (drop first rows))) at ≡ None
-line_past_rows first count at rows h k =
-    line_within first count at rows h ∙ ap (option_map (row_line (first + at))) (slice_get_past rows (first + at) k)
+drop-get : {X : Type 0} (n : ℕ) (xs : List X) → slice_get xs n ≡ slice_get (drop n xs) 0
+drop-get zero [] = refl
+drop-get zero (x ∷ xs) = refl
+drop-get (suc n) [] = refl
+drop-get (suc n) (x ∷ xs) = drop-get n xs
 
--- the line of a row that was found
-pub line_of_row : (first count at number : ℕ) (rows : List Row) (row : Row) (line : List ℕ) → at < count → number ≡ first + at → Some row ≡ slice_get rows number → line ≡ row_line number row
-    → Some line ≡ slice_get (row_lines first (take count (drop first rows))) at
-line_of_row first count at number rows row line h n found e =
-    ap Some (e ∙ ap (λ k. row_line k row) n) ∙ ap (option_map (row_line (first + at))) (found ∙ ap (slice_get rows) n) ∙ sym (line_within first count at rows h)
+-- the row that was made stands first among those that are left
+first-of : (rest : List Shown) (more : List Row) (k : ℕ) (shown : Shown) → map row_of_shown rest ≡ take k more → slice_get rest 0 ≡ Some shown
+    → (slice_get more 0 ≡ Some (row_of_shown shown)) × (map row_of_shown (drop 1 rest) ≡ take (k - 1) (drop 1 more))
+first-of [] more k shown e is = cc
+first-of (s ∷ rest) [] zero shown e is = cc
+first-of (s ∷ rest) [] (suc k) shown e is = cc
+first-of (s ∷ rest) (row ∷ more) zero shown e is = cc
+first-of (s ∷ rest) (row ∷ more) (suc k) shown e is =
+    let head : row_of_shown s ≡ row = cc in
+    let same : s ≡ shown = cc in
+    let tail : map row_of_shown rest ≡ take k more = cc in
+    let count : k ≡ suc k - 1 = omega arith in
+    (ap Some (sym head ∙ ap row_of_shown same), tail ∙ ap (λ k. take k more) count)
 
--- no line where none was found
-pub line_of_none : (first count at number : ℕ) (rows : List Row) → at < count → number ≡ first + at → None ≡ slice_get rows number
-    → None ≡ slice_get (row_lines first (take count (drop first rows))) at
-line_of_none first count at number rows h n found =
-    ap (option_map (row_line (first + at))) (found ∙ ap (slice_get rows) n) ∙ sym (line_within first count at rows h)
+lines-of : (next left : ℕ) (more : List Row) (row : Row) → slice_get more 0 ≡ Some row → 0 < left
+    → (slice_get (row_lines next (take left more)) 0 ≡ Some (row_line next row))
+    × (drop 1 (row_lines next (take left more)) ≡ row_lines (next + 1) (take (left - 1) (drop 1 more)))
+lines-of next zero more row is some = absurd (omega arith)
+lines-of next (suc left) [] row is some = cc
+lines-of next (suc left) (r ∷ more) row is some =
+    let same : r ≡ row = cc in
+    let count : left ≡ suc left - 1 = omega arith in
+    (ap (λ r. Some (row_line next r)) same, ap (λ k. row_lines (next + 1) (take k more)) count)
+
+-- the next row, its line, and what is left behind it
+pub record IsNextRow (made : List Shown) (used next left : ℕ) (rows : List Row) (line : List ℕ) : Type 0 where
+  pub line_is : Some line ≡ slice_get (rows_in next left rows) 0
+  pub rest_is : rows_in (next + 1) (left - 1) rows ≡ drop 1 (rows_in next left rows)
+  pub same : map row_of_shown (drop (used + 1) made) ≡ take (length made - (used + 1)) (drop (next + 1) rows)
+
+pub next-row : (made : List Shown) (used next left : ℕ) (rows : List Row) (shown : Shown) (line : List ℕ)
+    → map row_of_shown (drop used made) ≡ take (length made - used) (drop next rows) → slice_get made used ≡ Some shown → 0 < left
+    → line ≡ row_line next (row_of_shown shown) → IsNextRow made used next left rows line
+next-row made used next left rows shown line same is some e =
+    let first = first-of (drop used made) (drop next rows) (length made - used) shown same (sym (drop-get used made) ∙ is) in
+    let lines = lines-of next left (drop next rows) (row_of_shown shown) first.0 some in
+    let used-more : drop (used + 1) made ≡ drop 1 (drop used made) = ap (λ k. drop k made) (one used) ∙ drop-next used made in
+    let next-more : drop (next + 1) rows ≡ drop 1 (drop next rows) = ap (λ k. drop k rows) (one next) ∙ drop-next next rows in
+    let fewer : length made - used - 1 ≡ length made - (used + 1) = omega arith in
+    record {
+      line_is = ap Some e ∙ sym lines.0;
+      rest_is = ap (λ l. row_lines (next + 1) (take (left - 1) l)) next-more ∙ sym lines.1;
+      same = ap (map row_of_shown) used-more ∙ (first.1 ∙ (ap (λ l. take (length made - used - 1) l) (sym next-more) ∙ ap (λ k. take k (drop (next + 1) rows)) fewer));
+    }
+  where
+    one : (n : ℕ) → n + 1 ≡ suc n
+    one n = omega arith
+
+-- rows that were made anew
+pub made-anew : (made : List Shown) (next count : ℕ) (rows : List Row) → map row_of_shown made ≡ take count (drop next rows) → next + count ≤ length rows
+    → (length made ≡ count) × (map row_of_shown (drop 0 made) ≡ take (length made - 0) (drop next rows))
+made-anew made next count rows same there =
+    let mapped = length-map made row_of_shown in
+    let taken = length-take count (drop next rows) in
+    let dropped = length-drop next rows in
+    let lengths = ap length same in
+    let few : length made ≡ count = omega arith in
+    let whole : count ≡ length made - 0 = omega arith in
+    (few, same ∙ ap (λ k. take k (drop next rows)) whole)
+
+-- an element that was read
+pub get-index : {X : Type 0} (xs : List X) (n : ℕ) (x : X) → n < length xs → x ≡ get_or xs n x → slice_get xs n ≡ Some x
+get-index [] n x h e = absurd (omega arith)
+get-index (y ∷ xs) zero x h e = ap Some (sym e)
+get-index (y ∷ xs) (suc n) x h e = get-index xs n x (omega arith) e

@@ -1,4 +1,4 @@
--- The line that is written for a command is read as that command.
+-- The line that is written for an edit or a question for rows is read as that.
 use Rattle.std.proofs.Common.{◌≡◌, ℕ, suc, ◌<◌, ◌≤◌, ◌^◌, min, List, [], ◌∷◌, ◌++◌, codes, Bool, true, false, decimal, Some, option_map, option_and_then, refl, sym, ap, ◌∙◌, append-nil, arith}
 use Rattle.std.specs.List.{All}
 use Rattle.std.specs.Str.{IsUtf8}
@@ -17,10 +17,12 @@ use Rattle.serde_json.specs.Read.{of_json, of_items, of_members, read, max_depth
 use Rattle.serde_json.specs.Written.{outline, items_outline, compact_text, items_text, comma_if}
 use Rattle.serde_json.proofs.Numbers.{number_of-decimal}
 use Rattle.serde_json.proofs.Texts.{print-outline}
-use Rattle.display_map.specs.declared.change.Splice.{Splice}
-use Rattle.display_map.specs.Changes.{Edit, One}
-use Rattle.edit_script.specs.Commands.{Command, Apply, Rows, greatest_number, splices_of_items, command_of_key, command_of}
-use Rattle.edit_script.specs.Laws.{splice_data, splices_data, keyed, written, IsWritableSplice, IsWritable}
+use Rattle.display_sheet.specs.declared.change.Splice.{Splice}
+use Rattle.display_sheet.specs.Changes.{Edit}
+use Rattle.edit_script.specs.declared.asked.Form.TheVariants.{First}
+use Rattle.edit_script.specs.declared.asked.Query.TheVariants as queries
+use Rattle.edit_script.specs.Commands.{Command, Apply, Ask, greatest_number, splices_of_items, command_named, command_of}
+use Rattle.edit_script.specs.Laws.{splice_data, splices_data, keyed, written_edit, written_rows, IsWritable}
 use Rattle.edit_script.proofs.Lines.{command_of-read}
 
 -- a value whose outline reads as it is read from its text
@@ -40,7 +42,7 @@ of_json-decimal n h = ap (option_map number) (number_of-decimal n (small n h))
 
 -- ---- replacements
 
-numbers-splices : (ss : List Splice) → All IsWritableSplice ss → tree.ItemsHaveNumbers (items_outline (splices_data ss))
+numbers-splices : (ss : List Splice) → All IsWritable ss → tree.ItemsHaveNumbers (items_outline (splices_data ss))
 numbers-splices [] h = tt
 numbers-splices (s ∷ ss) h =
     let first = h 0 s (omega arith) in
@@ -50,11 +52,11 @@ of_items-pair : (a b : json.Json) (rest : json.Items) (x y : Data) (zs : Items) 
     → of_items (json.item a (json.item b rest)) ≡ Some (item x (item y zs))
 of_items-pair a b rest x y zs p q r = rw (p, q, r) refl
 
-of_json-splice : (s : Splice) → IsWritableSplice s → of_json (outline (splice_data s)) ≡ Some (splice_data s)
+of_json-splice : (s : Splice) → IsWritable s → of_json (outline (splice_data s)) ≡ Some (splice_data s)
 of_json-splice s h =
     ap (option_map array) (of_items-pair (json.number (decimal s.start)) (json.number (decimal s.end)) (json.item (json.string s.text) json.no_items) _ _ _ (of_json-decimal s.start h.0) (of_json-decimal s.end h.1) refl)
 
-of_items-splices : (ss : List Splice) → All IsWritableSplice ss → of_items (items_outline (splices_data ss)) ≡ Some (splices_data ss)
+of_items-splices : (ss : List Splice) → All IsWritable ss → of_items (items_outline (splices_data ss)) ≡ Some (splices_data ss)
 of_items-splices [] h = refl
 of_items-splices (s ∷ ss) h =
     rw (of_json-splice s (h 0 s (omega arith)), of_items-splices ss (λ k d l. h (suc k) d (omega arith))) refl
@@ -69,15 +71,15 @@ kept n h = omega arith
 with_numbers : Splice → ℕ → ℕ → Splice
 with_numbers s start end = record { start = start; end = end; text = s.text }
 
-capped : (s : Splice) → IsWritableSplice s → with_numbers s (min s.start greatest_number) (min s.end greatest_number) ≡ s
+capped : (s : Splice) → IsWritable s → with_numbers s (min s.start greatest_number) (min s.end greatest_number) ≡ s
 unfolding with_numbers
 capped s h = ap (λ n. with_numbers s n (min s.end greatest_number)) (kept s.start h.0) ∙ ap (with_numbers s s.start) (kept s.end h.1)
 
-splices-splices : (ss : List Splice) → All IsWritableSplice ss → splices_of_items (splices_data ss) ≡ Some ss
+splices-splices : (text : List ℕ) (ss : List Splice) → All IsWritable ss → splices_of_items First text (splices_data ss) ≡ Some ss
 unfolding with_numbers
-splices-splices [] h = refl
-splices-splices (s ∷ ss) h =
-    ap (option_map (λ rest. with_numbers s (min s.start greatest_number) (min s.end greatest_number) ∷ rest)) (splices-splices ss (λ k d l. h (suc k) d (omega arith)))
+splices-splices text [] h = refl
+splices-splices text (s ∷ ss) h =
+    ap (option_map (λ rest. with_numbers s (min s.start greatest_number) (min s.end greatest_number) ∷ rest)) (splices-splices text ss (λ k d l. h (suc k) d (omega arith)))
     ∙ ap (λ (first : Splice). Some (first ∷ ss)) (capped s (h 0 s (omega arith)))
 
 -- ---- UTF-8
@@ -93,12 +95,12 @@ IsUtf8-comma_if : (later : Bool) → IsUtf8 (comma_if later)
 IsUtf8-comma_if true = IsUtf8-are_ascii (44 ∷ []) refl
 IsUtf8-comma_if false = IsUtf8-nil
 
-IsUtf8-splice : (s : Splice) → IsWritableSplice s → IsUtf8 (compact_text (splice_data s))
+IsUtf8-splice : (s : Splice) → IsWritable s → IsUtf8 (compact_text (splice_data s))
 IsUtf8-splice s h =
     byte_then 91 refl _ (number_then s.start h.0 _ (byte_then 44 refl _ (number_then s.end h.1 _ (byte_then 44 refl _
     (IsUtf8-append (quoted s.text) (93 ∷ []) (IsUtf8-quoted s.text h.2) (IsUtf8-are_ascii (93 ∷ []) refl))))))
 
-IsUtf8-splices : (later : Bool) (ss : List Splice) → All IsWritableSplice ss → IsUtf8 (items_text later (splices_data ss))
+IsUtf8-splices : (later : Bool) (ss : List Splice) → All IsWritable ss → IsUtf8 (items_text later (splices_data ss))
 IsUtf8-splices later [] h = IsUtf8-are_ascii (93 ∷ []) refl
 IsUtf8-splices later (s ∷ ss) h =
     IsUtf8-append (comma_if later) _ (IsUtf8-comma_if later)
@@ -117,20 +119,23 @@ read-keyed key values numbers same shallow =
     read-compact_text (keyed key values) (numbers, tt)
     (ap (λ o. option_map object (option_and_then (λ d. of_members json.no_members (put key d no_members)) (option_map array o))) same) (omega arith)
 
-command_of-keyed : (key : List ℕ) (values : Items) (command : Command) → IsUtf8 key → IsUtf8 (items_text false values)
-    → read (compact_text (keyed key values)) ≡ Some (keyed key values) → command_of_key key (array values) ≡ Some command → command_of (compact_text (keyed key values)) ≡ Some command
-command_of-keyed key values command k u found is =
-    sym (command_of-read (compact_text (keyed key values)) (keyed key values) (IsUtf8-keyed key values k u) found) ∙ is
+command_of-keyed : (text key : List ℕ) (values : Items) (command : Command) → IsUtf8 key → IsUtf8 (items_text false values)
+    → read (compact_text (keyed key values)) ≡ Some (keyed key values) → command_named First text key (array values) ≡ Some command
+    → command_of First text (compact_text (keyed key values)) ≡ Some command
+command_of-keyed text key values command k u found is =
+    sym (command_of-read First text (compact_text (keyed key values)) (keyed key values) (IsUtf8-keyed key values k u) found) ∙ is
 
-pub command_of-written : (command : Command) → IsWritable command → command_of (written command) ≡ Some command
-command_of-written (Apply (Edit ss)) h =
-    command_of-keyed (codes "edit") (splices_data ss) (Apply (Edit ss)) (IsUtf8-are_ascii (codes "edit") refl) (IsUtf8-splices false ss h)
-    (read-keyed (codes "edit") (splices_data ss) (numbers-splices ss h) (of_items-splices ss h) (depth-splices ss)) (ap (option_map (λ (splices : List Splice). Apply (Edit splices))) (splices-splices ss h))
-command_of-written (Apply (One operation)) h = absurd h
-command_of-written (Rows first count) h =
+pub command_of-written_edit : (text : List ℕ) (ss : List Splice) → All IsWritable ss → command_of First text (written_edit ss) ≡ Some (Apply (Edit ss))
+command_of-written_edit text ss h =
+    command_of-keyed text (codes "edit") (splices_data ss) (Apply (Edit ss)) (IsUtf8-are_ascii (codes "edit") refl) (IsUtf8-splices false ss h)
+    (read-keyed (codes "edit") (splices_data ss) (numbers-splices ss h) (of_items-splices ss h) (depth-splices ss)) (ap (option_map (λ (splices : List Splice). Apply (Edit splices))) (splices-splices text ss h))
+
+pub command_of-written_rows : (text : List ℕ) (first count : ℕ) → first ≤ greatest_number → count ≤ greatest_number
+    → command_of First text (written_rows first count) ≡ Some (Ask (queries.Rows first count))
+command_of-written_rows text first count f g =
     let values : Items = item (number (unsigned first)) (item (number (unsigned count)) no_items) in
-    command_of-keyed (codes "rows") values (Rows first count) (IsUtf8-are_ascii (codes "rows") refl)
-    (number_then first h.0 _ (byte_then 44 refl _ (number_then count h.1 _ (IsUtf8-are_ascii (93 ∷ []) refl))))
-    (read-keyed (codes "rows") values (IsNumber-decimal first (small first h.0), (IsNumber-decimal count (small count h.1), tt))
-    (of_items-pair (json.number (decimal first)) (json.number (decimal count)) json.no_items _ _ _ (of_json-decimal first h.0) (of_json-decimal count h.1) refl) (omega arith))
-    (ap (λ n. Some (Rows n (min count greatest_number))) (kept first h.0) ∙ ap (λ n. Some (Rows first n)) (kept count h.1))
+    command_of-keyed text (codes "rows") values (Ask (queries.Rows first count)) (IsUtf8-are_ascii (codes "rows") refl)
+    (number_then first f _ (byte_then 44 refl _ (number_then count g _ (IsUtf8-are_ascii (93 ∷ []) refl))))
+    (read-keyed (codes "rows") values (IsNumber-decimal first (small first f), (IsNumber-decimal count (small count g), tt))
+    (of_items-pair (json.number (decimal first)) (json.number (decimal count)) json.no_items _ _ _ (of_json-decimal first f) (of_json-decimal count g) refl) (omega arith))
+    (ap (λ n. Some (Ask (queries.Rows n (min count greatest_number)))) (kept first f) ∙ ap (λ n. Some (Ask (queries.Rows first n))) (kept count g))

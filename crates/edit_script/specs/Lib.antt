@@ -2,3 +2,4 @@ pub mod Commands
 pub mod Verdict
 pub mod Printed
 pub mod Laws
+pub mod Answers

@@ -1,16 +1,33 @@
 //! What a line asks.
+use cell_units::{Bias, Spot};
 use display_map::Change;
 
-/// A question, which changes nothing.
-#[derive(Debug, Drop)]
+/// The form of a script, in which its lines are read.
+#[derive(Clone, Copy, Debug, PartialEq, Eq)]
+pub enum Form {
+    /// Places of the text are offsets.
+    First,
+}
+
+/// A question, which changes nothing. Offsets count bytes of the text.
+#[derive(Clone, Copy, Debug)]
 pub enum Query {
     /// The rows from number `first` on, as many as there are up to `count`.
     Rows { first: u32, count: u32 },
+    /// The same as they are now, behind the number of the newest version and the marks.
+    Peek { first: u32, count: u32 },
+    /// Where an offset is shown.
+    Show { offset: u32, bias: Bias },
+    /// Which offset the nearest valid spot shows: the least for Left, the greatest for Right.
+    Back { spot: Spot, bias: Bias },
+    /// The nearest valid spot, on the side of the bias.
+    Clip { spot: Spot, bias: Bias },
 }
 
-/// What a line asks: a change, or the answer to a question.
+/// What a line asks: a change, the answer to a question, or only that every display line is wrapped at the width.
 #[derive(Debug, Drop)]
 pub enum Asked {
     Change(Change),
     Query(Query),
+    Settle,
 }

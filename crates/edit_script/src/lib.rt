@@ -4,15 +4,18 @@
 //! answer is the line that the rows of the view's record give; and that a refusal prints as its number.
 #![tactic(auto)]
 
-pub mod answer;
+pub mod answer_lines;
 pub mod asked;
 pub mod blank;
+mod commands;
+mod key;
 pub mod laws;
+pub mod query;
 pub mod read;
-#[cfg(test)]
-mod tests;
+mod values;
 
-pub use answer::{answer_line, refusal_line};
-pub use asked::{Asked, Query};
+pub use answer_lines::Answer;
+pub use asked::{Asked, Form, Query};
 pub use blank::skipped;
+pub use query::{answer, refusal_line};
 pub use read::read_line;

@@ -1,143 +1,129 @@
 //! Reading a line.
-ghost use Rattle.std.specs.Prelude.{◌≡◌, ◌≤◌, length, Some, option_map, option_and_then, IfOk, OnOk, IfErr};
-ghost use Rattle.serde_json.specs.Find.{as_array};
-ghost use Rattle.serde_json.specs.View.{view, items_view};
-ghost use Rattle.edit_script.specs.Commands.{meaning, query_meaning, number_in, splice_of_items, splices_of_items, rows_of_items, command_of_key, command_of_value, command_of};
-ghost use Rattle.edit_script.specs.Verdict.{line_limit, IsLineRefused};
+ghost use Rattle.std.specs.Prelude.{◌≡◌, ◌≤◌, ◌<◌, false, length, Some, IfOk, OnOk, IfErr};
+ghost use Rattle.serde_json.specs.View.{view as data_of};
+ghost use Rattle.display_map.specs.Replay.{present_of};
+ghost use Rattle.edit_script.specs.Commands.{meaning, command_named, command_of_value, command_of};
+ghost use Rattle.edit_script.specs.Verdict.{line_limit, is_over, IsReadAs, IsLineRefused};
 
-use crate::asked::{Asked, Query};
+use crate::asked::{Asked, Form};
 use crate::blank::LINE_LIMIT;
-use cell_units::{Fault, NoMemory, Refusal, Steps, Text};
-use display_map::{Change, Splice};
+use crate::commands::command_at;
+use crate::key::key_of;
+use cell_units::{Fault, NoMemory, Refusal, Steps};
+use display_map::View;
 use serde_json::Value;
-use std::alloc::Global;
+use std::alloc::{AllocError, Global};
 
-/// What a line asks. A line is one JSON text, an object of exactly one key:
+/// Why a line asks nothing.
+#[derive(Clone, Copy, Debug, PartialEq, Eq)]
+pub(crate) enum Unread {
+    /// It has no form of a command.
+    NoForm,
+    /// An id is over 4,294,967,295.
+    IdOver,
+    /// There was no memory.
+    NoMemory,
+}
+
+impl From<NoMemory> for Unread {
+    ghost use Rattle.std.specs.Prelude.{◌≡◌};
+    ghost use Rattle.edit_script.specs.declared.read.Unread.TheVariants as unread;
+
+    ghost from_gives = { λ _ e. e ≡ unread.NoMemory };
+
+    fn from(_error: NoMemory) -> Unread {
+        Unread::NoMemory
+    }
+}
+
+impl From<AllocError> for Unread {
+    ghost use Rattle.std.specs.Prelude.{◌≡◌};
+    ghost use Rattle.edit_script.specs.declared.read.Unread.TheVariants as unread;
+
+    ghost from_gives = { λ _ e. e ≡ unread.NoMemory };
+
+    fn from(_error: AllocError) -> Unread {
+        Unread::NoMemory
+    }
+}
+
+/// What a line asks, in this form of a script and on this view's text. A line is one JSON text, an object of exactly one
+/// key. An edit, an inlay, a fold, a block, the tab size and the width are changes; `settle` asks only that every display
+/// line is wrapped at the width; `rows`, `peek`, `display`, `buffer` and `clip` are queries. The README of this crate has
+/// the value of each key.
 ///
-/// - `edit`, with a list of `[start, end, text]`, asks to replace these ranges of bytes by these texts;
-/// - `rows`, with `[first, count]`, asks for the rows from `first` on, as many as there are up to `count`.
-///
-/// A number that doesn't fit 32 bits counts as the greatest that does. A line over 1,048,576 bytes is refused as
-/// `TooLong`, and any other that is no such text as `NotCommand`.
-pub fn read_line(alloc: Global, line: &[u8], _steps: &mut Steps) -> Result<Asked, Fault>
+/// A number that is no id and doesn't fit 32 bits counts as the greatest that does. A line over 1,048,576 bytes is
+/// refused as `TooLong`, any other that is no such text as `NotCommand`, and else one with an id over 4,294,967,295 as
+/// `BadNumber`.
+pub fn read_line(
+    alloc: Global,
+    line: &[u8],
+    form: Form,
+    view: &View,
+    _steps: &mut Steps,
+) -> Result<Asked, Fault>
     ensures within { OnOk result (length line.now ≤ line_limit) }
-    ensures read { IfOk result (λ asked. command_of line.now ≡ Some (meaning asked)) }
-    ensures refused { IfErr result (IsLineRefused line.now) }
+    ensures read { IfOk result
+        (λ asked. command_of form (present_of view.now).text line.now ≡ Some (meaning asked)) }
+    ensures fits { IfOk result (λ asked. is_over (meaning asked) ≡ false) }
+    ensures refused { IfErr result (IsLineRefused form (present_of view.now).text line.now) }
 {
     if line.len() > LINE_LIMIT {
         return Err(Fault::Refused(Refusal::TooLong));
     }
-    match read_command(alloc, line)? {
-        Some(asked) => Ok(asked),
-        None => Err(Fault::Refused(Refusal::NotCommand)),
+    match read_command(alloc, line, form, view) {
+        Ok(asked) => Ok(asked),
+        Err(Unread::NoForm) => Err(Fault::Refused(Refusal::NotCommand)),
+        Err(Unread::IdOver) => Err(Fault::Refused(Refusal::BadNumber)),
+        Err(Unread::NoMemory) => Err(Fault::NoMemory),
     }
 }
 
-fn read_command(alloc: Global, line: &[u8]) -> Result<Option<Asked>, NoMemory>
-    ensures { IfOk result (λ asked. option_map meaning asked ≡ command_of line.now) }
+fn read_command(alloc: Global, line: &[u8], form: Form, view: &View) -> Result<Asked, Unread>
+    ensures { IsReadAs (command_of form (present_of view.now).text line.now) result }
 {
     match Value::from_slice(alloc, line) {
-        Ok(value) => command_in(alloc, &value),
+        Ok(value) => command_in(alloc, &value, form, view),
         Err(error) => {
             if error.is_memory() {
-                Err(NoMemory)
+                Err(Unread::NoMemory)
             } else {
-                Ok(None)
+                Err(Unread::NoForm)
             }
         }
     }
 }
 
 /// The command of an object that has exactly one key.
-fn command_in(alloc: Global, value: &Value) -> Result<Option<Asked>, NoMemory>
-    ensures { IfOk result (λ asked. option_map meaning asked ≡ command_of_value (view value.now)) }
+fn command_in(alloc: Global, value: &Value, form: Form, view: &View) -> Result<Asked, Unread>
+    ensures { IsReadAs (command_of_value form (present_of view.now).text (data_of value.now))
+        result }
 {
     let Some(members) = value.as_object() else {
-        return Ok(None);
+        return Err(Unread::NoForm);
     };
     if members.len() != 1 {
-        return Ok(None);
+        return Err(Unread::NoForm);
     }
     match members.first_key_value() {
-        Some((key, value)) => command_at(alloc, key.as_str(), value),
-        None => Ok(None),
+        Some((name, value)) => command_named(alloc, name.as_str(), value, form, view),
+        None => Err(Unread::NoForm),
     }
 }
 
-/// The command of a key and its value.
-fn command_at(alloc: Global, key: &str, value: &Value) -> Result<Option<Asked>, NoMemory>
-    ensures { IfOk result (λ asked. option_map meaning asked ≡ command_of_key key.now (view value.now)) }
+/// The command of a key's name and its value.
+fn command_named(
+    alloc: Global,
+    name: &str,
+    value: &Value,
+    form: Form,
+    view: &View,
+) -> Result<Asked, Unread>
+    ensures { IsReadAs (command_named form (present_of view.now).text name.now (data_of value.now))
+        result }
 {
-    let Some(items) = value.as_array() else {
-        return Ok(None);
-    };
-    if key == "edit" {
-        match splices_in(alloc, items)? {
-            Some(splices) => Ok(Some(Asked::Change(Change::Edit(splices)))),
-            None => Ok(None),
-        }
-    } else if key == "rows" {
-        Ok(rows_in(items).map(Asked::Query))
-    } else {
-        Ok(None)
+    match key_of(name) {
+        Some(key) => command_at(alloc, key, value, form, view),
+        None => Err(Unread::NoForm),
     }
-}
-
-/// A list of replacements.
-fn splices_in(alloc: Global, items: &[Value]) -> Result<Option<Vec<Splice>>, NoMemory>
-    ensures { IfOk result (λ splices. option_map (λ v. v.items) splices ≡ splices_of_items (items_view items.now)) }
-{
-    let mut splices = Vec::with_capacity(alloc, items.len())?;
-    for item in items {
-        match splice_in(alloc, item)? {
-            Some(splice) => splices.push(splice)?,
-            None => return Ok(None),
-        }
-    }
-    Ok(Some(splices))
-}
-
-/// A replacement, `[start, end, text]`.
-fn splice_in(alloc: Global, value: &Value) -> Result<Option<Splice>, NoMemory>
-    ensures { IfOk result (λ splice. splice ≡ option_and_then splice_of_items (as_array (view value.now))) }
-{
-    match value.as_array() {
-        Some(items) => splice_of(alloc, items),
-        None => Ok(None),
-    }
-}
-
-fn splice_of(alloc: Global, items: &[Value]) -> Result<Option<Splice>, NoMemory>
-    ensures { IfOk result (λ splice. splice ≡ splice_of_items (items_view items.now)) }
-{
-    match items {
-        [start, end, text] => match (number_in(start), number_in(end), text.as_str()) {
-            (Some(start), Some(end), Some(text)) => {
-                let text = Text::from_str(alloc, text)?;
-                Ok(Some(Splice { start, end, text }))
-            }
-            _ => Ok(None),
-        },
-        _ => Ok(None),
-    }
-}
-
-/// A question for rows, `[first, count]`.
-fn rows_in(items: &[Value]) -> Option<Query>
-    ensures { option_map query_meaning result ≡ rows_of_items (items_view items.now) }
-{
-    let [first, count] = items else {
-        return None;
-    };
-    let first = number_in(first)?;
-    let count = number_in(count)?;
-    Some(Query::Rows { first, count })
-}
-
-/// A number of up to 64 bits. One that doesn't fit 32 bits counts as the greatest that does.
-fn number_in(value: &Value) -> Option<u32>
-    ensures { result ≡ number_in (view value.now) }
-{
-    let number = value.as_u64()?;
-    Some(number.min(u64::from(u32::MAX)) as u32)
 }

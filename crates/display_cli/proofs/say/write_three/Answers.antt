@@ -1,22 +1,21 @@
 -- A front of one of three pieces is a front of all, behind the pieces before it.
 use Rattle.std.specs.Prelude.{Result, Ok, Err, OnErr}
-use Rattle.std.proofs.Common.{◌++◌, ◌∙◌, [], append_assoc, append-nil, refl}
-use Rattle.display_cli.specs.Going.{TakesFront}
-use Rattle.display_cli.proofs.Fronts.{appends-more, appends-none, front-behind}
+use Rattle.std.proofs.Common.{◌++◌, ◌∙◌, [], append_assoc, append-nil}
+use Rattle.display_cli.specs.Outside.{TakesFront}
+use Rattle.display_cli.proofs.Fronts.{takes-more, front-behind}
+use Rattle.display_cli.proofs.Results.{on-err}
 use Rattle.display_cli.proofs.say.write_three.Goals as goal
 
 on_err_weaker : {A E : Type 0} (r : Result A E) (P Q : Type 0) → (P → Q) → OnErr r P → OnErr r Q
 on_err_weaker (Ok x) P Q f h = h
 on_err_weaker (Err e) P Q f h = f h
 
-pub returns-in-Err-clause-front : goal.returns-in-Err-clause-front
-returns-in-Err-clause-front g c =
-    front-behind (g.K.Sink.taken c.args.out.now) _ _ [] c.args.first.now (c.args.second.now ++ c.args.third.now) _ (appends-none _) c.in-Err.ensures.front refl
-
-pub returns-in-Err-write_piece-clause-front : goal.returns-in-Err-write_piece-clause-front
-returns-in-Err-write_piece-clause-front g c =
-    front-behind _ _ _ c.args.first.now c.args.second.now c.args.third.now _ c.in-Ok.ensures.written c.in-Err-write_piece.ensures.front
-    (append_assoc c.args.first.now c.args.second.now c.args.third.now)
+pub returns-in_err-write_piece-2-clause-front : goal.returns-in_err-write_piece-2-clause-front
+returns-in_err-write_piece-2-clause-front g c =
+    on-err c.from_residual-in_err-write_piece-2.result
+    (TakesFront (c.args.first.now ++ (c.args.second.now ++ c.args.third.now)) (g.K.Sink.state c.args.out.now) (g.K.Sink.state c.write_piece-2.new.out))
+    (front-behind _ (g.K.Sink.state c.write_piece.new.out) _ c.args.first.now c.args.second.now c.args.third.now _ c.in_ok-write_piece.ensures.written
+    c.in_err-write_piece-2.ensures.front (append_assoc c.args.first.now c.args.second.now c.args.third.now))
 
 pub returns-clause-front : goal.returns-clause-front
 returns-clause-front g c =
@@ -24,9 +23,9 @@ returns-clause-front g c =
     let second = c.args.second.now in
     let third = c.args.third.now in
     on_err_weaker c.write_piece-3.result
-    (TakesFront (g.K.Sink.taken c.write_piece-2.new.out) (g.K.Sink.taken c.write_piece-3.new.out) third)
-    (TakesFront (g.K.Sink.taken c.args.out.now) (g.K.Sink.taken c.write_piece-3.new.out) (first ++ (second ++ third)))
-    (λ it. front-behind _ _ _ (first ++ second) third [] _
-    (appends-more _ (g.K.Sink.taken c.write_piece.new.out) _ first second c.in-Ok.ensures.written c.in-Ok-write_piece.ensures.written)
+    (TakesFront third (g.K.Sink.state c.write_piece-2.new.out) (g.K.Sink.state c.write_piece-3.new.out))
+    (TakesFront (first ++ (second ++ third)) (g.K.Sink.state c.args.out.now) (g.K.Sink.state c.write_piece-3.new.out))
+    (λ it. front-behind _ (g.K.Sink.state c.write_piece-2.new.out) _ (first ++ second) third [] _
+    (takes-more _ (g.K.Sink.state c.write_piece.new.out) _ first second c.in_ok-write_piece.ensures.written c.in_ok-write_piece-2.ensures.written)
     it (append-nil ((first ++ second) ++ third) ∙ append_assoc first second third))
     c.write_piece-3.ensures.front

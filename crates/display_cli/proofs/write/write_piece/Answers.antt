@@ -1,16 +1,21 @@
 -- What the sink takes stands behind what it took before.
 use Rattle.std.proofs.Common.{◌≡◌, ◌-◌, ◌≤◌, ℕ, List, ap, length, arith, take, drop}
 use Rattle.std.proofs.lemmas.List.{take-append-drop, length-drop, take_all}
-use Rattle.display_cli.specs.Going.{TakesFront}
-use Rattle.display_cli.proofs.Fronts.{front-unchanged, piece-more, appends-same}
+use Rattle.display_cli.specs.Outside.{HasRisen, TakesFront}
+use Rattle.display_cli.proofs.Fronts.{front-refused, piece-more, takes-same, risen-behind}
 use Rattle.display_cli.proofs.Results.{on-err}
 use Rattle.display_cli.proofs.write.write_piece.Goals as goal
 
 pub returns-in_err-at-clause-front : goal.returns-in_err-at-clause-front
 returns-in_err-at-clause-front g c =
-    on-err c.from_residual.result (TakesFront (g.K.Sink.taken c.args.out.now) (g.K.Sink.taken c.write.new.self) c.args.piece.now)
-    (front-unchanged _ (g.K.Sink.taken c.loop-at.out) _ (take c.loop-at.at c.args.piece.now) (drop c.loop-at.at c.args.piece.now) _
-    c.loop-at.invariant.written c.in_err-at.ensures.unchanged (take-append-drop c.loop-at.at c.args.piece.now))
+    on-err c.from_residual.result (TakesFront c.args.piece.now (g.K.Sink.state c.args.out.now) (g.K.Sink.state c.write.new.self))
+    (front-refused _ (g.K.Sink.state c.loop-at.out) _ (take c.loop-at.at c.args.piece.now) (drop c.loop-at.at c.args.piece.now) _
+    c.loop-at.invariant.written c.in_err-at.ensures.refused (take-append-drop c.loop-at.at c.args.piece.now))
+
+pub returns-in_err-at-clause-failed : goal.returns-in_err-at-clause-failed
+returns-in_err-at-clause-failed g c =
+    on-err c.from_residual.result (HasRisen (g.K.Sink.state c.args.out.now).faults (g.K.Sink.state c.write.new.self).faults)
+    (risen-behind _ (g.K.Sink.state c.loop-at.out).faults _ c.loop-at.invariant.written.passed c.in_err-at.ensures.refused.failed)
 
 pub loop-at-preserved : goal.loop-at-preserved
 loop-at-preserved g c =
@@ -23,7 +28,6 @@ loop-at-preserved g c =
     let lengths = ap length all in
     record {
       within = omega arith;
-      written = piece-more _ (g.K.Sink.taken c.loop-at.out) _ piece at c.in_ok-at.field-0 c.loop-at.invariant.written
-          (appends-same _ _ _ _ (ap (take c.in_ok-at.field-0) all) c.in_ok-at.ensures.taken);
-      rises = omega (arith, c.loop-at.invariant.rises, c.write.ensures.rises);
+      written = piece-more _ (g.K.Sink.state c.loop-at.out) _ piece at c.in_ok-at.field-0 c.loop-at.invariant.written
+          (takes-same _ _ _ _ (ap (take c.in_ok-at.field-0) all) c.in_ok-at.ensures.taken);
     }

@@ -76,9 +76,9 @@ pub returns-clause-over_64_bits : goal.returns-clause-over_64_bits
 unfolding is_utf8 chars serde_json_on_literals
 returns-clause-over_64_bits c = refl
 
-pub returns-clause-greatest_of_64_bits : goal.returns-clause-greatest_of_64_bits
+pub returns-clause-all_64_bits : goal.returns-clause-all_64_bits
 unfolding is_utf8 chars serde_json_on_literals
-returns-clause-greatest_of_64_bits c = refl
+returns-clause-all_64_bits c = refl
 
 pub returns-clause-brackets : goal.returns-clause-brackets
 unfolding is_utf8 chars serde_json_on_literals

@@ -1,0 +1,43 @@
+-- How far a name was read, and what was written of a line.
+use Rattle.std.specs.Prelude.{ℕ, ◌≡◌, ◌<◌, ◌≤◌, ◌++◌, List, [], ◌∷◌, length, take, Option, Result, IfSome, IfOk}
+use Rattle.display_cli.specs.declared.read.Unread.{Unread}
+use Rattle.display_cli.specs.declared.read.Unread.TheVariants as ends
+use Rattle.display_cli.specs.declared.stop.Stop.{Stop}
+use Rattle.display_cli.specs.declared.stop.Stop.TheVariants as stops
+use Rattle.display_cli.specs.declared.outside.Part.{Part}
+use Rattle.display_cli.specs.Outside.{Faults, Read, InputState, SinkState, HasRisen, HasPartRisen, AreTold, TakesFront}
+use Rattle.display_cli.specs.Ended.{AreReadsOf}
+
+-- where bytes are told, these are their first
+abbrev pub HasFront : Option (List ℕ) → List ℕ → Type 0
+HasFront told read = IfSome told (λ bytes. (length read ≤ length bytes) × (read ≡ take (length read) bytes))
+
+-- where bytes are told, these are all of them, and they are within the limit
+abbrev pub IsWholeWithin : Option (List ℕ) → ℕ → List ℕ → Type 0
+IsWholeWithin told limit read = AreTold told read × (length read ≤ limit)
+
+-- why a name of a part wasn't read to its end: the counts of faults are those before and after
+abbrev pub IsUnread : Part → Option (List ℕ) → ℕ → Faults → Faults → Unread → Type 0
+IsUnread part told limit old new ends.Failed = HasPartRisen part old new
+IsUnread part told limit old new ends.TooLong = IfSome told (λ bytes. limit < length bytes)
+IsUnread part told limit old new ends.NoMemory = new ≡ old
+
+-- one read of a part under a name, from a byte on, and what is told stays
+pub record ReadsOnce (part : Part) (name : List ℕ) (at : ℕ) (result : Result ℕ Unread) (old new : InputState) : Type 0 where
+  pub tells : (any : List ℕ) → new.told any ≡ old.told any
+  pub count : ℕ
+  pub made : new.reads ≡ old.reads ++ record { part = part; name = name; at = at; count = count } ∷ []
+  pub counted : IfOk result (λ n. n ≡ count)
+
+-- reads of a part under a name from its first byte on, each from where the one before it ended, and what is told stays
+pub record ReadsName (part : Part) (name : List ℕ) (old new : InputState) : Type 0 where
+  pub tells : (any : List ℕ) → new.told any ≡ old.told any
+  pub reads : List Read
+  pub made : new.reads ≡ old.reads ++ reads
+  pub in_order : AreReadsOf part name 0 reads
+
+-- why a front of these bytes was written and no more
+abbrev pub IsUnwritten : List ℕ → SinkState → SinkState → Stop → Type 0
+IsUnwritten bytes old new stops.Write = TakesFront bytes old new × HasRisen old.faults new.faults
+IsUnwritten bytes old new stops.JournalFull = ⊥
+IsUnwritten bytes old new stops.Memory = TakesFront bytes old new × (new.faults ≡ old.faults)

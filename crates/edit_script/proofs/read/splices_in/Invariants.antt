@@ -1,9 +1,0 @@
-use Rattle.std.proofs.Common.{◌≡◌, drop}
-use Rattle.serde_json.specs.View.{items_view}
-use Rattle.edit_script.specs.Commands.{splices_of_items}
-use Rattle.edit_script.proofs.Forms.{after}
-use Rattle.edit_script.proofs.read.splices_in.Given as goal
-
--- the splices of all values are those read so far and those of the values that are left
-abbrev pub invariant-loop-item : goal.invariant-loop-item
-invariant-loop-item l = splices_of_items (items_view l.items) ≡ after l.splices.items (drop l.item-index l.items)

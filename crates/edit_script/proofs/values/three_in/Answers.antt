@@ -1,0 +1,15 @@
+-- A list of another length has none.
+use Rattle.std.proofs.Common.{ap, length, arith}
+use borrow.Author.Tests.{ltb-true, ltb-false}
+use Rattle.serde_json.specs.View.{view}
+use Rattle.edit_script.proofs.Forms.{three_in-other}
+use Rattle.edit_script.proofs.values.three_in.Goals as goal
+use Rattle.edit_script.proofs.values.three_in.Goals.{in_default-via-then-as_slice-lt3, in_default-via-else-as_slice-lt3+else-this-lt4}
+
+pub returns-in_default : goal.returns-in_default
+returns-in_default c =
+    let same = ap length c.as_slice.ensures.value in
+    elim c.in_default.branch [
+      | in_default-via-then-as_slice-lt3 w ↦ three_in-other (view c.args.value.now) c.in_ok-as_array.field-0.now.items c.in_ok-as_array.ensures (omega (arith, ltb-true, same))
+      | in_default-via-else-as_slice-lt3+else-this-lt4 w ↦ three_in-other (view c.args.value.now) c.in_ok-as_array.field-0.now.items c.in_ok-as_array.ensures (omega (arith, ltb-false, same))
+    ]
