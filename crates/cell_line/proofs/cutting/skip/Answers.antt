@@ -7,6 +7,6 @@ pub loop-preserved : goal.loop-preserved
 loop-preserved c =
     let k = c.args.count - (c.loop.counter + 1) in
     let n : suc k ≡ c.args.count - c.loop.counter = omega (arith, c.loop-test.true) in
-    sym (dropped k (left_of c.loop.walk) (left_of c.next.new.self) c.next.result c.next.ensures)
+    sym (dropped k (left_of c.loop.walk) (left_of c.next_mark.new.self) c.next_mark.result c.next_mark.ensures)
     ∙ ap (λ (i : ℕ). drop i (left_of c.loop.walk)) n
     ∙ c.loop.invariant
