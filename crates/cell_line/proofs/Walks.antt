@@ -1,5 +1,5 @@
 -- The elements of a line, one after another.
-use Rattle.std.proofs.Common.{◌≡◌, inl, inr, ℕ, ◌+◌, ◌*◌, ◌/◌, ◌^◌, ◌<◌, ◌≤◌, Bool, true, false, not, ◌&&◌, ◌||◌, cond, zero, suc, nat_eq, nat_le, nat_lt, is_some, Option, Some, None, List, [], ◌∷◌, ◌++◌, length, take, drop, get_or, slice_index, slice_range, append_assoc, refl, ap, ap₂, sym, subst, ◌∙◌, arith}
+use Rattle.std.proofs.Common.{◌≡◌, inl, inr, ℕ, ◌+◌, ◌-◌, ◌*◌, ◌/◌, ◌^◌, ◌<◌, ◌≤◌, Bool, true, false, not, ◌&&◌, ◌||◌, cond, zero, suc, nat_eq, nat_le, nat_lt, is_some, Option, Some, None, List, [], ◌∷◌, ◌++◌, length, take, drop, get_or, slice_index, slice_range, append_assoc, refl, ap, ap₂, sym, subst, ◌∙◌, arith}
 use Rattle.std.specs.Int.{is_in_range}
 use Rattle.std.specs.List.{concat}
 use Rattle.std.specs.Str.{chars, IsCharBoundary, IsUtf8}
@@ -185,6 +185,13 @@ letters_length es zero rest h = let e : length es ≡ length rest = ap length h 
 letters_length es (suc n) rest h =
     let whole : length es ≡ suc (length h.1) = ap length h.2 in
     omega (arith, whole, letters_length h.1 n rest h.4)
+
+pub letters_drop : (es : List Element) (n k : ℕ) (rest : List Element) → AreLetters es n rest → n ≤ k → drop k es ≡ drop (k - n) rest
+letters_drop es zero k rest h le = let e : k ≡ k - 0 = omega arith in ap (drop k) h ∙ ap (λ (i : ℕ). drop i rest) e
+letters_drop es (suc n) zero rest h le = absurd (omega (arith, le))
+letters_drop es (suc n) (suc k) rest h le =
+    let e : k - n ≡ suc k - suc n = omega arith in
+    ap (drop (suc k)) h.2 ∙ letters_drop h.1 n k rest h.4 (omega (arith, le)) ∙ ap (λ (i : ℕ). drop i rest) e
 
 letter_from : (b : ℕ) → is_in_range 33 126 b ≡ true → 33 ≤ b
 letter_from b h = grind (arith, nat_tests)

@@ -43,8 +43,11 @@ pub(crate) fn skip(walk: &mut Walk, count: u32)
     requires { count ≤ length (left_of walk.old) }
     ensures { left_of walk.new ≡ drop count (left_of walk.old) }
 {
-    for _ in 0..count {
+    let mut left = count;
+    'elements: while left > 0 {
         let _ = walk.next_mark();
+        left -= 1;
+        left -= walk.pass_letters(left);
     }
 }
 

@@ -87,7 +87,7 @@ impl<'a> Walk<'a> {
     }
 
     /// The mark of the next element.
-    #[inline]
+    #[inline(always)]
     pub(crate) fn next_mark(&mut self) -> Option<Mark>
         ensures { IsMarked (left_of self.old) result (left_of self.new) }
     {

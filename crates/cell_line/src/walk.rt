@@ -283,7 +283,7 @@ impl<'a> PieceWalk<'a> {
     }
 
     /// The mark of the next element.
-    #[inline]
+    #[inline(always)]
     pub(crate) fn next_mark(&mut self) -> Option<Mark>
         ensures { IsMarked self.old result self.new }
     {
