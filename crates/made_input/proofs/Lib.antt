@@ -1,0 +1,4 @@
+pub mod Drawings
+pub mod Sizes
+pub mod Limits
+pub mod Scripts
