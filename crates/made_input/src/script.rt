@@ -29,7 +29,8 @@ impl Generator {
             ≡ string_bytes out.old ++ (edit_line text_length self.old.state).value.bytes) }
         ensures length { IfOk result (λ length. length
             ≡ (edit_line text_length self.old.state).value.text_length) }
-        ensures state { OnOk result (self.new.state ≡ (edit_line text_length self.old.state).state) }
+        ensures state { OnOk result (self.new.state
+            ≡ (edit_line text_length self.old.state).state) }
     {
         let start = self.draw(text_length + 1);
         let end = text_length.min(start + self.draw(40));
@@ -50,7 +51,8 @@ impl Generator {
         requires { text_length + 1 < 2 ^ 64 }
         ensures written { OnOk result (string_bytes out.new
             ≡ string_bytes out.old ++ (inlay_line id text_length self.old.state).value) }
-        ensures state { OnOk result (self.new.state ≡ (inlay_line id text_length self.old.state).state) }
+        ensures state { OnOk result (self.new.state
+            ≡ (inlay_line id text_length self.old.state).state) }
     {
         let offset = self.draw(text_length + 1);
         let word = self.word_alone(alloc)?;
@@ -64,7 +66,8 @@ impl Generator {
         requires { text_length + 1 < 2 ^ 64 }
         ensures written { OnOk result (string_bytes out.new
             ≡ string_bytes out.old ++ (fold_line id text_length self.old.state).value) }
-        ensures state { OnOk result (self.new.state ≡ (fold_line id text_length self.old.state).state) }
+        ensures state { OnOk result (self.new.state
+            ≡ (fold_line id text_length self.old.state).state) }
     {
         let start = self.draw(text_length + 1);
         let end = text_length.min(start + 1 + self.draw(200));
@@ -115,7 +118,8 @@ impl Generator {
         requires { text_length + 1 < 2 ^ 64 }
         ensures written { OnOk result (string_bytes out.new
             ≡ string_bytes out.old ++ (display_line text_length self.old.state).value) }
-        ensures state { OnOk result (self.new.state ≡ (display_line text_length self.old.state).state) }
+        ensures state { OnOk result (self.new.state
+            ≡ (display_line text_length self.old.state).state) }
     {
         let offset = self.draw(text_length + 1);
         write!(out, "{{\"display\":[{offset},\"left\"]}}")?;
@@ -135,7 +139,8 @@ impl Generator {
             ≡ string_bytes out.old ++ (script_line number text_length self.old.state).value.bytes) }
         ensures length { IfOk result (λ length. length
             ≡ (script_line number text_length self.old.state).value.text_length) }
-        ensures state { OnOk result (self.new.state ≡ (script_line number text_length self.old.state).state) }
+        ensures state { OnOk result (self.new.state
+            ≡ (script_line number text_length self.old.state).state) }
         ensures short { IfOk result (λ length. length ≤ text_length + 9) }
     {
         match self.draw(10) {
@@ -161,7 +166,8 @@ impl Generator {
         requires { text_length + 9 * count + 1 < 2 ^ 64 }
         ensures written { OnOk result (string_bytes out.new
             ≡ string_bytes out.old ++ (script_lines count 1 text_length self.old.state).value) }
-        ensures state { OnOk result (self.new.state ≡ (script_lines count 1 text_length self.old.state).state) }
+        ensures state { OnOk result (self.new.state
+            ≡ (script_lines count 1 text_length self.old.state).state) }
     {
         let mut length = text_length;
         for done in 0..count {

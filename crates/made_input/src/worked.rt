@@ -35,7 +35,8 @@ pub fn worked_scripts()
     ensures width { (script_line 12 100 0).value.bytes ≡ codes "{\"width\":44}" }
     ensures rows { (script_line 12 100 7).value.bytes ≡ codes "{\"rows\":[3231,5]}" }
     ensures display { (script_line 12 100 3).value.bytes ≡ codes "{\"display\":[69,\"left\"]}" }
-    ensures last_edit { (script_line 12 100 9).value.bytes ≡ codes "{\"edit\":[[39,71,\"npiprvhns\"]]}" }
+    ensures last_edit { (script_line 12 100 9).value.bytes
+        ≡ codes "{\"edit\":[[39,71,\"npiprvhns\"]]}" }
     ensures cut_at_the_end { (script_lines 4 1 50 0).value
         ≡ codes "{\"width\":44}\n{\"width\":56}\n{\"fold\":[3,32,50]}\n{\"fold\":[4,24,50]}\n" }
     ensures growing { (script_lines 4 1 50 6).value
