@@ -156,7 +156,7 @@ text_short count state =
     let short = short_concat 194 drawn.value (each_drawn 194 count line line_short state) in
     subst (λ (n : ℕ). IsShort (n * 194) (concat drawn.value)) (times-length count line state) short
 
-if_both : {A : Type 0} (P : A → Type 0) (b : Bool) (x y : A) → P x → P y → P (if b then x else y)
+pub if_both : {A : Type 0} (P : A → Type 0) (b : Bool) (x y : A) → P x → P y → P (if b then x else y)
 if_both P true x y p q = p
 if_both P false x y p q = q
 

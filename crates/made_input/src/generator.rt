@@ -1,14 +1,15 @@
 //! The numbers, words and lines that are drawn from a state.
-ghost use Rattle.std.specs.Prelude.{◌≡◌, ◌<◌, ◌≤◌, ◌+◌, ◌++◌, ◌^◌, length, replicate, OnOk, string_bytes};
+ghost use Rattle.std.specs.Prelude.{◌≡◌, ◌<◌, ◌++◌, ◌^◌, replicate, OnOk, string_bytes};
 ghost use Rattle.std.specs.List.{join_with_byte};
 ghost use Rattle.made_input.specs.Drawing.{draw, times};
 ghost use Rattle.made_input.specs.Made.{line, text_lines, word};
 
 use cell_units::NoMemory;
 
-/// What a state is multiplied by for the next one, and what is added to it then.
+/// What a state is multiplied by for the next one.
 const MULTIPLIER: u64 = 6_364_136_223_846_793_005;
 
+/// What is added then.
 const INCREMENT: u64 = 1_442_695_040_888_963_407;
 
 /// A state from which all is drawn.

@@ -1,5 +1,5 @@
 //! Draws, words and lines that an independent program gives by the same rules.
-ghost use Rattle.std.specs.Prelude.{◌≡◌, ◌++◌, ℕ, List, [], ◌∷◌, codes};
+ghost use Rattle.std.specs.Prelude.{◌≡◌, ◌++◌, [], ◌∷◌, codes};
 ghost use Rattle.made_input.specs.Drawing.{draw, times};
 ghost use Rattle.made_input.specs.Made.{line, script_line, script_lines, word};
 
