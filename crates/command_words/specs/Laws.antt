@@ -1,5 +1,5 @@
 -- Words that say a plan, for the laws of the reading.
-use Rattle.std.specs.Prelude.{ℕ, List, [], ◌∷◌, ◌++◌, Some, None, codes}
+use Rattle.std.specs.Prelude.{◌==◌, if◌then◌else◌, ℕ, List, [], ◌∷◌, ◌++◌, Some, None, codes}
 use Rattle.std.specs.Fmt.{decimal}
 use Rattle.command_words.specs.Words.{Key, Word, make, watch, workers}
 use Rattle.command_words.specs.declared.plan.Plan.{Plan}
@@ -33,3 +33,14 @@ written_names text script crew watchers = text ∷ written_threads crew watchers
 
 abbrev pub written_seed : ℕ → ℕ → ℕ → List Word
 written_seed seed crew watchers = written_threads crew watchers ++ option_name make ∷ decimal seed ∷ []
+
+-- ---- words that are written out
+
+abbrev pub with_letter : ℕ → List Word → List Word
+with_letter b [] = (b ∷ []) ∷ []
+with_letter b (word ∷ words) = (b ∷ word) ∷ words
+
+-- the words of a line, which stand apart by one space each
+abbrev pub spaced : List ℕ → List Word
+spaced [] = [] ∷ []
+spaced (b ∷ bs) = if b == 32 then [] ∷ spaced bs else with_letter b (spaced bs)

@@ -44,7 +44,8 @@ key_of word = key_named (before_first is_equals word)
 abbrev pub with_token : Token → Option (List Token) → Option (List Token)
 with_token token = option_map (λ tokens. token ∷ tokens)
 
--- the words from left to right, where an option may wait for its value, which is the next word. None where it waits at the end
+-- the words from left to right, where an option may wait for its value, which is the next word.
+-- None where one waits at the end
 unfoldable pub tokens : Option Key → List Word → Option (List Token)
 tokens None [] = Some []
 tokens (Some key) [] = None

@@ -13,12 +13,14 @@ use cell_units::{NoMemory, Text};
 use clap::ArgMatches;
 use std::alloc::Global;
 
-/// What the words ask for: the names of the text and of the script, or the number from which both are made and no
-/// names; and how many workers and watchers there are.
+/// What the words ask for.
 #[derive(Debug, Drop)]
 pub struct Plan {
+    /// The name of the text; empty where it is made.
     pub text: Text,
+    /// The name of the script; empty where it is made.
     pub script: Text,
+    /// The number from which the text and the script are made.
     pub make: Option<u32>,
     pub workers: u32,
     pub watchers: u32,
@@ -61,7 +63,8 @@ fn number(least: u32, most: u32, value: &str) -> Option<u32>
 
 /// The number that an option says; without the option, `missing`.
 fn number_said(missing: u32, least: u32, most: u32, value: Option<&str>) -> Option<u32>
-    ensures { result ≡ said missing (number least most) (cons_option (option_map (λ s. s.now) value.entry) []) }
+    ensures { result ≡ said missing (number least most)
+        (cons_option (option_map (λ s. s.now) value.entry) []) }
 {
     match value {
         Some(value) => number(least, most, value),
@@ -79,7 +82,7 @@ fn is_name(word: &str) -> bool
     }
 }
 
-/// The plan of the matches, if their values are in their ranges and the positionals are those that the options ask for.
+/// The plan of the matches, if their values are in their ranges and just the positionals stand that are wanted.
 pub(crate) fn plan_in(alloc: Global, matches: &ArgMatches<'_>) -> Result<Option<Plan>, NoMemory>
     ensures { IfOk result (λ plan. plan ≡ plan_of_found (found_of matches.now)) }
 {
@@ -94,9 +97,9 @@ pub(crate) fn plan_in(alloc: Global, matches: &ArgMatches<'_>) -> Result<Option<
     let text = matches.get_str("text");
     let script = matches.get_str("script");
     let (text, script, make) = match (matches.get_str("make"), text, script) {
-        (None, Some(text), Some(script)) if is_name(text) && is_name(script) => (
-            text, script, None,
-        ),
+        (None, Some(text), Some(script)) if is_name(text) && is_name(script) => {
+            (text, script, None)
+        }
         (Some(value), None, None) => match number(0, SEED_MOST, value) {
             Some(seed) => ("", "", Some(seed)),
             None => return Ok(None),

@@ -3,13 +3,13 @@ use Rattle.std.proofs.Common.{refl}
 use Rattle.command_words.specs.Words.{tokens}
 use Rattle.command_words.proofs.laws.worked_refusals.Goals as goal
 
-pub returns-clause-three_names : goal.returns-clause-three_names
-unfolding tokens
-returns-clause-three_names c = refl
-
 pub returns-clause-no_words : goal.returns-clause-no_words
 unfolding tokens
 returns-clause-no_words c = refl
+
+pub returns-clause-three_names : goal.returns-clause-three_names
+unfolding tokens
+returns-clause-three_names c = refl
 
 pub returns-clause-one_name : goal.returns-clause-one_name
 unfolding tokens
@@ -86,6 +86,10 @@ returns-clause-nine_watchers c = refl
 pub returns-clause-dashes : goal.returns-clause-dashes
 unfolding tokens
 returns-clause-dashes c = refl
+
+pub returns-clause-dashes_as_value : goal.returns-clause-dashes_as_value
+unfolding tokens
+returns-clause-dashes_as_value c = refl
 
 pub returns-clause-empty_word : goal.returns-clause-empty_word
 unfolding tokens
