@@ -1,5 +1,5 @@
 -- Rows that are filled, element by element.
-use Rattle.std.proofs.Common.{◌≡◌, ◌⊎◌, inl, inr, ℕ, ◌+◌, ◌-◌, ◌^◌, ◌<◌, ◌≤◌, ◌&&◌, ◌||◌, not, Bool, true, false, cond, List, [], ◌∷◌, ◌++◌, length, take, drop, nat_lt, nat_eq, slice_range, unwrap_or, Option, Some, None, append_assoc, append-nil, refl, ap, ap₂, sym, ◌∙◌, subst, arith}
+use Rattle.std.proofs.Common.{◌≡◌, ◌⊎◌, inl, inr, ℕ, ◌+◌, ◌-◌, ◌^◌, ◌<◌, ◌≤◌, ◌&&◌, ◌||◌, not, Bool, true, false, cond, List, [], ◌∷◌, ◌++◌, length, take, drop, zero, suc, nat_le, nat_lt, nat_eq, slice_range, unwrap_or, Option, Some, None, append_assoc, append-nil, refl, ap, ap₂, sym, ◌∙◌, subst, arith}
 use Rattle.std.proofs.lemmas.Bool.{cases_lt}
 use Rattle.std.proofs.lemmas.Bool.Decides.{nat_tests}
 use Rattle.std.proofs.lemmas.List.{drop-drop, drop-take, take-take}
@@ -11,8 +11,8 @@ use Rattle.cell_line.specs.Elements.{total_cells}
 use Rattle.cell_line.specs.Lines.{LineFitsU32}
 use Rattle.cell_line.specs.Wrapping.{element_at, ends_well, fits, greatest, is_blank, is_opportunity, is_wide, lead_of, next_start_of, row_starts, trimmed}
 use Rattle.cell_line.specs.Laws.{IsGreatest}
-use Rattle.cell_line.specs.inside.Filling.{may_end_at, overflows_at, parts_at, starts_after, starts_left, IsAsked, IsFilled, IsMarkAt, IsOpen, IsTurned, IsWell}
-use Rattle.cell_line.specs.inside.Marks.{IsMarked}
+use Rattle.cell_line.specs.inside.Filling.{letters_room_at, may_end_at, overflows_at, parts_at, starts_after, starts_left, IsAsked, IsFilled, IsMarkAt, IsOpen, IsTurned, IsWell}
+use Rattle.cell_line.specs.inside.Marks.{letter, AreLetters, IsMarked}
 use Rattle.cell_line.proofs.Greatest.{Greatest, greatest-at, greatest-fails, greatest-none, greatest-stays, greatest_is}
 use Rattle.cell_line.proofs.Rows.{row_starts_done, row_starts_next}
 use Rattle.cell_line.proofs.Scan.{blank_more, cells_more, ends_well-no_opportunity, ends_well-within, fits-true, range_le, scan_end, scan_stop}
@@ -479,3 +479,72 @@ pass_whole es room at row parts left p none first some =
     let end = scan_end es room row.start (omega (arith, first, some)) h.0.within in
     let same = ap (next_start_of es room) first in
     omega (arith, end, same)
+
+-- ---- letters
+
+no_letters : (es : List Element) (room at : ℕ) (row : Row) (parts : Bool) (left rest : List Element) → IsPassing es room at row parts left → left ≡ rest →
+    IsPassing es room (at + 0) (record { start = row.start; cells = row.cells + 0; well = row.well; since = row.since + 0 }) parts rest
+no_letters es room at row parts left rest p is =
+    let R : ℕ → ℕ → Row = λ c s. record { start = row.start; cells = c; well = row.well; since = s } in
+    let to : at ≡ at + 0 = omega arith in
+    let cells : row.cells ≡ row.cells + 0 = omega arith in
+    let since : row.since ≡ row.since + 0 = omega arith in
+    subst (λ (xs : List Element). IsPassing es room (at + 0) (R (row.cells + 0) (row.since + 0)) parts xs) is
+    (subst (λ (k : ℕ). IsPassing es room k (R (row.cells + 0) (row.since + 0)) parts left) to
+    (subst (λ (r : Row). IsPassing es room at r parts left) (ap₂ R cells since) p))
+
+may_not : (b : Bool) → (b && not false && (false || false)) ≡ false
+may_not true = refl
+may_not false = refl
+
+letters_pass : (es : List Element) (room lead at n : ℕ) (row : Row) (left rest : List Element) → IsPassing es room at row false left → lead ≡ lead_of es → lead < length es →
+    AreLetters left n rest → row.cells + n ≤ room →
+    IsPassing es room (at + n) (record { start = row.start; cells = row.cells + n; well = row.well; since = row.since + n }) false rest
+letters_pass es room lead at zero row left rest p is some h fits = no_letters es room at row false left rest p h
+letters_pass es room lead at (suc n) row left rest p is some h fits =
+    let m = pass_mark es room lead at row false left h.1 letter p is some (h.0, h.2, h.3) in
+    let asked = asked_no es room lead at row letter false m.0 p.open_row p.parts_are (inr (may_not (nat_lt lead at))) in
+    let more = with_more es room lead at row letter m.0 asked (inl (omega (arith, fits))) in
+    let one : Row = record { start = row.start; cells = row.cells + 1; well = row.well; since = row.since + 1 } in
+    let next : IsPassing es room (at + 1) one false h.1 = pass_more es room lead at one false h.1 letter m.0 m.1 more refl in
+    let R : ℕ → ℕ → Row = λ c s. record { start = row.start; cells = c; well = row.well; since = s } in
+    let to : at + 1 + n ≡ at + suc n = omega arith in
+    let cells : row.cells + 1 + n ≡ row.cells + suc n = omega arith in
+    let since : row.since + 1 + n ≡ row.since + suc n = omega arith in
+    subst (λ (k : ℕ). IsPassing es room k (R (row.cells + suc n) (row.since + suc n)) false rest) to
+    (subst (λ (r : Row). IsPassing es room (at + 1 + n) r false rest) (ap₂ R cells since)
+    (letters_pass es room lead (at + 1) n one h.1 rest next is some h.4 (omega (arith, fits))))
+
+room_for : (n most : ℕ) (none : Bool) → suc n ≤ cond none 0 most → suc n ≤ most
+room_for n most true h = absurd (omega (arith, h))
+room_for n most false h = h
+
+-- letters that fit stay on the row
+pub pass_letters : (es : List Element) (room lead at n : ℕ) (row : Row) (parts : Bool) (left rest : List Element) → IsPassing es room at row parts left → lead ≡ lead_of es → lead < length es →
+    AreLetters left n rest → n ≤ letters_room_at room row at parts →
+    IsPassing es room (at + n) (record { start = row.start; cells = row.cells + n; well = row.well; since = row.since + n }) parts rest
+pass_letters es room lead at zero row parts left rest p is some h le = no_letters es room at row parts left rest p h
+pass_letters es room lead at (suc n) row true left rest p is some h le = absurd (omega (arith, le))
+pass_letters es room lead at (suc n) row false left rest p is some h le =
+    letters_pass es room lead at (suc n) row left rest p is some h (let most = room_for n (room - row.cells) (nat_le at row.start) le in omega (arith, most))
+
+-- the row has begun before them
+pub letters_left : (es : List Element) (room at n : ℕ) (row : Row) (parts : Bool) → n ≤ letters_room_at room row at parts →
+    starts_left es room row.start at ≡ starts_left es room row.start (at + n)
+letters_left es room at zero row parts le = let e : at ≡ at + 0 = omega arith in ap (starts_left es room row.start) e
+letters_left es room at (suc n) row true le = absurd (omega (arith, le))
+letters_left es room at (suc n) row false le = elim (cases_lt row.start at) [
+  | inl lt ↦ left_begun es room row.start at lt ∙ sym (left_begun es room row.start (at + suc n) (omega (arith, lt)))
+  | inr here ↦
+      absurd (let e : nat_le at row.start ≡ true = grind (arith, nat_tests) in
+      let none : suc n ≤ 0 = subst (λ (b : Bool). suc n ≤ cond b 0 (room - row.cells)) e le in
+      omega (arith, none))
+]
+
+pub passing_fits : (es : List Element) (room at : ℕ) (row : Row) (parts : Bool) (left : List Element) → IsPassing es room at row parts left → LineFitsU32 es →
+    (row.cells < 2 ^ 32) × (row.since < 2 ^ 32) × (at < 2 ^ 32)
+passing_fits es room at row parts left p fits = (
+  omega (arith, p.open_row.0.cells_are, range_le es row.start at, fits.1),
+  omega (arith, p.open_row.1.since_are, range_le es (unwrap_or row.well row.start) at, fits.1),
+  omega (arith, p.open_row.0.end, fits.0),
+)

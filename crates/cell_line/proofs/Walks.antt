@@ -1,14 +1,15 @@
 -- The elements of a line, one after another.
-use Rattle.std.proofs.Common.{◌≡◌, inl, inr, ℕ, ◌+◌, ◌*◌, ◌/◌, ◌^◌, ◌<◌, ◌≤◌, Bool, true, false, ◌&&◌, cond, suc, nat_eq, nat_le, nat_lt, Option, Some, None, List, [], ◌∷◌, ◌++◌, length, take, drop, get_or, slice_index, slice_range, append_assoc, refl, ap, ap₂, sym, ◌∙◌, arith}
+use Rattle.std.proofs.Common.{◌≡◌, inl, inr, ℕ, ◌+◌, ◌-◌, ◌*◌, ◌/◌, ◌^◌, ◌<◌, ◌≤◌, Bool, true, false, not, ◌&&◌, ◌||◌, cond, zero, suc, nat_eq, nat_le, nat_lt, is_some, Option, Some, None, List, [], ◌∷◌, ◌++◌, length, take, drop, get_or, slice_index, slice_range, append_assoc, refl, ap, ap₂, sym, subst, ◌∙◌, arith}
 use Rattle.std.specs.Int.{is_in_range}
 use Rattle.std.specs.List.{concat}
-use Rattle.std.specs.Str.{chars, IsUtf8}
-use Rattle.std.proofs.lemmas.Bool.{cases_eq, cases_lt, ne_eqb}
+use Rattle.std.specs.Str.{chars, IsCharBoundary, IsUtf8}
+use Rattle.std.proofs.lemmas.Bool.{and_parts, cases_eq, cases_lt, ne_eqb}
 use Rattle.std.proofs.lemmas.Bool.Decides.{nat_tests}
 use Rattle.std.proofs.lemmas.List.{drop_all, drop_more, length-drop, nil_from_length}
 use Rattle.std.proofs.lemmas.List.Sums.{prefix_len-le-length}
-use Rattle.std.proofs.lemmas.Str.{chars-nil, IsCharBoundary-start}
+use Rattle.std.proofs.lemmas.Str.{chars-nil, IsCharBoundary-before_ascii, IsCharBoundary-start, IsUtf8-drop}
 use Rattle.unicode_segmentation.specs.Grapheme.{graphemes, is_grapheme_break}
+use Rattle.unicode_segmentation.specs.declared.grapheme.Graphemes.{Graphemes}
 use Rattle.unicode_segmentation.proofs.SegmentsLemmas.{concat-segments}
 use Rattle.unicode_width.specs.Width.{str_width}
 use Rattle.unicode_width.proofs.Rules.{str_width-printable}
@@ -20,11 +21,12 @@ use Rattle.cell_line.specs.declared.mark.Mark.{Mark}
 use Rattle.cell_line.specs.Lines.{LineFitsU32}
 use Rattle.cell_line.specs.Wrapping.{element_at, indent_of, is_blank, lead_of, nothing}
 use Rattle.cell_line.specs.inside.Filling.{IsMarkAt}
-use Rattle.cell_line.specs.inside.Marks.{element_of, mark_of, IsLead, IsMarked, IsTaken}
-use Rattle.cell_line.specs.inside.Simple.{is_simple, IsSeam}
+use Rattle.cell_line.specs.inside.Marks.{element_of, letter, mark_of, AreLetters, IsLead, IsMarked}
+use Rattle.cell_line.specs.inside.Parts.{clusters_in}
+use Rattle.cell_line.specs.inside.Simple.{is_letter_before, is_simple, IsSeam, StartsWithLetters}
 use Rattle.cell_line.proofs.Placed.{clusters_step, total_cells-cons}
 use Rattle.cell_line.proofs.Quiet.{simple_is_quiet}
-use Rattle.cell_line.proofs.Seam.{chars-ascii, graphemes_at_seam, graphemes_none, graphemes_one}
+use Rattle.cell_line.proofs.Seam.{chars-ascii, graphemes_at_seam, graphemes_none, graphemes_one, seam_boundary}
 
 -- ---- one byte
 
@@ -51,6 +53,21 @@ simple_element tab column text one simple differs =
     ap (λ t. E t 1 false) whole
     ∙ ap₂ (E (b ∷ [])) (sym (one_cell tab column b simple other)) (sym (ap (λ v. v && true) other))
     ∙ ap (element_of tab column) (sym whole)
+
+and_true : (b : Bool) → (b && true) ≡ b
+and_true true = refl
+and_true false = refl
+
+pub simple_mark : (tab column b : ℕ) → is_simple b ≡ true → (b ≡ 9 → ⊥) →
+    ◌≡◌ {A = Mark} (record { cells = 1; blank = nat_eq b 32; wide = false }) (mark_of (element_of tab column (b ∷ [])))
+simple_mark tab column b simple differs =
+    let other = ne_eqb b 9 differs in
+    let M : ℕ → Bool → Bool → Mark = λ w v s. record { cells = w; blank = (v && true) || s; wide = not (v && true) && nat_le 2 w } in
+    ap (M 1 false) (sym (and_true (nat_eq b 32)))
+    ∙ ap₂ (λ w v. M w v (nat_eq b 32 && true)) (sym (one_cell tab column b simple other)) (sym other)
+
+pub tab_mark : (tab column b : ℕ) → b ≡ 9 → ◌≡◌ {A = Mark} (record { cells = tab_cells_of tab column; blank = true; wide = false }) (mark_of (element_of tab column (b ∷ [])))
+tab_mark tab column b is = ap (λ (n : ℕ). mark_of (element_of tab column (n ∷ []))) (sym is)
 
 -- ---- pieces
 
@@ -128,6 +145,146 @@ one_cluster text part end is one simple =
     ∙ graphemes_one (slice_index part 0) (simple_is_quiet (slice_index part 0) simple).early
     ∙ ap (λ (t : List ℕ). t ∷ []) (sym (one_byte part one))
 
+-- no part is being cut
+pub part_absent : (part : Option Graphemes) (some : Bool) → some ≡ is_some part → some ≡ false → clusters_in part ≡ []
+part_absent None some h is = refl
+part_absent (Some part) some h is = absurd (let d : true ≡ false = sym h ∙ is in cc)
+
+pub part_none : (part : Option Graphemes) (none : Bool) → is_some part ≡ not none → none ≡ true → clusters_in part ≡ []
+part_none None none h is = refl
+part_none (Some part) none h is = absurd (let d : true ≡ false = h ∙ ap not is in cc)
+
+first_byte : (text : List ℕ) → 0 < length text → slice_range text 0 1 ≡ slice_index text 0 ∷ []
+first_byte [] h = absurd (omega arith)
+first_byte (b ∷ rest) h = refl
+
+-- the walk over a simple byte
+pub step_simple : (tab column cells : ℕ) (part more : List (List ℕ)) (text rest : List ℕ) (all : List Element) → part ≡ [] → IsUtf8 text →
+    IsSeam text 0 1 → is_simple (slice_index text 0) ≡ true → rest ≡ drop 1 text → cells ≡ (element_of tab column (slice_index text 0 ∷ [])).cells →
+    placed tab column (part ++ (graphemes true text ++ more)) ≡ all → column + total_cells (placed tab column (part ++ (graphemes true text ++ more))) < 2 ^ 32 →
+    IsStep tab column cells all (element_of tab column (slice_index text 0 ∷ [])) (part ++ (graphemes true rest ++ more))
+step_simple tab column cells part more text rest all none utf8 seam simple left size view fits =
+    let b = slice_index text 0 in
+    let some : 0 < length text = let w = seam.within in omega arith in
+    let first : graphemes true (slice_range text 0 1) ≡ (b ∷ []) ∷ part =
+    ap (graphemes true) (first_byte text some) ∙ graphemes_one b (simple_is_quiet b simple).early ∙ ap (λ (p : List (List ℕ)). (b ∷ []) ∷ p) (sym none) in
+    step_fits tab column cells _ all (element_of tab column (b ∷ [])) (part ++ (graphemes true rest ++ more)) view fits size
+    (walk_to tab column 1 cells part (graphemes true text) more part more text rest (b ∷ []) (element_of tab column (b ∷ [])) none refl utf8 seam first refl size left)
+
+-- ---- letters
+
+pub letters_cells : (es : List Element) (n : ℕ) (rest : List Element) → AreLetters es n rest → total_cells es ≡ n + total_cells rest
+letters_cells es zero rest h = let e = ap total_cells h in omega (arith, e)
+letters_cells es (suc n) rest h =
+    let whole : total_cells es ≡ h.0.cells + total_cells h.1 = ap total_cells h.2 ∙ total_cells-cons h.0 h.1 in
+    let one : 1 ≡ h.0.cells = ap (λ (m : Mark). m.cells) h.3 in
+    omega (arith, whole, one, letters_cells h.1 n rest h.4)
+
+pub letters_length : (es : List Element) (n : ℕ) (rest : List Element) → AreLetters es n rest → length es ≡ n + length rest
+letters_length es zero rest h = let e : length es ≡ length rest = ap length h in omega (arith, e)
+letters_length es (suc n) rest h =
+    let whole : length es ≡ suc (length h.1) = ap length h.2 in
+    omega (arith, whole, letters_length h.1 n rest h.4)
+
+pub letters_drop : (es : List Element) (n k : ℕ) (rest : List Element) → AreLetters es n rest → n ≤ k → drop k es ≡ drop (k - n) rest
+letters_drop es zero k rest h le = let e : k ≡ k - 0 = omega arith in ap (drop k) h ∙ ap (λ (i : ℕ). drop i rest) e
+letters_drop es (suc n) zero rest h le = absurd (omega (arith, le))
+letters_drop es (suc n) (suc k) rest h le =
+    let e : k - n ≡ suc k - suc n = omega arith in
+    ap (drop (suc k)) h.2 ∙ letters_drop h.1 n k rest h.4 (omega (arith, le)) ∙ ap (λ (i : ℕ). drop i rest) e
+
+letter_from : (b : ℕ) → is_in_range 33 126 b ≡ true → 33 ≤ b
+letter_from b h = grind (arith, nat_tests)
+
+letter_simple : (b : ℕ) → is_in_range 33 126 b ≡ true → is_simple b ≡ true
+letter_simple b h = grind (arith, nat_tests)
+
+letter_mark : (tab column b : ℕ) → is_in_range 33 126 b ≡ true → letter ≡ mark_of (element_of tab column (b ∷ []))
+letter_mark tab column b h =
+    let low = letter_from b h in
+    let other : nat_eq b 32 ≡ false = grind (arith, nat_tests) in
+    let M : Bool → Mark = λ v. record { cells = 1; blank = v; wide = false } in
+    ap M (sym other) ∙ simple_mark tab column b (letter_simple b h) (λ e. omega (arith, low, e))
+
+pub letters_more : (text : List ℕ) (n : ℕ) → StartsWithLetters text n → n + 1 < length text → is_letter_before (slice_index text n) (slice_index text (n + 1)) ≡ true →
+    StartsWithLetters text (n + 1)
+letters_more text n h lt is i less = elim (cases_lt i n) [
+  | inl before ↦ h i before
+  | inr past ↦
+      let e : n ≡ i = omega (arith, less, past) in
+      subst (λ (k : ℕ). (k + 1 < length text) × (is_letter_before (slice_index text k) (slice_index text (k + 1)) ≡ true)) e (lt, is)
+]
+
+-- the first of them, and the byte behind it
+letter_at : (text : List ℕ) (n i : ℕ) → StartsWithLetters text n → i < n →
+    (i + 1 < length text) × (is_in_range 33 126 (slice_index text i) ≡ true) × (is_simple (slice_index text (i + 1)) ≡ true)
+letter_at text n i h lt =
+    let w = h i lt in
+    let both = and_parts (is_in_range 33 126 (slice_index text i)) (is_simple (slice_index text (i + 1))) w.1 in
+    (w.0, both.0, both.1)
+
+letters_tail : (b : ℕ) (text : List ℕ) (n : ℕ) → StartsWithLetters (b ∷ text) (suc n) → StartsWithLetters text n
+letters_tail b text n h i lt =
+    let w = h (suc i) (omega (arith, lt)) in
+    let e : suc i + 1 ≡ suc (i + 1) = omega arith in
+    (omega (arith, w.0), sym (ap (λ (k : ℕ). is_letter_before (slice_index text i) (slice_index (b ∷ text) k)) e) ∙ w.1)
+
+letter_seam : (text : List ℕ) (n : ℕ) → StartsWithLetters text (suc n) → IsSeam text 0 1
+letter_seam text n h =
+    let w = letter_at text (suc n) 0 h (omega arith) in record {
+      past = omega arith;
+      within = omega (arith, w.0);
+      apart = inr (omega (arith, w.0), letter_simple (slice_index text 0) w.1, w.2);
+    }
+
+pub letters_boundary : (text : List ℕ) (n : ℕ) → IsUtf8 text → StartsWithLetters text n → IsCharBoundary text n
+letters_boundary text zero utf8 h = IsCharBoundary-start text utf8
+letters_boundary text (suc n) utf8 h =
+    let w = letter_at text (suc n) n h (omega arith) in
+    let e : n + 1 ≡ suc n = omega arith in
+    let simple : is_simple (slice_index text (suc n)) ≡ true = sym (ap (λ (k : ℕ). is_simple (slice_index text k)) e) ∙ w.2 in
+    IsCharBoundary-before_ascii text (suc n) (omega (arith, w.0)) (simple_is_quiet (slice_index text (suc n)) simple).early
+
+-- the walk over letters
+pub letters_walk : (tab column n : ℕ) (text : List ℕ) (more : List (List ℕ)) → IsUtf8 text → StartsWithLetters text n →
+    AreLetters (placed tab column (graphemes true text ++ more)) n (placed tab (column + n) (graphemes true (drop n text) ++ more))
+letters_walk tab column zero text more utf8 h =
+    let e : column ≡ column + 0 = omega arith in
+    ap (λ (k : ℕ). placed tab k (graphemes true text ++ more)) e
+letters_walk tab column (suc n) [] more utf8 h = absurd (let w = (h 0 (omega arith)).0 in omega (arith, w))
+letters_walk tab column (suc n) (b ∷ text) more utf8 h =
+    let is = (letter_at (b ∷ text) (suc n) 0 h (omega arith)).1 in
+    let seam = letter_seam (b ∷ text) n h in
+    let e = element_of tab column (b ∷ []) in
+    let mark = letter_mark tab column b is in
+    let one : 1 ≡ e.cells = ap (λ (m : Mark). m.cells) mark in
+    let step : placed tab column (graphemes true (b ∷ text) ++ more) ≡ e ∷ placed tab (column + 1) (graphemes true text ++ more) =
+    walk_to tab column 1 1 [] (graphemes true (b ∷ text)) more [] more (b ∷ text) text (b ∷ []) e refl refl utf8 seam
+    (graphemes_one b (simple_is_quiet b (letter_simple b is)).early) refl one refl in
+    let to : column + 1 + n ≡ column + suc n = omega arith in
+    let rest = letters_walk tab (column + 1) n text more (IsUtf8-drop (b ∷ text) 1 utf8 (seam_boundary (b ∷ text) 0 1 utf8 seam)) (letters_tail b text n h) in (
+      e,
+      placed tab (column + 1) (graphemes true text ++ more),
+      step,
+      mark,
+      subst (λ (k : ℕ). AreLetters (placed tab (column + 1) (graphemes true text ++ more)) n (placed tab k (graphemes true (drop n text) ++ more))) to rest,
+    )
+
+pub pass_walk : (tab column n : ℕ) (part more : List (List ℕ)) (text rest : List ℕ) (all : List Element) → part ≡ [] → IsUtf8 text → StartsWithLetters text n →
+    rest ≡ drop n text → placed tab column (part ++ (graphemes true text ++ more)) ≡ all → column + total_cells (placed tab column (part ++ (graphemes true text ++ more))) < 2 ^ 32 →
+    AreLetters all n (placed tab (column + n) (part ++ (graphemes true rest ++ more)))
+    × (column + n + total_cells (placed tab (column + n) (part ++ (graphemes true rest ++ more))) < 2 ^ 32)
+pass_walk tab column n part more text rest all none utf8 starts left view fits =
+    let front : placed tab column (graphemes true text ++ more) ≡ all =
+    ap (λ (p : List (List ℕ)). placed tab column (p ++ (graphemes true text ++ more))) (sym none) ∙ view in
+    let behind : placed tab (column + n) (graphemes true (drop n text) ++ more) ≡ placed tab (column + n) (part ++ (graphemes true rest ++ more)) =
+    ap₂ (λ (p : List (List ℕ)) (r : List ℕ). placed tab (column + n) (p ++ (graphemes true r ++ more))) (sym none) (sym left) in
+    let are : AreLetters all n (placed tab (column + n) (part ++ (graphemes true rest ++ more))) =
+    subst (AreLetters all n) behind
+    (subst (λ (es : List Element). AreLetters es n (placed tab (column + n) (graphemes true (drop n text) ++ more))) front (letters_walk tab column n text more utf8 starts)) in
+    let cells : total_cells (placed tab column (part ++ (graphemes true text ++ more))) ≡ total_cells all = ap total_cells view in
+    (are, omega (arith, fits, cells, letters_cells all n (placed tab (column + n) (part ++ (graphemes true rest ++ more))) are))
+
 -- ---- where a walk stands
 
 pub taken_at : (es : List Element) (at : ℕ) (e : Element) (rest : List Element) → drop at es ≡ e ∷ rest →
@@ -145,10 +302,10 @@ taken_at es at e rest is =
 pub taken_none : (es : List Element) (at : ℕ) → drop at es ≡ [] → length es ≤ at
 taken_none es at is = omega (arith, length-drop at es, ap length is)
 
--- an element more was taken
-pub dropped : (k : ℕ) (es rest : List Element) (taken : Option Element) → IsTaken es taken rest → drop (suc k) es ≡ drop k rest
+-- the mark of an element more was taken
+pub dropped : (k : ℕ) (es rest : List Element) (taken : Option Mark) → IsMarked es taken rest → drop (suc k) es ≡ drop k rest
 dropped k es rest None h = ap (drop (suc k)) h.0 ∙ drop_all (suc k) [] (omega arith) ∙ sym (drop_all k [] (omega arith)) ∙ ap (drop k) (sym h.1)
-dropped k es rest (Some e) h = ap (drop (suc k)) h
+dropped k es rest (Some mark) h = ap (drop (suc k)) h.1
 
 pub mark_at : (es : List Element) (lead at : ℕ) (mark : Mark) (rest : List Element) → lead ≡ lead_of es → lead < length es →
     IsMarked (drop at es) (Some mark) rest → IsMarkAt es lead at mark × (rest ≡ drop (at + 1) es)

@@ -1,4 +1,5 @@
 -- What the parts of the crate say to each other.
 pub mod Simple
+pub mod Parts
 pub mod Marks
 pub mod Filling

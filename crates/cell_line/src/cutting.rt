@@ -31,6 +31,9 @@ fn first_end(mut walk: Walk, lead: u32, room: u32) -> Option<u32>
         row = row.with(mark);
         parts = mark.parts_after();
         at += 1;
+        let letters = walk.pass_letters(row.letters_room(room, at, parts));
+        row = row.with_letters(letters);
+        at += letters;
     }
     None
 }
@@ -40,8 +43,11 @@ pub(crate) fn skip(walk: &mut Walk, count: u32)
     requires { count ≤ length (left_of walk.old) }
     ensures { left_of walk.new ≡ drop count (left_of walk.old) }
 {
-    for _ in 0..count {
-        let _ = walk.next();
+    let mut left = count;
+    'elements: while left > 0 {
+        let _ = walk.next_mark();
+        left -= 1;
+        left -= walk.pass_letters(left);
     }
 }
 
@@ -69,6 +75,9 @@ fn push_starts(
         row = fill(starts, asked, room, lead, at, mark)?;
         parts = mark.parts_after();
         at += 1;
+        let letters = walk.pass_letters(row.letters_room(room, at, parts));
+        row = row.with_letters(letters);
+        at += letters;
     }
     Ok(())
 }

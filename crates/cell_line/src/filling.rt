@@ -3,7 +3,7 @@ ghost use Rattle.std.specs.Prelude.{◌≡◌, ◌⊎◌, ℕ, ◌+◌, ◌^◌,
 ghost use Rattle.cell_line.specs.declared.element.Element.{Element};
 ghost use Rattle.cell_line.specs.declared.mark.Mark.{Mark};
 ghost use Rattle.cell_line.specs.Wrapping.{next_start_of};
-ghost use Rattle.cell_line.specs.inside.Filling.{may_end_at, overflows_at, parts_at, starts_after, starts_left, IsAsked, IsMarkAt, IsOpen, IsTurned};
+ghost use Rattle.cell_line.specs.inside.Filling.{letters_room_at, may_end_at, overflows_at, parts_at, starts_after, starts_left, IsAsked, IsMarkAt, IsOpen, IsTurned};
 
 use crate::mark::Mark;
 use crate::wrapping::Cuts;
@@ -24,6 +24,7 @@ pub(crate) struct Row {
 
 impl Row {
     /// A row without elements.
+    #[inline]
     pub(crate) fn at(start: u32) -> Row
         ensures { result ≡ record { start = start; cells = 0; well = None; since = 0 } }
     {
@@ -36,6 +37,7 @@ impl Row {
     }
 
     /// The row, and where it may end before the element at the place, `parts` being whether it may after the one before.
+    #[inline]
     pub(crate) fn asked(self, lead: u32, at: u32, parts: bool, mark: Mark) -> Row
         ensures start { result.start ≡ self.start }
         ensures asked { (es : List Element) (room : ℕ) → IsMarkAt es lead at mark → IsOpen es room at self → (self.start < at → parts ≡ parts_at es at) → IsAsked es room at result }
@@ -53,6 +55,7 @@ impl Row {
     }
 
     /// The row with the element of the mark.
+    #[inline]
     pub(crate) fn with(self, mark: Mark) -> Row
         requires cells { self.cells + mark.cells < 2 ^ 32 }
         requires since { self.since + mark.cells < 2 ^ 32 }
@@ -63,6 +66,38 @@ impl Row {
             cells: self.cells + mark.cells,
             well: self.well,
             since: self.since + mark.cells,
+        }
+    }
+
+    /// How many letters may follow: none where it has no element, or may end before them.
+    #[inline]
+    pub(crate) fn letters_room(self, room: u32, at: u32, parts: bool) -> u32
+        ensures { result ≡ letters_room_at room self at parts }
+    {
+        if parts || at <= self.start {
+            0
+        } else {
+            room.saturating_sub(self.cells)
+        }
+    }
+
+    /// The row with so many letters more.
+    #[inline]
+    pub(crate) fn with_letters(self, count: u32) -> Row
+        requires cells { self.cells + count < 2 ^ 32 }
+        requires since { self.since + count < 2 ^ 32 }
+        ensures { result ≡ record {
+          start = self.start;
+          cells = self.cells + count;
+          well = self.well;
+          since = self.since + count;
+        } }
+    {
+        Row {
+            start: self.start,
+            cells: self.cells + count,
+            well: self.well,
+            since: self.since + count,
         }
     }
 
@@ -79,6 +114,7 @@ impl Row {
 }
 
 /// Whether a row may end before the element at the place, `parts` being whether it may after the one before.
+#[inline]
 fn may_end(lead: u32, at: u32, parts: bool, mark: Mark) -> bool
     ensures { result ≡ may_end_at lead at parts mark }
 {
@@ -86,6 +122,7 @@ fn may_end(lead: u32, at: u32, parts: bool, mark: Mark) -> bool
 }
 
 /// Whether the element at the place overflows the room and may not hang past it.
+#[inline]
 pub(crate) fn overflows(room: u32, lead: u32, at: u32, cells: u32, mark: Mark) -> bool
     requires { cells + mark.cells < 2 ^ 32 }
     ensures { result ≡ overflows_at room lead at cells mark }
@@ -94,6 +131,7 @@ pub(crate) fn overflows(room: u32, lead: u32, at: u32, cells: u32, mark: Mark) -
 }
 
 /// Adds the row's start, where the element at the place is its first.
+#[inline]
 pub(crate) fn begin(starts: &mut Cuts, start: u32, at: u32) -> Result<(), NoMemory>
     requires { start ≤ at }
     ensures { (es : List Element) (room : ℕ) (all : List ℕ) → at < length es → starts.old.items ++ starts_left es room start at ≡ all → OnOk result (starts.new.items ++ starts_after es room start ≡ all) }
@@ -135,6 +173,7 @@ fn from_place(starts: &mut Cuts, row: Row, room: u32, at: u32, mark: Mark) -> Re
 }
 
 /// The row that has the element at the place as its last, or begins after it. The starts of the rows before are added.
+#[inline]
 pub(crate) fn fill(
     starts: &mut Cuts,
     row: Row,

@@ -1,11 +1,12 @@
 //! The elements of a line one after another, and what wrapping asks of them.
-ghost use Rattle.std.specs.Prelude.{◌≡◌, ◌^◌, ◌<◌, ◌||◌, ℕ, List, length};
+ghost use Rattle.std.specs.Prelude.{◌≡◌, ◌^◌, ◌<◌, ◌≤◌, ◌||◌, ℕ, List, [], ◌∷◌, length, true};
 ghost use Rattle.cell_line.specs.declared.element.Element.{Element};
 ghost use Rattle.cell_line.specs.Elements.{total_cells};
 ghost use Rattle.cell_line.specs.Wrapping.{indent_of};
-ghost use Rattle.cell_line.specs.inside.Marks.{left_of, mark_of, IsLead, IsMarked, IsTaken};
+ghost use Rattle.cell_line.specs.inside.Simple.{is_simple};
+ghost use Rattle.cell_line.specs.inside.Marks.{element_of, left_of, mark_of, AreLetters, IsLead, IsMarked, IsTaken};
 
-use crate::element::Element;
+use crate::element::{Element, tab_cells};
 use crate::walk::{Lent, PieceWalk};
 
 /// What wrapping asks of an element: its cells, whether it is a blank, and whether it is wide.
@@ -18,7 +19,8 @@ pub(crate) struct Mark {
 
 impl Mark {
     /// The mark of an element.
-    fn of(element: &Lent) -> Mark
+    #[inline]
+    pub(crate) fn of(element: &Lent) -> Mark
         ensures { result ≡ mark_of element.now }
     {
         Mark {
@@ -28,7 +30,29 @@ impl Mark {
         }
     }
 
+    /// The mark of a simple byte that `column` cells of its line precede.
+    #[inline]
+    pub(crate) fn of_simple(byte: u8, tab: u32, column: u32) -> Mark
+        requires size { 0 < tab }
+        requires simple { is_simple byte ≡ true }
+        ensures { result ≡ mark_of (element_of tab column (byte ∷ [])) }
+    {
+        if byte == b'\t' {
+            return Mark {
+                cells: tab_cells(tab, column),
+                blank: true,
+                wide: false,
+            };
+        }
+        Mark {
+            cells: 1,
+            blank: byte == b' ',
+            wide: false,
+        }
+    }
+
     /// Whether a row may end after the element, whatever follows but a blank.
+    #[inline]
     pub(crate) fn parts_after(self) -> bool
         ensures { result ≡ (self.blank || self.wide) }
     {
@@ -63,12 +87,31 @@ impl<'a> Walk<'a> {
     }
 
     /// The mark of the next element.
+    #[inline(always)]
     pub(crate) fn next_mark(&mut self) -> Option<Mark>
         ensures { IsMarked (left_of self.old) result (left_of self.new) }
     {
-        match self.next() {
-            Some(element) => Some(Mark::of(&element)),
-            None => None,
+        match self {
+            Walk::Pieces(walk) => walk.next_mark(),
+            Walk::Elements(elements) => match *elements {
+                [first, rest @ ..] => {
+                    *elements = rest;
+                    Some(Mark::of(&Lent::of_element(first)))
+                }
+                [] => None,
+            },
+        }
+    }
+
+    /// Passes over letters that are next, up to so many, and answers how many. It may stop before one.
+    #[inline]
+    pub(crate) fn pass_letters(&mut self, most: u32) -> u32
+        ensures within { result ≤ most }
+        ensures letters { AreLetters (left_of self.old) result (left_of self.new) }
+    {
+        match self {
+            Walk::Pieces(walk) => walk.pass_letters(most),
+            Walk::Elements(_) => 0,
         }
     }
 }

@@ -1,12 +1,14 @@
 //! The elements of pieces one after another, each with its text lent.
-ghost use Rattle.std.specs.Prelude.{◌≡◌, ◌+◌, ◌^◌, ◌<◌, ◌≤◌, ◌++◌, [], drop, length, slice_index, true, IfNone, IfSome};
+ghost use Rattle.std.specs.Prelude.{◌≡◌, ◌+◌, ◌^◌, ◌<◌, ◌≤◌, ◌++◌, [], ◌∷◌, drop, length, slice_index, true, IfNone, IfSome};
 ghost use Rattle.unicode_segmentation.specs.Grapheme.{graphemes};
 ghost use Rattle.cell_line.specs.Elements.{cells_of, clusters, elements_of, total_cells};
 ghost use Rattle.cell_line.specs.Wrapping.{is_blank, is_wide};
-ghost use Rattle.cell_line.specs.inside.Simple.{is_simple, IsSeam};
-ghost use Rattle.cell_line.specs.inside.Marks.{element_of, IsNextText, IsTaken};
+ghost use Rattle.cell_line.specs.inside.Simple.{is_letter_before, is_simple, IsSeam, StartsWithLetters};
+ghost use Rattle.cell_line.specs.inside.Marks.{element_of, AreLetters, IsMarked, IsNextText, IsTaken};
+ghost use Rattle.cell_line.specs.inside.Parts.{clusters_in};
 
 use crate::element::{Element, cells, tab_cells};
+use crate::mark::Mark;
 use cell_units::Piece;
 use std::marker::Model;
 use unicode_segmentation::{Graphemes, UnicodeSegmentation};
@@ -63,6 +65,7 @@ impl<'a> Lent<'a> {
     }
 
     /// An element.
+    #[inline]
     pub(crate) fn of_element(element: &'a Element) -> Lent<'a>
         ensures { result ≡ element.now }
     {
@@ -74,6 +77,7 @@ impl<'a> Lent<'a> {
     }
 
     /// Its text.
+    #[inline]
     pub(crate) fn text(&self) -> &'a str
         ensures { result.now ≡ self.now.text }
     {
@@ -81,6 +85,7 @@ impl<'a> Lent<'a> {
     }
 
     /// How many cells it has.
+    #[inline]
     pub(crate) fn cells(&self) -> u32
         ensures { result ≡ self.now.cells }
     {
@@ -88,6 +93,7 @@ impl<'a> Lent<'a> {
     }
 
     /// Whether it is a tab.
+    #[inline]
     pub(crate) fn is_tab(&self) -> bool
         ensures { result ≡ self.now.tab }
     {
@@ -95,6 +101,7 @@ impl<'a> Lent<'a> {
     }
 
     /// Whether it is a blank: a tab or one space.
+    #[inline]
     pub(crate) fn is_blank(&self) -> bool
         ensures { result ≡ is_blank self.now }
     {
@@ -102,6 +109,7 @@ impl<'a> Lent<'a> {
     }
 
     /// Whether it is no tab and has two or more cells.
+    #[inline]
     pub(crate) fn is_wide(&self) -> bool
         ensures { result ≡ is_wide self.now }
     {
@@ -110,6 +118,7 @@ impl<'a> Lent<'a> {
 }
 
 /// Whether the byte is printable ASCII or a tab.
+#[inline]
 fn is_simple(byte: u8) -> bool
     ensures { result ≡ is_simple byte }
 {
@@ -127,6 +136,59 @@ fn next_seam(bytes: &[u8]) -> usize
         }
     }
     bytes.len()
+}
+
+/// Whether the text begins with a simple byte that the clusters part from what follows it.
+#[inline]
+fn starts_simple(bytes: &[u8]) -> bool
+    ensures { result ≡ true → IsSeam bytes.now 0 1 × (is_simple (slice_index bytes.now 0) ≡ true) }
+{
+    match bytes {
+        [] => false,
+        [only] => is_simple(*only),
+        [first, second, ..] => is_simple(*first) && is_simple(*second),
+    }
+}
+
+/// Whether the byte is printable ASCII but a space, and the next one is simple.
+#[inline]
+fn is_letter_before(byte: u8, next: u8) -> bool
+    ensures { result ≡ is_letter_before byte next }
+{
+    (33 <= byte && byte <= 126) && is_simple(next)
+}
+
+/// How many letters with a simple byte behind each the text begins with, up to so many.
+#[inline]
+fn letters(bytes: &[u8], most: usize) -> usize
+    ensures within { result ≤ most }
+    ensures letters { StartsWithLetters bytes.now result }
+{
+    let end = most.min(bytes.len().saturating_sub(1));
+    for at in 0..end {
+        if !is_letter_before(bytes[at], bytes[at + 1]) {
+            return at;
+        }
+    }
+    end
+}
+
+/// The next cluster of a part, if one is being cut.
+#[inline]
+fn next_cluster<'a>(part: &mut Option<Graphemes<'a>>) -> Option<&'a str>
+    ensures some { IfSome result (λ cluster. clusters_in part.old ≡ cluster.now ∷ clusters_in part.new) }
+    ensures none { IfNone result ((clusters_in part.old ≡ []) × (clusters_in part.new ≡ [])) }
+{
+    let Some(clusters) = part else {
+        return None;
+    };
+    match clusters.next() {
+        Some(cluster) => Some(cluster),
+        None => {
+            *part = None;
+            None
+        }
+    }
 }
 
 /// Where a line goes on that has `rest` and the pieces from `begun` on left: how many pieces are begun then, and the text.
@@ -154,8 +216,8 @@ pub(crate) struct PieceWalk<'a> {
     pieces: &'a [Piece],
     // how many of the pieces were begun
     begun: usize,
-    // the clusters of a part of the last of them, and what follows the part
-    part: Graphemes<'a>,
+    // the clusters that are left of a part of the last of them, where one is being cut, and what follows it
+    part: Option<Graphemes<'a>>,
     rest: &'a str,
     tab: u32,
     column: u32,
@@ -165,16 +227,16 @@ impl<'a> Model for PieceWalk<'a> {
     ghost use Rattle.std.specs.Prelude.{◌+◌, ◌^◌, ◌<◌, ◌≤◌, ◌++◌, List, drop, length, true};
     ghost use Rattle.std.specs.Str.{IsUtf8};
     ghost use Rattle.unicode_segmentation.specs.Grapheme.{graphemes};
-    ghost use Rattle.unicode_segmentation.specs.Iter.{graphemes_left};
     ghost use Rattle.cell_line.specs.declared.element.Element.{Element};
     ghost use Rattle.cell_line.specs.Elements.{clusters, placed, total_cells};
+    ghost use Rattle.cell_line.specs.inside.Parts.{clusters_in};
 
     ghost Value = { List Element };
 
-    ghost view = { λ w. placed w.tab w.column (graphemes_left w.part ++ (graphemes true w.rest.now ++ clusters (drop w.begun w.pieces.now))) };
+    ghost view = { λ w. placed w.tab w.column (clusters_in w.part ++ (graphemes true w.rest.now ++ clusters (drop w.begun w.pieces.now))) };
 
     ghost invariant = { λ w. (0 < w.tab) × (w.begun ≤ length w.pieces.now) × IsUtf8 w.rest.now
-        × (w.column + total_cells (placed w.tab w.column (graphemes_left w.part ++ (graphemes true w.rest.now ++ clusters (drop w.begun w.pieces.now)))) < 2 ^ 32) };
+        × (w.column + total_cells (placed w.tab w.column (clusters_in w.part ++ (graphemes true w.rest.now ++ clusters (drop w.begun w.pieces.now)))) < 2 ^ 32) };
 }
 
 impl<'a> PieceWalk<'a> {
@@ -187,7 +249,7 @@ impl<'a> PieceWalk<'a> {
         PieceWalk {
             pieces,
             begun: 0,
-            part: "".graphemes(true),
+            part: None,
             rest: "",
             tab,
             column: 0,
@@ -198,7 +260,7 @@ impl<'a> PieceWalk<'a> {
     pub(crate) fn next(&mut self) -> Option<Lent<'a>>
         ensures { IsTaken self.old result self.new }
     {
-        if let Some(cluster) = self.part.next() {
+        if let Some(cluster) = next_cluster(&mut self.part) {
             let lent = Lent::of_cluster(cluster, self.tab, self.column);
             self.column += lent.cells();
             return Some(lent);
@@ -213,10 +275,50 @@ impl<'a> PieceWalk<'a> {
             self.column += lent.cells();
             return Some(lent);
         }
-        self.part = part.graphemes(true);
-        let cluster = self.part.next()?;
+        self.part = Some(part.graphemes(true));
+        let cluster = next_cluster(&mut self.part)?;
         let lent = Lent::of_cluster(cluster, self.tab, self.column);
         self.column += lent.cells();
         Some(lent)
+    }
+
+    /// The mark of the next element.
+    #[inline(always)]
+    pub(crate) fn next_mark(&mut self) -> Option<Mark>
+        ensures { IsMarked self.old result self.new }
+    {
+        if self.part.is_none() && starts_simple(self.rest.as_bytes()) {
+            let mark = Mark::of_simple(self.rest.as_bytes()[0], self.tab, self.column);
+            self.rest = &self.rest[1..];
+            self.column += mark.cells;
+            return Some(mark);
+        }
+        self.next_seldom()
+    }
+
+    /// Passes over the letters that are next, each with a simple byte behind it, up to so many, and answers how many.
+    #[inline]
+    pub(crate) fn pass_letters(&mut self, most: u32) -> u32
+        ensures within { result ≤ most }
+        ensures letters { AreLetters self.old result self.new }
+    {
+        if self.part.is_some() {
+            return 0;
+        }
+        let count = letters(self.rest.as_bytes(), most as usize);
+        self.rest = &self.rest[count..];
+        self.column += count as u32;
+        count as u32
+    }
+
+    /// The same where the element is no simple byte beside another, or the first of its piece.
+    #[inline(never)]
+    fn next_seldom(&mut self) -> Option<Mark>
+        ensures { IsMarked self.old result self.new }
+    {
+        match self.next() {
+            Some(element) => Some(Mark::of(&element)),
+            None => None,
+        }
     }
 }

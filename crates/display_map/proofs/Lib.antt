@@ -12,11 +12,14 @@ pub mod LandedCuts
 pub mod LandedDisplays
 pub mod LandedPlaces
 pub mod LandedWorks
+pub mod LandingLaws
 pub mod Landings
 pub mod LawfulReplays
+pub mod LinePatches
 pub mod Lowered
 pub mod OpenedDisplays
 pub mod Outstanding
+pub mod PatchesByStamp
 pub mod Places
 pub mod Publishing
 pub mod Replays
@@ -29,4 +32,5 @@ pub mod Views
 pub mod WaitingFlags
 pub mod WaitingLines
 pub mod WorkedBatches
+pub mod WorkedPatches
 pub mod Works

@@ -2,6 +2,7 @@ pub mod Displays
 pub mod Events
 pub mod Identity
 pub mod LawfulStates
+pub mod LinePatches
 pub mod Outs
 pub mod Replay
 pub mod Sending

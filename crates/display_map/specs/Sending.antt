@@ -1,11 +1,13 @@
 -- Jobs that a display sends and takes back.
-use Rattle.std.specs.Prelude.{ℕ, ◌≡◌, ◌+◌, ◌==◌, Bool, false, List, [], ◌∷◌, ◌++◌, length, Option, Some, None}
+use Rattle.std.specs.Prelude.{ℕ, ◌≡◌, ◌+◌, ◌<◌, ◌==◌, Bool, true, false, List, [], ◌∷◌, ◌++◌, length, slice_get, slice_index, slice_index_or, Option, Some, None}
 use Rattle.std.specs.List.{list_any}
 use Rattle.cell_line.specs.declared.element.Element.{Element}
+use Rattle.cell_line.specs.Wrapping.{cuts_of}
 use Rattle.plain_rows.specs.Rows.{line_elements}
-use Rattle.wrap_workers.specs.Jobs.{JobParts}
+use Rattle.wrap_workers.specs.Jobs.{JobParts, wraps_of}
 use Rattle.display_map.specs.Events.{Event, Sent, Landed}
-use Rattle.display_map.specs.Replay.{History, state_of, present_of, appended, next_run}
+use Rattle.display_map.specs.Identity.{stamps_in}
+use Rattle.display_map.specs.Replay.{History, SentJob, State, appended, holds, job_numbered, next_run, present_of, state_of}
 
 -- the event that sends a job
 abbrev pub sending : JobParts (List (List Element)) → Event
@@ -36,3 +38,14 @@ pub record IsOutstanding (h : History) (job : JobParts (List (List Element))) : 
   pub width_is : job.width ≡ (present_of (record { opening = h.opening; events = before })).width
   pub lines_are : job.lines ≡ line_elements (present_of (record { opening = h.opening; events = before }))
   pub not_landed : list_any (is_landing job.number) after ≡ false
+
+-- the landing of the job marks the present lines whose stamps it holds; of each the job gives the cuts
+pub record GivesCuts (s : State) (job : JobParts (List (List Element))) : Type 0 where
+  pub sent : SentJob
+  pub found : job_numbered job.number s.jobs ≡ Some sent
+  pub cuts :
+      (i : ℕ) → i < length s.present.marks → holds sent.stamps (slice_index (stamps_in s.present) i) ≡ true →
+      (k : ℕ)
+      × (slice_get sent.stamps k ≡ slice_get (stamps_in s.present) i)
+      × (slice_get (wraps_of job.lines job.run job.width) k
+      ≡ Some (cuts_of (slice_index_or (line_elements s.present) i []) job.width))

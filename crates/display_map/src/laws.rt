@@ -1,7 +1,8 @@
 //! What holds of jobs that are out, and of the records that a journal leads to.
-ghost use Rattle.std.specs.Prelude.{◌≡◌, ◌≤◌, ℕ, List, [], ◌∷◌, None, false, length, map, take};
+ghost use Rattle.std.specs.Prelude.{◌≡◌, ◌≤◌, ℕ, List, [], ◌∷◌, ◌++◌, None, false, codes, length, map, take};
+ghost use Rattle.std.specs.List.{range_with_len};
 ghost use Rattle.cell_units.specs.Record.{Record};
-ghost use Rattle.cell_units.specs.Operation.{Operation, operated};
+ghost use Rattle.cell_units.specs.Operation.{Operation, Replace, operated};
 ghost use Rattle.cell_units.specs.Touched.{Rows, row_range, touched};
 ghost use Rattle.cell_units.specs.Text.{IsText};
 ghost use Rattle.cell_units.specs.Lawful.{IsAllowed, IsLawful};
@@ -11,10 +12,13 @@ ghost use Rattle.display_sheet.specs.declared.change.Splice.{Splice};
 ghost use Rattle.display_map.specs.Events.{Event, Did};
 ghost use Rattle.display_sheet.specs.Changes.{batch, edit_refusal};
 ghost use Rattle.display_sheet.specs.LineStep.{GivesFreshMarks, KeepsMarks, SplicesMarks, line_step};
-ghost use Rattle.display_map.specs.Replay.{History, State, appended, begun, replayed};
-ghost use Rattle.display_map.specs.Identity.{HaveSameLines};
+ghost use Rattle.display_map.specs.Replay.{History, State, appended, begun, replayed, state_of};
+ghost use Rattle.display_map.specs.Identity.{HaveSameLines, stamps_in};
+ghost use Rattle.display_map.specs.LinePatches.{CameByStamp, IsPatchOver};
 ghost use Rattle.display_map.specs.LawfulStates.{EventsFit, InsertUtf8};
-ghost use Rattle.display_map.specs.Sending.{IsOutstanding, IsSent, is_landing};
+ghost use Rattle.display_map.specs.Sending.{GivesCuts, IsOutstanding, IsSent, is_landing};
+ghost use Rattle.edit_patch.specs.declared.edit.Edit.{Edit};
+ghost use Rattle.edit_patch.specs.Came.{edit_of};
 
 /// Laws of jobs. Call it where a job is to land; it does nothing.
 ///
@@ -40,4 +44,44 @@ pub fn replay_laws()
     ensures lawful { (text : List ℕ) (events : List Event) → IsText text → EventsFit (begun text) events → IsLawful (replayed (begun text) events).present }
     ensures accepted { (s : State) (splices : List Splice) → IsText s.present.text → InsertUtf8 splices → edit_refusal s.present splices ≡ None →
         EventsFit s (map Did (batch splices)) }
+{}
+
+/// The line patches between the records of one journal. It does nothing.
+///
+/// The line patch of an operation leads from the display lines before it to those after it: an untouched line came from the
+/// untouched line that it was, and a touched line is new. From one record of a journal of allowed operations to each later
+/// one there is a composition of them, and by it a line came from another exactly where both have one stamp.
+pub fn line_patch_laws()
+    ensures exists { (text : List ℕ) (before after : List Event) → IsText text →
+        EventsFit (begun text) (before ++ after) →
+        (patch : List Edit) × IsPatchOver (replayed (begun text) before) after patch }
+    ensures came { (text : List ℕ) (before after : List Event) (patch : List Edit) → IsText text →
+        EventsFit (begun text) (before ++ after) →
+        IsPatchOver (replayed (begun text) before) after patch →
+        let earlier = (replayed (begun text) before).present in
+        CameByStamp patch earlier (replayed (begun text) (before ++ after)).present }
+{}
+
+/// Histories of which the stamps and the line patch are known. It does nothing.
+///
+/// A line that is changed and changed back is new, though its text is what it was. Where a line is made into two and then the
+/// line above it is taken away, only the line below came from one of the opening text.
+pub fn worked_line_patches()
+    ensures changed_back { let s = begun (97 ∷ 10 ∷ 98 ∷ []) in
+        let events = Did (Replace 2 3 (codes "x")) ∷ Did (Replace 2 3 (codes "b")) ∷ [] in
+        IsPatchOver s events (edit_of 1 2 1 2 ∷ [])
+        × (stamps_in (replayed s events).present ≡ 0 ∷ 3 ∷ []) }
+    ensures line_above_taken_away { let s = begun (97 ∷ 10 ∷ 98 ∷ 10 ∷ 99 ∷ []) in
+        let events = Did (Replace 2 3 (120 ∷ 10 ∷ 121 ∷ [])) ∷ Did (Replace 0 2 []) ∷ [] in
+        IsPatchOver s events (edit_of 0 2 0 2 ∷ [])
+        × (stamps_in (replayed s events).present ≡ 5 ∷ 4 ∷ 2 ∷ []) }
+{}
+
+/// The landing of a job that is out, whatever was done since it was sent: the job's cuts are those of exactly the present
+/// lines that the landing marks. It does nothing.
+pub fn landing_laws()
+    ensures { (h : History) (job : JobParts (List (List Element))) → IsText h.opening →
+        EventsFit (begun h.opening) h.events →
+        map (λ job. job.number) (state_of h).jobs ≡ range_with_len 1 (length (state_of h).jobs) →
+        IsOutstanding h job → GivesCuts (state_of h) job }
 {}

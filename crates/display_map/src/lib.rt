@@ -20,6 +20,8 @@ pub use display::Display;
 pub use display_sheet::{Change, Held, Kind, MarkRun, Op, Shown, Splice, step_laws};
 pub use event::Event;
 pub use journal::Journal;
-pub use laws::{job_laws, replay_laws, stamp_laws};
+pub use laws::{
+    job_laws, landing_laws, line_patch_laws, replay_laws, stamp_laws, worked_line_patches,
+};
 pub use version::Version;
 pub use view::View;

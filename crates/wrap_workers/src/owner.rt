@@ -49,7 +49,7 @@ impl<N: Lines> Model for Crew<N> {
 }
 
 impl<N: Lines> Crew<N> {
-    ghost use Rattle.std.specs.Prelude.{◌≡◌, ◌⊎◌, ◌↔◌, ◌*◌, ◌≤◌, [], ◌∷◌, ◌++◌, List, length, IfErr, OnOk, IfSome, IfNone, IsErr};
+    ghost use Rattle.std.specs.Prelude.{◌≡◌, ◌==◌, ◌⊎◌, ◌↔◌, ◌*◌, ◌≤◌, [], ◌∷◌, ◌++◌, List, length, IfErr, OnOk, IfSome, IfNone, IsErr};
     ghost use Rattle.crossbeam_channel.specs.Fifo.{Held};
     ghost use Rattle.wrap_workers.specs.Jobs.{IsFree, JobParts};
     ghost use Rattle.wrap_workers.specs.Finishes.{job_of};
@@ -64,6 +64,13 @@ impl<N: Lines> Crew<N> {
         ensures most { length self.now.out ≤ 2 * self.now.workers }
     {
         self.count
+    }
+
+    /// Whether two jobs for each worker are out, so that none can be handed out.
+    pub fn is_full(&self) -> bool
+        ensures { result ≡ (length self.now.out == 2 * self.now.workers) }
+    {
+        self.count == 2 * self.workers
     }
 
     /// Hands out a job, whose number no job that is out has. It comes back exactly where two jobs for each worker are out.

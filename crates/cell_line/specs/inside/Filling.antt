@@ -1,5 +1,5 @@
 -- What is known of a row while it is filled, element by element.
-use Rattle.std.specs.Prelude.{◌≡◌, ◌⊎◌, ℕ, ◌+◌, ◌-◌, ◌<◌, ◌≤◌, ◌||◌, ◌&&◌, not, Bool, true, List, Option, None, length, nat_lt, slice_range, unwrap_or, if◌then◌else◌}
+use Rattle.std.specs.Prelude.{◌≡◌, ◌⊎◌, ℕ, ◌+◌, ◌-◌, ◌<◌, ◌≤◌, ◌||◌, ◌&&◌, not, Bool, true, List, Option, None, length, nat_le, nat_lt, slice_range, unwrap_or, if◌then◌else◌}
 use Rattle.cell_line.specs.declared.element.Element.{Element}
 use Rattle.cell_line.specs.declared.filling.Row.{Row}
 use Rattle.cell_line.specs.declared.mark.Mark.{Mark}
@@ -50,6 +50,10 @@ overflows_at room lead at cells mark = nat_lt room (cells + mark.cells) && (not 
 -- a row may end before the element at the place, whatever row it is
 abbrev pub may_end_at : ℕ → ℕ → Bool → Mark → Bool
 may_end_at lead at parts mark = nat_lt lead at && not mark.blank && (parts || mark.wide)
+
+-- how many letters may follow on a row that has elements: none where it may end before them
+abbrev pub letters_room_at : ℕ → Row → ℕ → Bool → ℕ
+letters_room_at room row at parts = if parts || nat_le at row.start then 0 else room - row.cells
 
 -- the starts of the rows after that from `start`
 abbrev pub starts_after : List Element → ℕ → ℕ → List ℕ

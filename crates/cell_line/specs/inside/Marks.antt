@@ -1,5 +1,5 @@
 -- The elements of a line one after another, as far as wrapping asks for them.
-use Rattle.std.specs.Prelude.{◌≡◌, ◌<◌, ◌≤◌, ◌==◌, ◌++◌, ℕ, List, [], ◌∷◌, Option, Some, None, drop, length, take, true}
+use Rattle.std.specs.Prelude.{◌≡◌, ◌<◌, ◌≤◌, ◌==◌, ◌++◌, ℕ, zero, suc, false, List, [], ◌∷◌, Option, Some, None, drop, length, take, true}
 use Rattle.std.specs.Str.{IsUtf8}
 use Rattle.unicode_segmentation.specs.Grapheme.{graphemes}
 use Rattle.cell_units.specs.declared.piece.Piece.{Piece}
@@ -35,6 +35,15 @@ mark_of e = record { cells = e.cells; blank = is_blank e; wide = is_wide e }
 abbrev pub IsMarked : List Element → Option Mark → List Element → Type 0
 IsMarked es None rest = (es ≡ []) × (rest ≡ [])
 IsMarked es (Some mark) rest = (e : Element) × (es ≡ e ∷ rest) × (mark ≡ mark_of e)
+
+-- the mark of a letter
+abbrev pub letter : Mark
+letter = record { cells = 1; blank = false; wide = false }
+
+-- of the elements, so many letters were taken and the others are left
+abbrev pub AreLetters : List Element → ℕ → List Element → Type 0
+AreLetters es zero rest = es ≡ rest
+AreLetters es (suc n) rest = (e : Element) × (more : List Element) × (es ≡ e ∷ more) × (letter ≡ mark_of e) × AreLetters more n rest
 
 -- the elements that are left
 abbrev pub left_of : Walk → List Element

@@ -6,6 +6,7 @@ ghost use Rattle.cell_units.specs.Lawful.{IsWidth};
 use crate::element::Element;
 use crate::laws::{line_laws, worked_rows};
 use crate::lines::Lines;
+use crate::texts::row_texts_of_pieces;
 use crate::wrapping::{Cuts, cuts, cuts_of_pieces, indent};
 use alike::{Alike, short_line};
 use cell_units::{NoMemory, Piece, PieceKind, Text};
@@ -52,7 +53,7 @@ fn wrapped(alloc: Global, text: &str, width: u32) -> Result<Cuts, NoMemory>
 #[test]
 fn known_cuts(rt: HostRuntime) {
     worked_rows();
-    let table: [(&str, u32, &[u32], u32); 12] = [
+    let table: [(&str, u32, &[u32], u32); 18] = [
         ("hello world", 5, &[6], 0),
         ("\tfoo bar baz", 10, &[5, 9], 4),
         ("abcdefgh", 3, &[3, 6], 0),
@@ -65,6 +66,12 @@ fn known_cuts(rt: HostRuntime) {
         ("        x", 5, &[5], 0),
         ("a      b", 2, &[7], 0),
         ("a\u{200b}\u{200b}b\u{200b}c", 2, &[5], 0),
+        ("a\u{301}\u{301}bc", 2, &[2], 0),
+        ("\u{200b}\u{301}a b", 2, &[4], 0),
+        ("ae\u{301}\tbc", 5, &[3], 0),
+        ("ab漢c", 3, &[2], 0),
+        ("🇫🇷🇩🇪a", 3, &[1], 0),
+        ("x👩\u{200d}👧y", 2, &[1, 2], 0),
     ];
     for (text, width, want, depth) in table {
         assert!(rt; text.len() < 1000 && (width == 0 || (2 <= width && width <= 10000)));
@@ -100,6 +107,44 @@ fn known_cells(rt: HostRuntime) {
                 assert_eq!(rt; line.len(), want.len(), "{text:?}");
                 for (element, cells) in line.iter().zip(want) {
                     assert_eq!(rt; element.cells, *cells, "{text:?}");
+                }
+            }
+            Err(NoMemory) => panic!(rt; "out of memory"),
+        }
+    }
+}
+
+/// The texts of the rows of a short text at tab size 4.
+fn shown_rows(alloc: Global, text: &str, width: u32) -> Result<Vec<Text>, NoMemory>
+    requires short { length text.now < 1000 }
+    requires lawful { IsWidth width }
+{
+    line_laws();
+    let pieces = short_piece(alloc, text)?;
+    let cuts = cuts_of_pieces(alloc, pieces.as_slice(), 4, width)?;
+    let rows = row_texts_of_pieces(alloc, pieces.as_slice(), 4, width, &cuts, 0, 100)?;
+    Ok(rows)
+}
+
+#[test]
+fn known_row_texts(rt: HostRuntime) {
+    let table: [(&str, u32, &[&str]); 4] = [
+        (
+            "e\u{301}x 🇫🇷\u{200b}ab\tc",
+            4,
+            &["e\u{301}x ", "🇫🇷\u{200b}ab ", "c"],
+        ),
+        ("ae\u{301}\tbc", 5, &["ae\u{301}  ", "bc"]),
+        ("\te\u{301}漢 b", 8, &["    e\u{301}漢 ", "    b"]),
+        ("ab漢字cd", 4, &["ab漢", "字cd"]),
+    ];
+    for (text, width, want) in table {
+        assert!(rt; text.len() < 1000 && 2 <= width && width <= 10000);
+        match shown_rows(rt.alloc(), text, width) {
+            Ok(rows) => {
+                assert_eq!(rt; rows.len(), want.len(), "{text:?} at {width}");
+                for (row, text) in rows.iter().zip(want) {
+                    assert_eq!(rt; row.as_str(), *text);
                 }
             }
             Err(NoMemory) => panic!(rt; "out of memory"),

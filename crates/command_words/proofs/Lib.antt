@@ -1,0 +1,12 @@
+pub mod Rules
+pub mod Spelling
+pub mod Rows
+pub mod Turns
+pub mod Doomed
+pub mod Walked
+pub mod Parsed
+pub mod Numbers
+pub mod Bounds
+pub mod Decimals
+pub mod Order
+pub mod Written

@@ -1,0 +1,19 @@
+//! How many threads the words may ask for.
+
+/// The fewest workers.
+pub const WORKERS_LEAST: u32 = 1;
+
+/// The most workers.
+pub const WORKERS_MOST: u32 = 16;
+
+/// The workers where the words don't say.
+pub const WORKERS_DEFAULT: u32 = 1;
+
+/// The most watchers. The fewest are none.
+pub const WATCHERS_MOST: u32 = 8;
+
+/// The watchers where the words don't say.
+pub const WATCHERS_DEFAULT: u32 = 0;
+
+/// The greatest number from which a text and a script are made.
+pub const SEED_MOST: u32 = 4_294_967_295;

@@ -1,0 +1,8 @@
+pub mod Going
+pub mod Outs
+pub mod Newest
+pub mod Settled
+pub mod Owners
+pub mod Steps
+pub mod Begun
+pub mod Rounds

@@ -1,0 +1,5 @@
+pub mod Drawings
+pub mod Sizes
+pub mod Limits
+pub mod Scripts
+pub mod Feeds

@@ -1,0 +1,8 @@
+//! A text and a script.
+
+/// The text and the script made from a number.
+#[derive(Debug, Drop)]
+pub struct Made {
+    pub text: Vec<u8>,
+    pub script: Vec<u8>,
+}

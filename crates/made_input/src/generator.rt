@@ -1,0 +1,98 @@
+//! The numbers, words and lines that are drawn from a state.
+ghost use Rattle.std.specs.Prelude.{◌≡◌, ◌<◌, ◌++◌, ◌^◌, replicate, OnOk, string_bytes};
+ghost use Rattle.std.specs.List.{join_with_byte};
+ghost use Rattle.made_input.specs.Drawing.{draw, times};
+ghost use Rattle.made_input.specs.Made.{line, text_lines, word};
+
+use cell_units::NoMemory;
+
+/// What a state is multiplied by for the next one.
+const MULTIPLIER: u64 = 6_364_136_223_846_793_005;
+
+/// What is added then.
+const INCREMENT: u64 = 1_442_695_040_888_963_407;
+
+/// A state from which all is drawn.
+#[derive(Drop)]
+pub(crate) struct Generator {
+    pub(crate) state: u64,
+}
+
+impl Generator {
+    /// The next number, which is below `bound`.
+    pub(crate) fn draw(&mut self, bound: u64) -> u64
+        requires { 0 < bound }
+        ensures value { result ≡ (draw bound self.old.state).value }
+        ensures state { self.new.state ≡ (draw bound self.old.state).state }
+        ensures below { result < bound }
+        ensures fits { result < 2 ^ 31 }
+    {
+        self.state = self.state.wrapping_mul(MULTIPLIER).wrapping_add(INCREMENT);
+        (self.state >> 33) % bound
+    }
+
+    /// Appends a word.
+    pub(crate) fn word(&mut self, out: &mut String) -> Result<(), NoMemory>
+        ensures written { OnOk result (string_bytes out.new
+            ≡ string_bytes out.old ++ (word self.old.state).value) }
+        ensures state { OnOk result (self.new.state ≡ (word self.old.state).state) }
+    {
+        let letters = 1 + self.draw(9);
+        for _ in 0..letters {
+            let letter = b'a' + self.draw(26) as u8;
+            out.push(char::from(letter))?;
+        }
+        Ok(())
+    }
+
+    /// Appends so many words, with one space between neighbours.
+    fn words(&mut self, out: &mut String, count: u64) -> Result<(), NoMemory>
+        ensures written { OnOk result (string_bytes out.new
+            ≡ string_bytes out.old ++ join_with_byte 32 (times count word self.old.state).value) }
+        ensures state { OnOk result (self.new.state ≡ (times count word self.old.state).state) }
+    {
+        for place in 0..count {
+            if place > 0 {
+                out.push(' ')?;
+            }
+            self.word(out)?;
+        }
+        Ok(())
+    }
+
+    /// Appends a line of the text.
+    fn line(&mut self, out: &mut String) -> Result<(), NoMemory>
+        ensures written { OnOk result (string_bytes out.new
+            ≡ string_bytes out.old ++ (line self.old.state).value) }
+        ensures state { OnOk result (self.new.state ≡ (line self.old.state).state) }
+    {
+        let tabs = self.draw(4);
+        let words = self.draw(20);
+        push_tabs(out, tabs)?;
+        self.words(out, words)?;
+        out.push('\n')?;
+        Ok(())
+    }
+
+    /// Appends so many lines of the text.
+    pub(crate) fn lines(&mut self, out: &mut String, count: u64) -> Result<(), NoMemory>
+        ensures written { OnOk result (string_bytes out.new
+            ≡ string_bytes out.old ++ (text_lines count self.old.state).value) }
+        ensures state { OnOk result (self.new.state ≡ (text_lines count self.old.state).state) }
+    {
+        for _ in 0..count {
+            self.line(out)?;
+        }
+        Ok(())
+    }
+}
+
+/// Appends so many tabs.
+fn push_tabs(out: &mut String, count: u64) -> Result<(), NoMemory>
+    ensures { OnOk result (string_bytes out.new ≡ string_bytes out.old ++ replicate count 9) }
+{
+    for _ in 0..count {
+        out.push('\t')?;
+    }
+    Ok(())
+}
