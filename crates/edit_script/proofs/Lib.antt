@@ -1,6 +1,8 @@
+mod Extending
 mod Forms
 mod Lines
 mod RowLines
 mod Versions
 mod Writing
+pub mod Scripts
 pub mod Verdicts

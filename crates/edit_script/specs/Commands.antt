@@ -1,19 +1,22 @@
 -- The commands that a line can be, as JSON texts.
 use Rattle.std.specs.Prelude.{ℕ, min, List, [], ◌∷◌, codes, bytes_eq, if◌then◌else◌, Option, Some, None, option_map, option_and_then}
+use Rattle.std.specs.Option.{option_or}
 use Rattle.std.specs.Str.{is_utf8}
 use Rattle.serde_json.specs.Data.{Data, array, Items, no_items, item, Members, no_members, member}
 use Rattle.serde_json.specs.Find.{as_number, as_u64, as_bool, as_str, as_array, as_object}
 use Rattle.serde_json.specs.Read.{read}
 use Rattle.cell_units.specs.declared.place.Bias.{Bias}
 use Rattle.cell_units.specs.declared.place.Bias.TheVariants.{Left, Right}
+use Rattle.cell_units.specs.declared.place.Point.{Point}
 use Rattle.cell_units.specs.declared.place.Spot.{Spot}
 use Rattle.cell_units.specs.declared.place.Side.{Side}
 use Rattle.cell_units.specs.declared.place.Side.TheVariants.{Above, Below}
+use Rattle.cell_units.specs.Points.{offset_at}
 use Rattle.cell_units.specs.Operation.{Operation, AddInlay, RemoveInlay, AddFold, RemoveFold, AddBlock, RemoveBlock, SetTab, SetWidth}
 use Rattle.display_sheet.specs.declared.change.Splice.{Splice}
 use Rattle.display_sheet.specs.Changes.{ChangeParts, Edit, One, parts_of, inlay_of, fold_of}
 use Rattle.edit_script.specs.declared.asked.Form.{Form}
-use Rattle.edit_script.specs.declared.asked.Form.TheVariants.{First}
+use Rattle.edit_script.specs.declared.asked.Form.TheVariants.{First, Second}
 use Rattle.edit_script.specs.declared.asked.Query.{Query}
 use Rattle.edit_script.specs.declared.asked.Query.TheVariants as queries
 use Rattle.edit_script.specs.declared.asked.Asked.{Asked}
@@ -45,10 +48,6 @@ greatest_number = 4294967295
 -- a number that is no id: one over the greatest counts as the greatest
 abbrev pub number_in : Data → Option ℕ
 number_in value = option_map (λ n. min n greatest_number) (number_of value)
-
--- an offset of the text
-abbrev pub place_in : Form → List ℕ → Data → Option ℕ
-place_in First text value = number_in value
 
 abbrev pub bias_of : List ℕ → Option Bias
 bias_of name =
@@ -89,6 +88,24 @@ three_in _ = None
 abbrev pub four_in : Data → Option (Data × Data × Data × Data)
 four_in (array (item a (item b (item c (item d no_items))))) = Some (a, b, c, d)
 four_in _ = None
+
+-- [row, column, bias]: a point of the text, and the side of a character that it may fall in
+abbrev pub point_in : Data → Option (Point × Bias)
+point_in value =
+    option_and_then (λ v.
+    option_and_then (λ row.
+    option_and_then (λ column.
+    option_map (λ bias. (record { row = row; column = column }, bias))
+    (bias_in v.2)) (number_in v.1)) (number_in v.0)) (three_in value)
+
+-- the offset that a point names
+abbrev pub offset_in : List ℕ → Data → Option ℕ
+offset_in text value = option_map (λ p. offset_at text p.0 p.1) (point_in value)
+
+-- an offset of the text: a number, or in the second form also a point
+abbrev pub place_in : Form → List ℕ → Data → Option ℕ
+place_in First text value = number_in value
+place_in Second text value = option_or (number_in value) (offset_in text value)
 
 -- ---- the value of each key
 
@@ -230,15 +247,21 @@ command_at form text keys.Clip value = spot_in queries.Clip value
 abbrev pub command_named : Form → List ℕ → List ℕ → Data → Option Command
 command_named form text name value = option_and_then (λ key. command_at form text key value) (key_of name)
 
--- an object that has exactly one key. Of equal keys the last stands
-abbrev pub command_of_members : Form → List ℕ → Members → Option Command
-command_of_members form text (member name value no_members) =
-    command_named form text name value
-command_of_members form text _ = None
+-- an object that has exactly one key, as that key and its value. Of equal keys the last stands
+abbrev pub only_member : Members → Option (List ℕ × Data)
+only_member (member name value no_members) = Some (name, value)
+only_member _ = None
+
+abbrev pub member_in : Data → Option (List ℕ × Data)
+member_in value = option_and_then only_member (as_object value)
 
 abbrev pub command_of_value : Form → List ℕ → Data → Option Command
-command_of_value form text value = option_and_then (command_of_members form text) (as_object value)
+command_of_value form text value = option_and_then (λ m. command_named form text m.0 m.1) (member_in value)
 
--- the command that the bytes of a line are, on a text, if they are one: UTF-8 that is one JSON text of a command's form
+-- the value that the bytes of a line are, if they are UTF-8 that is one JSON text
+abbrev pub value_of : List ℕ → Option Data
+value_of line = if is_utf8 line then read line else None
+
+-- the command that the bytes of a line are, on a text, if they are one: one JSON text of a command's form
 abbrev pub command_of : Form → List ℕ → List ℕ → Option Command
-command_of form text line = if is_utf8 line then option_and_then (command_of_value form text) (read line) else None
+command_of form text line = option_and_then (command_of_value form text) (value_of line)

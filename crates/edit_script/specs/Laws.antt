@@ -29,3 +29,7 @@ written_rows first count =
 -- the numbers are none over the greatest, and the text is UTF-8
 abbrev pub IsWritable : Splice → Type 0
 IsWritable s = (s.start ≤ greatest_number) × (s.end ≤ greatest_number) × IsUtf8 s.text
+
+-- two rows, the first with a letter of two bytes: its offsets are 0 to 6 without 2, those of the second 7 and 8
+abbrev pub two_rows : List ℕ
+two_rows = 104 ∷ 195 ∷ 169 ∷ codes "llo\nx"

@@ -1,5 +1,6 @@
 pub mod Commands
 pub mod Verdict
+pub mod Script
 pub mod Printed
 pub mod Laws
 pub mod Answers

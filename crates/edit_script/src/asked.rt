@@ -7,6 +7,8 @@ use display_map::Change;
 pub enum Form {
     /// Places of the text are offsets.
     First,
+    /// They may also be points, `[row, column, bias]`. The column counts bytes.
+    Second,
 }
 
 /// A question, which changes nothing. Offsets count bytes of the text.

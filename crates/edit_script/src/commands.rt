@@ -7,14 +7,14 @@ ghost use Rattle.display_map.specs.Replay.{present_of};
 ghost use Rattle.display_sheet.specs.declared.change.Change.TheVariants as changes;
 ghost use Rattle.edit_script.specs.declared.asked.Asked.TheVariants as asks;
 ghost use Rattle.edit_script.specs.declared.asked.Query.TheVariants as queries;
-ghost use Rattle.edit_script.specs.Commands.{Ask, greatest_number, place_in, splice_of, splices_of_items, edit_in, one, inlay_in, fold_in, block_in, remove_in, set_in, settle_in, numbers_in, rows_in, show_in, aim_in, spot_in, texts_of_items, command_at};
+ghost use Rattle.edit_script.specs.Commands.{Ask, greatest_number, place_in, point_in, offset_in, splice_of, splices_of_items, edit_in, one, inlay_in, fold_in, block_in, remove_in, set_in, settle_in, numbers_in, rows_in, show_in, aim_in, spot_in, texts_of_items, command_at};
 ghost use Rattle.edit_script.specs.Verdict.{IsReadAs};
 
 use crate::asked::{Asked, Form, Query};
 use crate::key::Key;
 use crate::read::Unread;
 use crate::values::{bias_in, four_in, id_in, number_in, side_in, texts_of, three_in, two_in};
-use cell_units::{Bias, NoMemory, Side, Spot, Text};
+use cell_units::{Bias, NoMemory, Point, Side, Spot, Steps, Text};
 use display_map::{Change, Op, Splice, View};
 use serde_json::Value;
 use std::alloc::Global;
@@ -26,14 +26,15 @@ pub(crate) fn command_at(
     value: &Value,
     form: Form,
     view: &View,
+    steps: &mut Steps,
 ) -> Result<Asked, Unread>
     ensures { IsReadAs (command_at form (present_of view.now).text key (data_of value.now)) result }
 {
     match key {
-        Key::Edit => edit_in(alloc, value, form, view),
-        Key::Inlay => inlay_in(alloc, value, form, view),
+        Key::Edit => edit_in(alloc, value, form, view, steps),
+        Key::Inlay => inlay_in(alloc, value, form, view, steps),
         Key::Uninlay => uninlay_in(value),
-        Key::Fold => fold_in(value, form, view),
+        Key::Fold => fold_in(value, form, view, steps),
         Key::Unfold => unfold_in(value),
         Key::Block => block_in(alloc, value),
         Key::Unblock => unblock_in(value),
@@ -42,7 +43,7 @@ pub(crate) fn command_at(
         Key::Settle => settle_in(value),
         Key::Rows => rows_in(value),
         Key::Peek => peek_in(value),
-        Key::Display => display_in(value, form, view),
+        Key::Display => display_in(value, form, view, steps),
         Key::Buffer => buffer_in(value),
         Key::Clip => clip_in(value),
     }
@@ -55,13 +56,35 @@ fn one(op: Op) -> Asked
     Asked::Change(Change::One(op))
 }
 
-/// An offset of the text.
-fn place_in(value: &Value, form: Form, _view: &View) -> Option<u32>
-    ensures { result ≡ place_in form (present_of _view.now).text (data_of value.now) }
+/// An offset of the text: a number, or in the second form also a point.
+fn place_in(value: &Value, form: Form, view: &View, steps: &mut Steps) -> Option<u32>
+    ensures { result ≡ place_in form (present_of view.now).text (data_of value.now) }
 {
     match form {
         Form::First => number_in(value),
+        Form::Second => match number_in(value) {
+            Some(offset) => Some(offset),
+            None => offset_in(value, view, steps),
+        },
     }
+}
+
+/// The offset that a point names.
+fn offset_in(value: &Value, view: &View, steps: &mut Steps) -> Option<u32>
+    ensures { result ≡ offset_in (present_of view.now).text (data_of value.now) }
+{
+    let (point, bias) = point_in(value)?;
+    Some(view.offset_of(point, bias, steps))
+}
+
+/// A point, `[row, column, bias]`.
+fn point_in(value: &Value) -> Option<(Point, Bias)>
+    ensures { result ≡ point_in (data_of value.now) }
+{
+    let (row, column, bias) = three_in(value)?;
+    let row = number_in(row)?;
+    let column = number_in(column)?;
+    Some((Point { row, column }, bias_in(bias)?))
 }
 
 /// An id, if it is at most 4,294,967,295.
@@ -74,13 +97,19 @@ fn fitting(id: u64) -> Option<u32>
 }
 
 /// A list of replacements.
-fn edit_in(alloc: Global, value: &Value, form: Form, view: &View) -> Result<Asked, Unread>
+fn edit_in(
+    alloc: Global,
+    value: &Value,
+    form: Form,
+    view: &View,
+    steps: &mut Steps,
+) -> Result<Asked, Unread>
     ensures { IsReadAs (edit_in form (present_of view.now).text (data_of value.now)) result }
 {
     let Some(items) = value.as_array() else {
         return Err(Unread::NoForm);
     };
-    match splices_in(alloc, items, form, view)? {
+    match splices_in(alloc, items, form, view, steps)? {
         Some(splices) => Ok(Asked::Change(Change::Edit(splices))),
         None => Err(Unread::NoForm),
     }
@@ -91,13 +120,14 @@ fn splices_in(
     items: &[Value],
     form: Form,
     view: &View,
+    steps: &mut Steps,
 ) -> Result<Option<Vec<Splice>>, NoMemory>
     ensures { IfOk result (λ splices. option_map (λ v. v.items) splices
         ≡ splices_of_items form (present_of view.now).text (data_of_items items.now)) }
 {
     let mut splices = Vec::with_capacity(alloc, items.len())?;
     for item in items {
-        match splice_in(alloc, item, form, view)? {
+        match splice_in(alloc, item, form, view, steps)? {
             Some(splice) => splices.push(splice)?,
             None => return Ok(None),
         }
@@ -111,11 +141,12 @@ fn splice_in(
     value: &Value,
     form: Form,
     view: &View,
+    steps: &mut Steps,
 ) -> Result<Option<Splice>, NoMemory>
     ensures { IfOk result
         (λ splice. splice ≡ splice_of form (present_of view.now).text (data_of value.now)) }
 {
-    match splice_parts(value, form, view) {
+    match splice_parts(value, form, view, steps) {
         Some((start, end, text)) => {
             let text = Text::from_str(alloc, text)?;
             Ok(Some(Splice { start, end, text }))
@@ -124,23 +155,34 @@ fn splice_in(
     }
 }
 
-fn splice_parts<'a>(value: &'a Value, form: Form, view: &View) -> Option<(u32, u32, &'a str)>
+fn splice_parts<'a>(
+    value: &'a Value,
+    form: Form,
+    view: &View,
+    steps: &mut Steps,
+) -> Option<(u32, u32, &'a str)>
     ensures { option_map (λ p. record { start = p.0; end = p.1; text = p.2.now }) result
         ≡ splice_of form (present_of view.now).text (data_of value.now) }
 {
     let (start, end, text) = three_in(value)?;
     Some((
-        place_in(start, form, view)?,
-        place_in(end, form, view)?,
+        place_in(start, form, view, steps)?,
+        place_in(end, form, view, steps)?,
         text.as_str()?,
     ))
 }
 
 /// An inlay, `[id, offset, bias, text]`.
-fn inlay_in(alloc: Global, value: &Value, form: Form, view: &View) -> Result<Asked, Unread>
+fn inlay_in(
+    alloc: Global,
+    value: &Value,
+    form: Form,
+    view: &View,
+    steps: &mut Steps,
+) -> Result<Asked, Unread>
     ensures { IsReadAs (inlay_in form (present_of view.now).text (data_of value.now)) result }
 {
-    let Some((id, offset, bias, text)) = inlay_parts(value, form, view) else {
+    let Some((id, offset, bias, text)) = inlay_parts(value, form, view, steps) else {
         return Err(Unread::NoForm);
     };
     let Some(id) = fitting(id) else {
@@ -155,14 +197,19 @@ fn inlay_in(alloc: Global, value: &Value, form: Form, view: &View) -> Result<Ask
     }))
 }
 
-fn inlay_parts<'a>(value: &'a Value, form: Form, view: &View) -> Option<(u64, u32, Bias, &'a str)>
+fn inlay_parts<'a>(
+    value: &'a Value,
+    form: Form,
+    view: &View,
+    steps: &mut Steps,
+) -> Option<(u64, u32, Bias, &'a str)>
     ensures { option_map (λ p. one (AddInlay (inlay_of p.0 p.1 p.2 p.3.now))) result
         ≡ inlay_in form (present_of view.now).text (data_of value.now) }
 {
     let (id, offset, bias, text) = four_in(value)?;
     Some((
         id_in(id)?,
-        place_in(offset, form, view)?,
+        place_in(offset, form, view, steps)?,
         bias_in(bias)?,
         text.as_str()?,
     ))
@@ -182,10 +229,10 @@ fn uninlay_in(value: &Value) -> Result<Asked, Unread>
 }
 
 /// A fold, `[id, start, end]`.
-fn fold_in(value: &Value, form: Form, view: &View) -> Result<Asked, Unread>
+fn fold_in(value: &Value, form: Form, view: &View, steps: &mut Steps) -> Result<Asked, Unread>
     ensures { IsReadAs (fold_in form (present_of view.now).text (data_of value.now)) result }
 {
-    let Some((id, start, end)) = fold_parts(value, form, view) else {
+    let Some((id, start, end)) = fold_parts(value, form, view, steps) else {
         return Err(Unread::NoForm);
     };
     let Some(id) = fitting(id) else {
@@ -194,15 +241,15 @@ fn fold_in(value: &Value, form: Form, view: &View) -> Result<Asked, Unread>
     Ok(one(Op::Fold { id, start, end }))
 }
 
-fn fold_parts(value: &Value, form: Form, view: &View) -> Option<(u64, u32, u32)>
+fn fold_parts(value: &Value, form: Form, view: &View, steps: &mut Steps) -> Option<(u64, u32, u32)>
     ensures { option_map (λ p. one (AddFold (fold_of p.0 p.1 p.2))) result
         ≡ fold_in form (present_of view.now).text (data_of value.now) }
 {
     let (id, start, end) = three_in(value)?;
     Some((
         id_in(id)?,
-        place_in(start, form, view)?,
-        place_in(end, form, view)?,
+        place_in(start, form, view, steps)?,
+        place_in(end, form, view, steps)?,
     ))
 }
 
@@ -323,18 +370,18 @@ fn peek_in(value: &Value) -> Result<Asked, Unread>
 }
 
 /// `[offset, bias]`.
-fn offset_in(value: &Value, form: Form, view: &View) -> Option<(u32, Bias)>
+fn shown_in(value: &Value, form: Form, view: &View, steps: &mut Steps) -> Option<(u32, Bias)>
     ensures { option_map (λ p. Ask (queries.Show p.0 p.1)) result
         ≡ show_in form (present_of view.now).text (data_of value.now) }
 {
     let (offset, bias) = two_in(value)?;
-    Some((place_in(offset, form, view)?, bias_in(bias)?))
+    Some((place_in(offset, form, view, steps)?, bias_in(bias)?))
 }
 
-fn display_in(value: &Value, form: Form, view: &View) -> Result<Asked, Unread>
+fn display_in(value: &Value, form: Form, view: &View, steps: &mut Steps) -> Result<Asked, Unread>
     ensures { IsReadAs (show_in form (present_of view.now).text (data_of value.now)) result }
 {
-    match offset_in(value, form, view) {
+    match shown_in(value, form, view, steps) {
         Some((offset, bias)) => Ok(Asked::Query(Query::Show { offset, bias })),
         None => Err(Unread::NoForm),
     }

@@ -1,20 +1,23 @@
 //! What reading a line says of the verdict on it; lines whose commands and verdicts are known, and how known answers
 //! print.
 ghost use Rattle.std.specs.List.{All};
-ghost use Rattle.std.specs.Prelude.{◌≡◌, ◌≤◌, ℕ, List, length, [], ◌∷◌, true, false, codes, replicate, Some, None};
+ghost use Rattle.std.specs.Prelude.{◌≡◌, ◌≤◌, ◌+◌, ℕ, List, length, [], ◌∷◌, true, false, codes, replicate, Some, None};
 ghost use Rattle.cell_units.specs.declared.fault.Fault.TheVariants as faults;
 ghost use Rattle.cell_units.specs.declared.fault.Refusal.{Refusal};
 ghost use Rattle.cell_units.specs.declared.fault.Refusal.TheVariants.{NotCommand, BadRange};
+ghost use Rattle.cell_units.specs.declared.place.Bias.TheVariants.{Left, Right};
+ghost use Rattle.cell_units.specs.Operation.{AddFold, AddInlay};
 ghost use Rattle.cell_units.specs.Record.{Record, opened};
 ghost use Rattle.plain_rows.specs.Rows.{head_kind, more_kind, block_kind};
 ghost use Rattle.display_sheet.specs.declared.change.Splice.{Splice};
 ghost use Rattle.edit_script.specs.declared.asked.Form.{Form};
-ghost use Rattle.edit_script.specs.declared.asked.Form.TheVariants.{First};
+ghost use Rattle.edit_script.specs.declared.asked.Form.TheVariants.{First, Second};
 ghost use Rattle.edit_script.specs.declared.asked.Query.TheVariants as queries;
-ghost use Rattle.display_sheet.specs.Changes.{Edit};
-ghost use Rattle.edit_script.specs.Commands.{Command, Apply, Ask, Settle, greatest_number, command_of};
+ghost use Rattle.display_sheet.specs.Changes.{Edit, inlay_of, fold_of};
+ghost use Rattle.edit_script.specs.Commands.{Command, Apply, Ask, Settle, one, greatest_number, command_of};
 ghost use Rattle.edit_script.specs.Verdict.{Accepted, Refused, IsLineRefused, refused_or, command_refusal, is_over, is_blank, line_limit, verdict};
-ghost use Rattle.edit_script.specs.Laws.{IsWritable, written_edit, written_rows};
+ghost use Rattle.edit_script.specs.Laws.{IsWritable, two_rows, written_edit, written_rows};
+ghost use Rattle.edit_script.specs.Script.{asking_from, filled_from, form_of, is_header};
 ghost use Rattle.edit_script.specs.Printed.{refusal_text, row_lines};
 
 /// What reading a line says of the verdict on it, on every record of the text. It does nothing.
@@ -35,6 +38,25 @@ pub fn written_laws()
     ensures rows { (text : List ℕ) (first count : ℕ)
         → first ≤ greatest_number → count ≤ greatest_number
         → command_of First text (written_rows first count) ≡ Some (Ask (queries.Rows first count)) }
+{}
+
+/// What the header of a script changes: a command without points stays what it is, a blank line and the header are skipped,
+/// and no other line. It does nothing.
+pub fn form_laws()
+    ensures extends { (text line : List ℕ) (command : Command)
+        → command_of First text line ≡ Some command → command_of Second text line ≡ Some command }
+    ensures no_line { (number : ℕ) → (form_of [] ≡ First) × (asking_from number [] ≡ []) }
+    ensures blank { (number : ℕ) (line : List ℕ) (lines : List (List ℕ)) → is_blank line ≡ true
+        → (form_of (line ∷ lines) ≡ form_of lines)
+        × (asking_from number (line ∷ lines) ≡ asking_from (number + 1) lines) }
+    ensures headed { (number : ℕ) (line : List ℕ) (lines : List (List ℕ)) → is_blank line ≡ false
+        → is_header line ≡ true → (form_of (line ∷ lines) ≡ Second)
+        × (asking_from number (line ∷ lines) ≡ filled_from (number + 1) lines) }
+    ensures unheaded { (number : ℕ) (line : List ℕ) (lines : List (List ℕ)) → is_blank line ≡ false
+        → is_header line ≡ false → (form_of (line ∷ lines) ≡ First)
+        × (asking_from number (line ∷ lines) ≡ (number, line) ∷ filled_from (number + 1) lines) }
+    ensures without { (number : ℕ) (lines : List (List ℕ))
+        → All (λ line. is_header line ≡ false) lines → (form_of lines ≡ First) × (asking_from number lines ≡ filled_from number lines) }
 {}
 
 /// Lines of every form, and lines that have none. It does nothing.
@@ -92,6 +114,111 @@ pub fn worked_verdicts()
         ≡ Accepted (Ask (queries.Rows 9 9)) }
     ensures no_command { verdict First (opened (codes "abc")) (codes "{\"rows\":9}")
         ≡ Refused NotCommand }
+{}
+
+/// What lines with points are on a text of two rows. It does nothing.
+pub fn worked_points()
+    ensures edit { command_of Second two_rows
+        (codes "{\"edit\":[[[0,2,\"left\"],[0,2,\"right\"],\"e\"]]}")
+        ≡ Some (Apply (Edit (record { start = 1; end = 3; text = codes "e" } ∷ []))) }
+    ensures display { command_of Second two_rows (codes "{\"display\":[[9,0,\"left\"],\"left\"]}")
+        ≡ Some (Ask (queries.Show 8 Left)) }
+    ensures fold { command_of Second two_rows (codes "{\"fold\":[1,[0,9,\"left\"],[1,0,\"left\"]]}")
+        ≡ Some (one (AddFold (fold_of 1 6 7))) }
+    ensures inlay { command_of Second two_rows
+        (codes "{\"inlay\":[1,[1,1,\"left\"],\"right\",\":\"]}")
+        ≡ Some (one (AddInlay (inlay_of 1 8 Right (codes ":")))) }
+    ensures either { command_of Second two_rows
+        (codes "{\"edit\":[[0,[0,1,\"left\"],\"\"],[[0,6,\"left\"],6,\"\"]]}")
+        ≡ Some (Apply (Edit (
+        record { start = 0; end = 1; text = [] }
+        ∷ record { start = 6; end = 6; text = [] }
+        ∷ []))) }
+    ensures row_over { command_of Second two_rows
+        (codes "{\"display\":[[4294967296,0,\"left\"],\"left\"]}")
+        ≡ Some (Ask (queries.Show 8 Left)) }
+    ensures column_over { command_of Second two_rows
+        (codes "{\"display\":[[0,18446744073709551615,\"right\"],\"left\"]}")
+        ≡ Some (Ask (queries.Show 6 Left)) }
+    ensures first_form { (command_of First two_rows
+        (codes "{\"edit\":[[[0,2,\"left\"],[0,2,\"right\"],\"e\"]]}") ≡ None)
+        × (command_of First two_rows (codes "{\"display\":[[9,0,\"left\"],\"left\"]}") ≡ None) }
+    ensures fourth_item { command_of Second two_rows
+        (codes "{\"display\":[[0,0,\"left\",0],\"left\"]}") ≡ None }
+    ensures two_items { command_of Second two_rows (codes "{\"display\":[[0,0],\"left\"]}") ≡ None }
+    ensures no_bias { command_of Second two_rows
+        (codes "{\"display\":[[0,0,\"up\"],\"left\"]}") ≡ None }
+    ensures below_zero { command_of Second two_rows
+        (codes "{\"display\":[[0,-1,\"left\"],\"left\"]}") ≡ None }
+    ensures fraction { command_of Second two_rows
+        (codes "{\"display\":[[1.0,0,\"left\"],\"left\"]}") ≡ None }
+    ensures in_rows { command_of Second two_rows (codes "{\"rows\":[[0,0,\"left\"],1]}") ≡ None }
+    ensures in_buffer { command_of Second two_rows
+        (codes "{\"buffer\":[[0,0,\"left\"],0,\"left\"]}") ≡ None }
+    ensures as_row { command_of Second two_rows
+        (codes "{\"block\":[1,\"above\",[0,0,\"left\"],[\"x\"]]}") ≡ None }
+    ensures as_id { command_of Second two_rows (codes "{\"unfold\":[0,0,\"left\"]}") ≡ None }
+    ensures point_of_points { command_of Second two_rows
+        (codes "{\"display\":[[[0,0,\"left\"],0,\"left\"],\"left\"]}") ≡ None }
+{}
+
+/// What lines with points are on a record of that text: all points are those of the text before. It does nothing.
+pub fn worked_point_verdicts()
+    ensures batch { verdict Second (opened two_rows)
+        (codes "{\"edit\":[[[0,0,\"left\"],1,\"abc\"],[[1,0,\"left\"],[1,9,\"left\"],\"y\"]]}")
+        ≡ Accepted (Apply (Edit (
+        record { start = 0; end = 1; text = codes "abc" }
+        ∷ record { start = 7; end = 8; text = codes "y" }
+        ∷ []))) }
+    ensures backwards { verdict Second (opened two_rows)
+        (codes "{\"edit\":[[[1,0,\"left\"],[0,0,\"left\"],\"\"]]}")
+        ≡ Refused BadRange }
+    ensures no_range { verdict Second (opened two_rows)
+        (codes "{\"fold\":[1,[0,9,\"left\"],[0,8,\"left\"]]}")
+        ≡ Refused BadRange }
+    ensures off_a_boundary { verdict Second (opened two_rows)
+        (codes "{\"edit\":[[2,[0,9,\"left\"],\"\"]]}")
+        ≡ Refused BadRange }
+    ensures late_header { verdict Second (opened two_rows)
+        (codes "{\"script\":2}")
+        ≡ Refused NotCommand }
+{}
+
+/// Lines that are headers, lines that are none, and scripts with a header and without one. It does nothing.
+pub fn worked_headers()
+    ensures header { (is_header (codes "{\"script\":2}") ≡ true)
+        × (is_header (codes "\t{ \"script\" : 2 } \r") ≡ true) }
+    ensures last_stands { (is_header (codes "{\"script\":2,\"script\":2}") ≡ true)
+        × (is_header (codes "{\"script\":1,\"script\":2}") ≡ true) }
+    ensures first_falls { is_header (codes "{\"script\":2,\"script\":1}") ≡ false }
+    ensures spelled { is_header (codes "{\"\\u0073cript\":2}") ≡ true }
+    ensures another_number { (is_header (codes "{\"script\":3}") ≡ false)
+        × (is_header (codes "{\"script\":18446744073709551618}") ≡ false) }
+    ensures fraction { is_header (codes "{\"script\":2.0}") ≡ false }
+    ensures text { (is_header (codes "{\"script\":\"2\"}") ≡ false)
+        × (is_header (codes "{\"script\":[2]}") ≡ false) }
+    ensures second_key { is_header (codes "{\"script\":2,\"tab\":4}") ≡ false }
+    ensures another_key { is_header (codes "{\"scripts\":2}") ≡ false }
+    ensures no_key { is_header (codes "{}") ≡ false }
+    ensures no_object { (is_header (codes "[\"script\",2]") ≡ false)
+        × (is_header (codes "\"script\"") ≡ false)
+        × (is_header (codes "2") ≡ false) }
+    ensures two_values { is_header (codes "{\"script\":2}{\"script\":2}") ≡ false }
+    ensures blank { (is_header (codes "") ≡ false)
+        × (is_header (codes " ") ≡ false) }
+    ensures cut_off { is_header (codes "{\"script\":2") ≡ false }
+    ensures not_utf8 { is_header (255 ∷ codes "{\"script\":2}") ≡ false }
+    ensures behind_blanks { let tab = codes "{\"tab\":4}" in
+        let script = [] ∷ codes " \t" ∷ codes "{\"script\":2}" ∷ [] ∷ tab ∷ [] in
+        (form_of script ≡ Second) × (asking_from 1 script ≡ (5, tab) ∷ []) }
+    ensures again { let header = codes "{\"script\":2}" in
+        (form_of (header ∷ header ∷ []) ≡ Second)
+        × (asking_from 1 (header ∷ header ∷ []) ≡ (2, header) ∷ []) }
+    ensures late { let header = codes "{\"script\":2}" in
+        let tab = codes "{\"tab\":4}" in
+        (form_of (tab ∷ header ∷ []) ≡ First)
+        × (asking_from 1 (tab ∷ header ∷ []) ≡ (1, tab) ∷ (2, header) ∷ []) }
+    ensures blanks_alone { (form_of ([] ∷ [] ∷ []) ≡ First) × (asking_from 1 ([] ∷ [] ∷ []) ≡ []) }
 {}
 
 /// How rows and refusals print. It does nothing.

@@ -12,6 +12,7 @@ mod key;
 pub mod laws;
 pub mod query;
 pub mod read;
+pub mod script;
 mod values;
 
 pub use answer_lines::Answer;
@@ -19,3 +20,4 @@ pub use asked::{Asked, Form, Query};
 pub use blank::skipped;
 pub use query::{answer, refusal_line};
 pub use read::read_line;
+pub use script::header;

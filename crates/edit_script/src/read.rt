@@ -9,6 +9,7 @@ use crate::asked::{Asked, Form};
 use crate::blank::LINE_LIMIT;
 use crate::commands::command_at;
 use crate::key::key_of;
+use crate::values::{member_in, value_of};
 use cell_units::{Fault, NoMemory, Refusal, Steps};
 use display_map::View;
 use serde_json::Value;
@@ -50,7 +51,7 @@ impl From<AllocError> for Unread {
 /// What a line asks, in this form of a script and on this view's text. A line is one JSON text, an object of exactly one
 /// key. An edit, an inlay, a fold, a block, the tab size and the width are changes; `settle` asks only that every display
 /// line is wrapped at the width; `rows`, `peek`, `display`, `buffer` and `clip` are queries. The README of this crate has
-/// the value of each key.
+/// the value of each key. A point of the second form is asked as the offset that it has in the view's text.
 ///
 /// A number that is no id and doesn't fit 32 bits counts as the greatest that does. A line over 1,048,576 bytes is
 /// refused as `TooLong`, any other that is no such text as `NotCommand`, and else one with an id over 4,294,967,295 as
@@ -60,7 +61,7 @@ pub fn read_line(
     line: &[u8],
     form: Form,
     view: &View,
-    _steps: &mut Steps,
+    steps: &mut Steps,
 ) -> Result<Asked, Fault>
     ensures within { OnOk result (length line.now ≤ line_limit) }
     ensures read { IfOk result
@@ -71,7 +72,7 @@ pub fn read_line(
     if line.len() > LINE_LIMIT {
         return Err(Fault::Refused(Refusal::TooLong));
     }
-    match read_command(alloc, line, form, view) {
+    match read_command(alloc, line, form, view, steps) {
         Ok(asked) => Ok(asked),
         Err(Unread::NoForm) => Err(Fault::Refused(Refusal::NotCommand)),
         Err(Unread::IdOver) => Err(Fault::Refused(Refusal::BadNumber)),
@@ -79,34 +80,34 @@ pub fn read_line(
     }
 }
 
-fn read_command(alloc: Global, line: &[u8], form: Form, view: &View) -> Result<Asked, Unread>
+fn read_command(
+    alloc: Global,
+    line: &[u8],
+    form: Form,
+    view: &View,
+    steps: &mut Steps,
+) -> Result<Asked, Unread>
     ensures { IsReadAs (command_of form (present_of view.now).text line.now) result }
 {
-    match Value::from_slice(alloc, line) {
-        Ok(value) => command_in(alloc, &value, form, view),
-        Err(error) => {
-            if error.is_memory() {
-                Err(Unread::NoMemory)
-            } else {
-                Err(Unread::NoForm)
-            }
-        }
+    match value_of(alloc, line)? {
+        Some(value) => command_in(alloc, &value, form, view, steps),
+        None => Err(Unread::NoForm),
     }
 }
 
 /// The command of an object that has exactly one key.
-fn command_in(alloc: Global, value: &Value, form: Form, view: &View) -> Result<Asked, Unread>
+fn command_in(
+    alloc: Global,
+    value: &Value,
+    form: Form,
+    view: &View,
+    steps: &mut Steps,
+) -> Result<Asked, Unread>
     ensures { IsReadAs (command_of_value form (present_of view.now).text (data_of value.now))
         result }
 {
-    let Some(members) = value.as_object() else {
-        return Err(Unread::NoForm);
-    };
-    if members.len() != 1 {
-        return Err(Unread::NoForm);
-    }
-    match members.first_key_value() {
-        Some((name, value)) => command_named(alloc, name.as_str(), value, form, view),
+    match member_in(value) {
+        Some((name, value)) => command_named(alloc, name, value, form, view, steps),
         None => Err(Unread::NoForm),
     }
 }
@@ -118,12 +119,13 @@ fn command_named(
     value: &Value,
     form: Form,
     view: &View,
+    steps: &mut Steps,
 ) -> Result<Asked, Unread>
     ensures { IsReadAs (command_named form (present_of view.now).text name.now (data_of value.now))
         result }
 {
     match key_of(name) {
-        Some(key) => command_at(alloc, key, value, form, view),
+        Some(key) => command_at(alloc, key, value, form, view, steps),
         None => Err(Unread::NoForm),
     }
 }

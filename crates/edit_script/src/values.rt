@@ -1,12 +1,40 @@
 //! Values of a line: numbers, words and lists.
 ghost use Rattle.std.specs.Prelude.{◌≡◌, length, map, option_map, IfOk};
 ghost use Rattle.serde_json.specs.View.{view as data_of, items_view as data_of_items};
-ghost use Rattle.edit_script.specs.Commands.{number_of, number_in, bias_in, side_in, texts_of_items, two_in, three_in, four_in};
+ghost use Rattle.edit_script.specs.Commands.{value_of, member_in, number_of, number_in, bias_in, side_in, texts_of_items, two_in, three_in, four_in};
 
 use crate::key::{bias_of, side_of};
 use cell_units::{Bias, NoMemory, Side, Text};
 use serde_json::Value;
 use std::alloc::Global;
+
+/// The value that a line is, if it is one JSON text.
+pub(crate) fn value_of(alloc: Global, line: &[u8]) -> Result<Option<Value>, NoMemory>
+    ensures { IfOk result (λ value. option_map data_of value ≡ value_of line.now) }
+{
+    match Value::from_slice(alloc, line) {
+        Ok(value) => Ok(Some(value)),
+        Err(error) => {
+            if error.is_memory() {
+                Err(NoMemory)
+            } else {
+                Ok(None)
+            }
+        }
+    }
+}
+
+/// The key and the value of an object that has exactly one key.
+pub(crate) fn member_in(value: &Value) -> Option<(&str, &Value)>
+    ensures { option_map (λ p. (p.0.now, data_of p.1.now)) result ≡ member_in (data_of value.now) }
+{
+    let members = value.as_object()?;
+    if members.len() != 1 {
+        return None;
+    }
+    let (name, value) = members.first_key_value()?;
+    Some((name.as_str(), value))
+}
 
 /// A number of up to 64 bits that is no id. One that doesn't fit 32 bits counts as the greatest that does.
 pub(crate) fn number_in(value: &Value) -> Option<u32>
