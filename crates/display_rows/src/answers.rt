@@ -1,0 +1,77 @@
+//! What views answer.
+use crate::displays::{assert_marks, assert_row, first_landing, view_of};
+use cell_units::{Bias, Fault, NoMemory, Point, Refusal, Spot, Steps};
+use display_map::{Kind, View};
+use std::alloc::Global;
+use std::process::Abort;
+use std::test::Fail;
+
+/// A view of `abc` with its one line wrapped.
+fn first_view(rt: &impl Abort, alloc: Global) -> Result<View, Fail> {
+    let display = first_landing(rt, alloc)?;
+    Ok(display.view()?)
+}
+
+/// Asserts where a view of `abc` shows what.
+fn assert_places(rt: &impl Abort, alloc: Global, view: &View) -> Result<(), Fail> {
+    let mut steps = Steps::new();
+    let past = view.show(alloc, 4, Bias::Left, &mut steps);
+    assert_eq!(rt; past, Err(Fault::Refused(Refusal::BadRange)));
+    let spot = Spot { row: 0, col: 9 };
+    let nearest = view.clip(alloc, spot, Bias::Left, &mut steps)?;
+    assert_eq!(rt; nearest, Spot { row: 0, col: 3 });
+    assert_eq!(rt; view.back(alloc, spot, Bias::Right, &mut steps)?, 3);
+    Ok(())
+}
+
+/// Asserts that a view's record is the text `abc` with one line at 80 cells.
+fn assert_plain(rt: &impl Abort, alloc: Global, view: &View) -> Result<(), NoMemory> {
+    let plain = view.plain(alloc, &mut Steps::new())?;
+    assert_eq!(rt; plain.text.as_str(), "abc");
+    assert_eq!(rt; plain.marks.as_slice(), [80].as_slice());
+    assert_eq!(rt; (plain.tab, plain.width), (4, 80));
+    Ok(())
+}
+
+/// Asserts that there is no row of this number.
+fn assert_no_row(rt: &impl Abort, alloc: Global, view: &View, row: u32) -> Result<(), NoMemory> {
+    let shown = view.row(alloc, row, &mut Steps::new())?;
+    assert!(rt; shown.is_none());
+    Ok(())
+}
+
+#[test]
+fn a_view_has_rows_and_places(rt: HostRuntime) -> Result<(), Fail> {
+    let alloc = rt.alloc();
+    let view = first_view(&rt, alloc)?;
+    assert_row(&rt, alloc, &view, 0, Kind::Head, "abc")?;
+    assert_no_row(&rt, alloc, &view, 1)?;
+    assert_places(&rt, alloc, &view)
+}
+
+#[test]
+fn a_view_has_marks_and_a_record(rt: HostRuntime) -> Result<(), Fail> {
+    let alloc = rt.alloc();
+    let view = first_view(&rt, alloc)?;
+    assert_eq!(rt; view.versions(), 2);
+    assert_marks(&rt, alloc, &view, &[(0, 0, 80)])?;
+    assert_plain(&rt, alloc, &view)?;
+    Ok(())
+}
+
+/// Asserts which offsets points of two lines are, of which the first has five letters and the second of them two bytes.
+fn assert_offsets(rt: &impl Abort, view: &View) {
+    let mut steps = Steps::new();
+    let inside = Point { row: 0, column: 2 };
+    assert_eq!(rt; view.offset_of(inside, Bias::Left, &mut steps), 1);
+    assert_eq!(rt; view.offset_of(inside, Bias::Right, &mut steps), 3);
+    let past = Point { row: 9, column: 0 };
+    assert_eq!(rt; view.offset_of(past, Bias::Left, &mut steps), 8);
+}
+
+#[test]
+fn points_are_offsets(rt: HostRuntime) -> Result<(), Fail> {
+    let view = view_of(rt.alloc(), "h\u{e9}llo\nx".as_bytes())?;
+    assert_offsets(&rt, &view);
+    Ok(())
+}

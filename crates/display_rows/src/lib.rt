@@ -1,0 +1,12 @@
+//! Worked rows of the display: what it and its views answer on texts and changes that are known.
+//! There is nothing here but tests.
+#![tactic(auto)]
+
+#[cfg(test)]
+mod answers;
+#[cfg(test)]
+mod displays;
+#[cfg(test)]
+mod landings;
+#[cfg(test)]
+mod starts;
