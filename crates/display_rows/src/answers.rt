@@ -1,6 +1,9 @@
 //! What views answer.
+ghost use Rattle.std.specs.Prelude.{◌≡◌, [], IfOk, codes};
+ghost use Rattle.cell_units.specs.Text.{clean};
+
 use crate::displays::{assert_marks, assert_row, first_landing, view_of};
-use cell_units::{Bias, Fault, NoMemory, Point, Refusal, Spot, Steps};
+use cell_units::{Bias, Fault, NoMemory, Point, Refusal, Spot, Steps, Text};
 use display_map::{Kind, View};
 use std::alloc::Global;
 use std::process::Abort;
@@ -56,6 +59,30 @@ fn a_view_has_marks_and_a_record(rt: HostRuntime) -> Result<(), Fail> {
     assert_eq!(rt; view.versions(), 2);
     assert_marks(&rt, alloc, &view, &[(0, 0, 80)])?;
     assert_plain(&rt, alloc, &view)?;
+    Ok(())
+}
+
+/// A view of `abcdefg`.
+fn letters(alloc: Global) -> Result<View, Fail>
+    ensures { IfOk result
+        (λ view. view ≡ record { opening = clean (codes "abcdefg"); events = [] }) }
+{
+    view_of(alloc, b"abcdefg")
+}
+
+/// The second and the third of seven letters.
+fn two_letters(alloc: Global, view: &View) -> Result<Text, NoMemory>
+    requires { view.now ≡ record { opening = clean (codes "abcdefg"); events = [] } }
+{
+    view.slice(alloc, 1, 3, &mut Steps::new())
+}
+
+#[test]
+fn a_slice_is_lent_from_boundary_to_boundary(rt: HostRuntime) -> Result<(), Fail> {
+    let alloc = rt.alloc();
+    let view = letters(alloc)?;
+    let text = two_letters(alloc, &view)?;
+    assert_eq!(rt; text.as_str(), "bc");
     Ok(())
 }
 

@@ -9,4 +9,6 @@ mod displays;
 #[cfg(test)]
 mod landings;
 #[cfg(test)]
+mod plain;
+#[cfg(test)]
 mod starts;
