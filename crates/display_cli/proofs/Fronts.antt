@@ -117,7 +117,7 @@ written-stopped all left rest a b c line stop before is e why =
     (append_assoc before.front (line ++ line_feed ∷ []) (printed rest) ∙ (ap (λ l. before.front ++ l) (line-first left rest line is e) ∙ before.is_front))
 
 -- no line is left
-none-first : (left : List (List ℕ)) → None ≡ slice_get left 0 → left ≡ []
+pub none-first : (left : List (List ℕ)) → None ≡ slice_get left 0 → left ≡ []
 none-first [] e = refl
 none-first (l ∷ ls) e = cc
 
@@ -125,6 +125,11 @@ pub written-all : (all left : List (List ℕ)) (a b : SinkState) → AreWritten 
 written-all all left a b before none =
     takes-same a b before.front (printed all)
     (sym (append-nil before.front) ∙ (ap (λ l. before.front ++ printed l) (sym (none-first left none)) ∙ before.is_front)) before.taken
+
+-- one line is left less
+pub one-fewer : (left rest : List (List ℕ)) (line : List ℕ) → Some line ≡ slice_get left 0 → rest ≡ drop 1 left → 1 + length rest ≡ length left
+one-fewer [] rest line is e = cc
+one-fewer (l ∷ ls) rest line is e = let same = ap length e in omega arith
 
 pub fewer-left : (left rest : List (List ℕ)) (line : List ℕ) → Some line ≡ slice_get left 0 → rest ≡ drop 1 left → length rest < length left
 fewer-left [] rest line is e = cc

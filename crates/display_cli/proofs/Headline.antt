@@ -1,78 +1,106 @@
 -- What a run is by its note, and which notes are owed.
-use Rattle.std.proofs.Common.{◌≡◌, ℕ, ◌<◌, ◌≤◌, ◌⊎◌, inl, inr, Bool, true, List, [], ◌++◌, length, Result, Ok, Err, Option, Some, refl, sym, ap, ◌∙◌, subst, arith, append_assoc}
+use Rattle.std.proofs.Common.{◌≡◌, ℕ, ◌<◌, ◌≤◌, ◌⊎◌, inl, inr, Bool, true, false, List, [], ◌∷◌, ◌++◌, length, Result, Ok, Err, Option, Some, None, refl, sym, ap, ◌∙◌, subst, arith, append_assoc}
 use Rattle.std.specs.Prelude.{◌↔◌, IfSome, OnOk, OnErr}
 use Rattle.std.specs.Str.{IsUtf8}
 use Rattle.std.specs.Str.Lossy.{utf8_valid_len}
-use Rattle.display_map.specs.Events.{Event}
+use Rattle.display_map.specs.Events.{Event, Published}
 use Rattle.cell_units.specs.declared.limits.TheConstants.{TEXT_LIMIT}
 use Rattle.cell_units.specs.Refusal.{IsAccepted}
-use Rattle.display_map.specs.Replay.{History}
+use Rattle.display_map.specs.Replay.{History, appended}
+use Rattle.display_owner.specs.Owned.{IsUnopened}
+use Rattle.board_watch.specs.declared.seen.Seen.{Seen}
 use Rattle.std.proofs.lemmas.List.{append-nil}
-use Rattle.display_cli.specs.declared.words.Plan.{Plan}
+use Rattle.command_words.specs.declared.plan.Plan.{Plan}
 use Rattle.display_cli.specs.declared.outside.Part.TheVariants as parts
 use Rattle.display_cli.specs.declared.outside.Failed.{Failed}
-use Rattle.display_cli.specs.declared.ended.Seen.{Seen}
 use Rattle.display_cli.specs.declared.stop.Stop.{Stop}
 use Rattle.display_cli.specs.declared.stop.Stop.TheVariants as stops
+use Rattle.display_cli.specs.declared.limits.TheConstants.{SCRIPT_LIMIT}
+use Rattle.display_cli.specs.declared.tally.Tally.{Tally}
 use Rattle.display_cli.specs.declared.ended.Note.{Note}
 use Rattle.display_cli.specs.declared.ended.Note.TheVariants.{Fine, Usage, ReadText, ReadScript, Write, TextNotUtf8, TextTooLong, ScriptTooLong, JournalFull, Memory}
 use Rattle.display_cli.specs.Notes.{note_line}
 use Rattle.display_cli.specs.Outside.{Faults, InputState, SinkState, HasRisen, AreTold, Takes, TakesFront}
 use Rattle.display_cli.specs.Entries.{numbered_lines}
-use Rattle.display_cli.specs.Ended.{Run, Course, IsFinished, IsStopped, IsRefused, HasRead, HasText, IsNotUtf8At, IsEndedAs, ReadsInOrder, IsTextUnfailed, IsScriptUnfailed, IsOwed, IsComplete, IsRun, Says, course_of, script_limit}
-use Rattle.display_cli.specs.inside.Going.{Stage, IsCut, IsPlayed, HasEnded}
-use Rattle.display_cli.specs.inside.Opening.{IsOpenedOn, IsTextRefused, IsScript, IsScriptRefused, HasRun, note_of}
+use Rattle.display_cli.specs.Output.{no_lines, output}
+use Rattle.display_cli.specs.Ended.{Run, Course, IsFinished, IsStopped, IsRefused, HasRead, given, text_of, script_of, HasText, IsNotUtf8At, IsEndedAs, ReadsInOrder, IsTextUnfailed, IsScriptUnfailed, IsOwed, IsComplete, IsRun, Says, course_of}
+use Rattle.display_cli.specs.inside.Going.{at}
+use Rattle.display_cli.specs.inside.Opening.{IsOpenedOn, IsTextRefused, IsScript, IsScriptRefused, HasWatched, IsNoteOf, HasRun, note_of}
 use Rattle.display_cli.specs.inside.Reading.{ReadsName}
-use Rattle.display_cli.proofs.Fronts.{front-all}
+use Rattle.display_cli.proofs.Fronts.{front-all, front-none}
+use Rattle.display_cli.proofs.GoingOn.{on, going-stopped}
+use Rattle.display_cli.proofs.Played.{going-fresh, room-fresh}
 
 -- ---- the run of a script
 
-pub run-ok : (course : Course) (refused : Bool) (s : Stage) (status : ℕ) (events : List Event) (note : Note)
-    → IsPlayed course refused s → events ≡ s.history.events → (status ≡ 1) ↔ (refused ≡ true) → note ≡ Fine → HasRun course status events s.sink note
-run-ok course refused s status events note it same says is =
-    let P : List Event → Type 0 = λ l. IsFinished course l s.sink [] status in
-    let N : Note → Type 0 = λ n. HasRun course status events s.sink n in
-    subst N (sym is) (subst P (sym same) (it status says))
+note-as : (make : Option ℕ) (course : Course) (status : ℕ) (events : List Event) (sink : SinkState) (watched : List (List Seen)) (stop : Stop)
+    → HasWatched make course events sink watched (Err stop) → HasRun make course status events sink watched (note_of stop)
+note-as make course status events sink watched stops.Write it = it
+note-as make course status events sink watched stops.JournalFull it = it
+note-as make course status events sink watched stops.Memory it = (it.1.1, inl (it.0, it.1.0))
 
-stopped-as : (course : Course) (s : Stage) (status : ℕ) (stop : Stop) → IsCut course s stop → HasRun course status s.history.events s.sink (note_of stop)
-stopped-as course s status stops.Write cut = (cut.stopped, cut.why)
-stopped-as course s status stops.JournalFull cut = (cut.stopped, cut.why)
-stopped-as course s status stops.Memory cut = let why = cut.why in (why.1, inl (cut.stopped, why.0))
+-- a play that ended so, with the note and the status of that
+pub run-watched : (make : Option ℕ) (course : Course) (status : ℕ) (events : List Event) (sink : SinkState) (watched : List (List Seen)) (r : Result Tally Stop) (note : Note)
+    → HasWatched make course events sink watched r → IsNoteOf r status note → HasRun make course status events sink watched note
+run-watched make course status events sink watched (Ok tally) note it is =
+    let N : Note → Type 0 = λ n. HasRun make course status events sink watched n in subst N (sym is.0) (it status is.1)
+run-watched make course status events sink watched (Err stop) note it is =
+    let N : Note → Type 0 = λ n. HasRun make course status events sink watched n in subst N (sym is) (note-as make course status events sink watched stop it)
 
-pub run-err : (course : Course) (s : Stage) (status : ℕ) (events : List Event) (stop : Stop) (note : Note)
-    → HasEnded course s (Err stop) → events ≡ s.history.events → note ≡ note_of stop → HasRun course status events s.sink note
-run-err course s status events stop note it same is =
-    let P : List Event → Type 0 = λ l. HasRun course status l s.sink (note_of stop) in
-    let N : Note → Type 0 = λ n. HasRun course status events s.sink n in
-    let S : Stop → Type 0 = λ stop. HasRun course status s.history.events s.sink (note_of stop) in
-    subst N (sym is) (subst P (sym same) (elim it [
-      | inl cut ↦ stopped-as course s status stop cut
-      | inr none ↦ subst S (sym none.0) (ap (λ k. k.faults) none.2, inr (none.1, none.2))
-    ]))
+-- a run that has just begun may stop, whatever it reports
+stopped-fresh : (make : Option ℕ) (course : Course) (h : History) → h.opening ≡ course.text → h.events ≡ []
+    → IsStopped make course (h.events ++ Published false ∷ []) course.sink []
+stopped-fresh make course h opening fresh =
+    let S : List ℕ → Type 0 = λ text. IsStopped None (on text course) (h.events ++ Published false ∷ []) course.sink [] in
+    let before = subst S opening (going-stopped (on h.opening course) course.entries no_lines (at (appended h (Published false ∷ [])) course.sink)
+    (going-fresh h fresh course.entries course.workers course.watchers course.sink)) in
+    record {
+      begun = before.begun;
+      legal = before.legal;
+      written = front-none course.sink (output make course.text course.entries (h.events ++ Published false ∷ []) []);
+      watchers = before.watchers;
+    }
+
+-- there was no memory to open a display
+pub run-unopened : (make : Option ℕ) (course : Course) (old new : History) (status : ℕ) (note : Note) (events : List Event) (watched : List (List Seen))
+    → old.opening ≡ course.text → old.events ≡ [] → IsUnopened old new → events ≡ new.events → watched ≡ [] → note ≡ Memory
+    → HasRun make course status events course.sink watched note
+run-unopened make course old new status note events watched opening fresh how same none is =
+    let N : Note → Type 0 = λ n. HasRun make course status events course.sink watched n in
+    let W : List (List Seen) → Type 0 = λ w. HasRun make course status events course.sink w Memory in
+    let E : List Event → Type 0 = λ l. HasRun make course status l course.sink [] Memory in
+    let H : History → Type 0 = λ h. HasRun make course status h.events course.sink [] Memory in
+    let S : List ℕ → Type 0 = λ text. IsStopped make (on text course) (old.events ++ Published false ∷ []) course.sink [] in
+    subst N (sym is) (subst W (sym none) (subst E (sym same) (elim how [
+      | inl e ↦ (refl, inr (ap (λ (h : History). h.events) e ∙ fresh, refl, refl))
+      | inr e ↦ subst H (sym e) (refl, inl (subst S opening (stopped-fresh make (on old.opening course) old refl fresh), room-fresh old fresh))
+    ])))
 
 -- ---- the reads of a run
 
-pub reads-both : (plan : Plan) (a b c : InputState) → ReadsName parts.Text plan.text a b → ReadsName parts.Script plan.script b c
+pub reads-both : (plan : Plan) (a b c : InputState) → plan.make ≡ None → ReadsName parts.Text plan.text a b → ReadsName parts.Script plan.script b c
     → ReadsInOrder plan a.reads c.reads
-reads-both plan a b c of_text of_script = record {
+reads-both plan a b c named of_text of_script = record {
   text = of_text.reads;
   script = of_script.reads;
   made = of_script.made ∙ (ap (λ l. l ++ of_script.reads) of_text.made ∙ append_assoc a.reads of_text.reads of_script.reads);
   of_text = of_text.in_order;
   of_script = of_script.in_order;
+  none = λ made. absurd (made named);
 }
 
-pub reads-text : (plan : Plan) (a b : InputState) → ReadsName parts.Text plan.text a b → ReadsInOrder plan a.reads b.reads
-reads-text plan a b of_text = record {
+pub reads-text : (plan : Plan) (a b : InputState) → plan.make ≡ None → ReadsName parts.Text plan.text a b → ReadsInOrder plan a.reads b.reads
+reads-text plan a b named of_text = record {
   text = of_text.reads;
   script = [];
   made = of_text.made ∙ ap (λ l. a.reads ++ l) (sym (append-nil of_text.reads));
   of_text = of_text.in_order;
   of_script = tt;
+  none = λ made. absurd (made named);
 }
 
 pub reads-none : (plan : Plan) (a : InputState) → ReadsInOrder plan a.reads a.reads
-reads-none plan a = record { text = []; script = []; made = sym (append-nil a.reads); of_text = tt; of_script = tt }
+reads-none plan a = record { text = []; script = []; made = sym (append-nil a.reads); of_text = tt; of_script = tt; none = λ made. refl }
 
 -- ---- what a run is by its note
 
@@ -82,88 +110,94 @@ told-accepted {o} b bytes is told accepted =
     let same : bytes ≡ b = subst P is told in
     let Q : List ℕ → Type 0 = IsAccepted in subst Q (sym same) accepted
 
-told-fits : {o : Option (List ℕ)} (b bytes : List ℕ) → o ≡ Some bytes → AreTold o b → length b ≤ script_limit → length bytes ≤ script_limit
+told-fits : {o : Option (List ℕ)} (b bytes : List ℕ) → o ≡ Some bytes → AreTold o b → length b ≤ SCRIPT_LIMIT → length bytes ≤ SCRIPT_LIMIT
 told-fits {o} b bytes is told fits =
     let P : Option (List ℕ) → Type 0 = λ o. AreTold o b in
     let same : bytes ≡ b = subst P is told in
-    let Q : List ℕ → Type 0 = λ l. length l ≤ script_limit in subst Q (sym same) fits
+    let Q : List ℕ → Type 0 = λ l. length l ≤ SCRIPT_LIMIT in subst Q (sym same) fits
+
+-- what is told of names is what a plan of names has
+pub named-text : (plan : Plan) (inputs : InputState) → plan.make ≡ None → inputs.told plan.text ≡ text_of plan inputs
+named-text plan inputs named = ap (λ m. given m (inputs.told plan.text) (λ made. made.text)) (sym named)
+
+pub named-script : (plan : Plan) (inputs : InputState) → plan.make ≡ None → inputs.told plan.script ≡ script_of plan inputs
+named-script plan inputs named = ap (λ m. given m (inputs.told plan.script) (λ made. made.script)) (sym named)
 
 module _ (plan : Plan) (run : Run) where
   -- a text that wasn't opened
-  pub ended-unopened : (note : Note) → IsRefused run → IsTextRefused (run.inputs.told plan.text) run.inputs.faults run.inputs_after.faults note
-      → IsEndedAs plan run note
-  ended-unopened ReadText refused it = (refused, it)
-  ended-unopened TextTooLong refused it = (refused, it)
-  ended-unopened (TextNotUtf8 at) refused it = (refused, it)
-  ended-unopened Memory refused it = record { ended = inr refused; reads_passed = it; writes_passed = ap (λ s. s.faults) refused.sink }
-  ended-unopened Fine refused it = absurd it
-  ended-unopened Usage refused it = absurd it
-  ended-unopened ReadScript refused it = absurd it
-  ended-unopened Write refused it = absurd it
-  ended-unopened ScriptTooLong refused it = absurd it
-  ended-unopened JournalFull refused it = absurd it
+  pub ended-unopened : (note : Note) → (note ≡ ReadText → plan.make ≡ None) → IsRefused run
+      → IsTextRefused (text_of plan run.inputs) run.inputs.faults run.inputs_after.faults note → IsEndedAs plan run note
+  ended-unopened ReadText named refused it = (refused, it, named refl)
+  ended-unopened TextTooLong named refused it = (refused, it)
+  ended-unopened (TextNotUtf8 at) named refused it = (refused, it)
+  ended-unopened Memory named refused it = record { ended = inr refused; reads_passed = it; writes_passed = ap (λ s. s.faults) refused.sink }
+  ended-unopened Fine named refused it = absurd it
+  ended-unopened Usage named refused it = absurd it
+  ended-unopened ReadScript named refused it = absurd it
+  ended-unopened Write named refused it = absurd it
+  ended-unopened ScriptTooLong named refused it = absurd it
+  ended-unopened JournalFull named refused it = absurd it
 
-  unread-as : (note : Note) → IsRefused run → HasText plan run
-      → IsScriptRefused (run.inputs.told plan.script) run.inputs.faults run.inputs_after.faults note → IsEndedAs plan run note
-  unread-as ReadScript refused text it = (refused, it, text)
-  unread-as ScriptTooLong refused text it = (refused, it, text)
-  unread-as Memory refused text it = record { ended = inr refused; reads_passed = it; writes_passed = ap (λ s. s.faults) refused.sink }
-  unread-as Fine refused text it = absurd it
-  unread-as Usage refused text it = absurd it
-  unread-as ReadText refused text it = absurd it
-  unread-as (TextNotUtf8 at) refused text it = absurd it
-  unread-as TextTooLong refused text it = absurd it
-  unread-as Write refused text it = absurd it
-  unread-as JournalFull refused text it = absurd it
+  -- there was no memory, and nothing was read or written
+  pub ended-short : IsRefused run → run.inputs_after.faults ≡ run.inputs.faults → IsEndedAs plan run Memory
+  ended-short refused same = record { ended = inr refused; reads_passed = same; writes_passed = ap (λ s. s.faults) refused.sink }
+
+  unread-as : (note : Note) → plan.make ≡ None → IsRefused run → HasText plan run
+      → IsScriptRefused (script_of plan run.inputs) run.inputs.faults run.inputs_after.faults note → IsEndedAs plan run note
+  unread-as ReadScript named refused text it = (refused, it, text, named)
+  unread-as ScriptTooLong named refused text it = (refused, it, text)
+  unread-as Memory named refused text it = record { ended = inr refused; reads_passed = it; writes_passed = ap (λ s. s.faults) refused.sink }
+  unread-as Fine named refused text it = absurd it
+  unread-as Usage named refused text it = absurd it
+  unread-as ReadText named refused text it = absurd it
+  unread-as (TextNotUtf8 at) named refused text it = absurd it
+  unread-as TextTooLong named refused text it = absurd it
+  unread-as Write named refused text it = absurd it
+  unread-as JournalFull named refused text it = absurd it
 
   -- a script that wasn't read, behind reads of the text that passed
-  pub ended-unread : (note : Note) (told : Option (List ℕ)) (faults : Faults) (display : History) → IsRefused run
-      → IsOpenedOn (run.inputs.told plan.text) display → told ≡ run.inputs.told plan.script → faults ≡ run.inputs.faults
+  pub ended-unread : (note : Note) (told : Option (List ℕ)) (faults : Faults) (display : History) → plan.make ≡ None → IsRefused run
+      → IsOpenedOn (text_of plan run.inputs) display → told ≡ script_of plan run.inputs → faults ≡ run.inputs.faults
       → IsScriptRefused told faults run.inputs_after.faults note → IsEndedAs plan run note
-  ended-unread note told faults display refused opened tells passed it =
+  ended-unread note told faults display named refused opened tells passed it =
       let T : Option (List ℕ) → Type 0 = λ o. IsScriptRefused o faults run.inputs_after.faults note in
-      let F : Faults → Type 0 = λ f. IsScriptRefused (run.inputs.told plan.script) f run.inputs_after.faults note in
-      unread-as note refused (opened.0, opened.1, opened.2) (subst F passed (subst T tells it))
+      let F : Faults → Type 0 = λ f. IsScriptRefused (script_of plan run.inputs) f run.inputs_after.faults note in
+      unread-as note named refused (opened.0, opened.1, opened.2) (subst F passed (subst T tells it))
 
-  run-as : (note : Note) (read : HasRead plan run) → run.watched ≡ [] → run.inputs_after.faults ≡ run.inputs.faults
-      → HasRun (course_of plan read.bytes read.script run.sink) run.status run.history run.sink_after note → IsEndedAs plan run note
-  run-as Fine read unwatched passed it =
-      let W : List (List Seen) → Type 0 = λ w. IsFinished (course_of plan read.bytes read.script run.sink) run.history run.sink_after w run.status in
-      record { read = read; finished = subst W (sym unwatched) it }
-  run-as Write read unwatched passed it =
-      let W : List (List Seen) → Type 0 = λ w. IsStopped (course_of plan read.bytes read.script run.sink) run.history run.sink_after w in
-      record { read = read; stopped = subst W (sym unwatched) it.0; caused = it.1 }
-  run-as JournalFull read unwatched passed it =
-      let W : List (List Seen) → Type 0 = λ w. IsStopped (course_of plan read.bytes read.script run.sink) run.history run.sink_after w in
-      record { read = read; stopped = subst W (sym unwatched) it.0; caused = it.1 }
-  run-as Memory read unwatched passed it =
-      let W : List (List Seen) → Type 0 = λ w. IsStopped (course_of plan read.bytes read.script run.sink) run.history run.sink_after w in
+  run-as : (note : Note) (read : HasRead plan run) → run.inputs_after.faults ≡ run.inputs.faults
+      → HasRun plan.make (course_of plan read.bytes read.script run.sink) run.status run.history run.sink_after run.watched note → IsEndedAs plan run note
+  run-as Fine read passed it = record { read = read; finished = it }
+  run-as Write read passed it = record { read = read; stopped = it.0; caused = it.1 }
+  run-as JournalFull read passed it = record { read = read; stopped = it.0; caused = it.1 }
+  run-as Memory read passed it =
       record {
         ended = elim it.1 [
-          | inl stopped ↦ inl (record { read = read; stopped = subst W (sym unwatched) stopped.0; caused = stopped.1 })
-          | inr none ↦ inr (record { history = none.0; watched = unwatched; sink = none.1 })
+          | inl stopped ↦ inl (record { read = read; stopped = stopped.0; caused = stopped.1 })
+          | inr none ↦ inr (record { history = none.0; watched = none.1; sink = none.2 })
         ];
         reads_passed = passed;
         writes_passed = it.0;
       }
-  run-as Usage read unwatched passed it = absurd it
-  run-as ReadText read unwatched passed it = absurd it
-  run-as ReadScript read unwatched passed it = absurd it
-  run-as (TextNotUtf8 at) read unwatched passed it = absurd it
-  run-as TextTooLong read unwatched passed it = absurd it
-  run-as ScriptTooLong read unwatched passed it = absurd it
+  run-as Usage read passed it = absurd it
+  run-as ReadText read passed it = absurd it
+  run-as ReadScript read passed it = absurd it
+  run-as (TextNotUtf8 at) read passed it = absurd it
+  run-as TextTooLong read passed it = absurd it
+  run-as ScriptTooLong read passed it = absurd it
 
   -- the script was run
-  pub ended-run : (note : Note) (told : Option (List ℕ)) (display : History) (script : List ℕ) → run.watched ≡ []
-      → IsOpenedOn (run.inputs.told plan.text) display → told ≡ run.inputs.told plan.script → IsScript told script
+  pub ended-run : (note : Note) (told : Option (List ℕ)) (display : History) (script : List ℕ)
+      → IsOpenedOn (text_of plan run.inputs) display → told ≡ script_of plan run.inputs → IsScript told script
       → run.inputs_after.faults ≡ run.inputs.faults
-      → HasRun (record { text = display.opening; entries = numbered_lines script; workers = plan.workers; sink = run.sink }) run.status run.history run.sink_after note
+      → HasRun plan.make (record { text = display.opening; entries = numbered_lines script; workers = plan.workers; watchers = plan.watchers; sink = run.sink })
+      run.status run.history run.sink_after run.watched note
       → IsEndedAs plan run note
-  ended-run note told display script unwatched opened tells read passed it =
+  ended-run note told display script opened tells read passed it =
       let T : Option (List ℕ) → Type 0 = λ o. IsScript o script in
       let script_read = subst T tells read in
-      let H : History → Type 0 = λ h. HasRun (record { text = h.opening; entries = numbered_lines script; workers = plan.workers; sink = run.sink })
-      run.status run.history run.sink_after note in
+      let H : History → Type 0 = λ h. HasRun plan.make
+      (record { text = h.opening; entries = numbered_lines script; workers = plan.workers; watchers = plan.watchers; sink = run.sink })
+      run.status run.history run.sink_after run.watched note in
       run-as note (record {
         bytes = opened.0;
         script = script;
@@ -171,14 +205,14 @@ module _ (plan : Plan) (run : Run) where
         script_told = script_read.0;
         text_accepted = opened.2;
         script_fits = script_read.1;
-      }) unwatched passed (subst H opened.3 it)
+      }) passed (subst H opened.3 it)
 
   -- ---- what is owed
 
-  read-text : (bytes : List ℕ) → run.inputs.told plan.text ≡ Some bytes → HasRead plan run → IsAccepted bytes
+  read-text : (bytes : List ℕ) → text_of plan run.inputs ≡ Some bytes → HasRead plan run → IsAccepted bytes
   read-text bytes is read = told-accepted read.bytes bytes is read.text_told read.text_accepted
 
-  read-script : (script : List ℕ) → run.inputs.told plan.script ≡ Some script → HasRead plan run → length script ≤ script_limit
+  read-script : (script : List ℕ) → script_of plan run.inputs ≡ Some script → HasRead plan run → length script ≤ SCRIPT_LIMIT
   read-script script is read = told-fits read.script script is read.script_told read.script_fits
 
   -- no memory, a text that is too long, one that isn't UTF-8, or one that is accepted
@@ -187,7 +221,7 @@ module _ (plan : Plan) (run : Run) where
       (note ≡ Memory) ⊎ (((note ≡ TextTooLong) × (TEXT_LIMIT < length bytes))
       ⊎ (((note ≡ TextNotUtf8 (utf8_valid_len bytes)) × (length bytes ≤ TEXT_LIMIT) × (IsUtf8 bytes → ⊥)) ⊎ IsAccepted bytes))
 
-  text-end : (note : Note) (bytes : List ℕ) → IsEndedAs plan run note → run.inputs.told plan.text ≡ Some bytes → IsTextUnfailed run → TextEnd note bytes
+  text-end : (note : Note) (bytes : List ℕ) → IsEndedAs plan run note → text_of plan run.inputs ≡ Some bytes → IsTextUnfailed run → TextEnd note bytes
   unfolding TextEnd
   text-end Fine bytes it is unfailed = inr (inr (inr (read-text bytes is it.read)))
   text-end Usage bytes it is unfailed = absurd it
@@ -206,10 +240,10 @@ module _ (plan : Plan) (run : Run) where
   -- behind an accepted text: no memory, a script that is too long, or one that was run
   ScriptEnd : Note → List ℕ → Type 0
   ScriptEnd note script =
-      (note ≡ Memory) ⊎ (((note ≡ ScriptTooLong) × (script_limit < length script))
-      ⊎ ((length script ≤ script_limit) × ((note ≡ Fine) ⊎ ((note ≡ JournalFull) ⊎ HasRisen run.sink.faults run.sink_after.faults))))
+      (note ≡ Memory) ⊎ (((note ≡ ScriptTooLong) × (SCRIPT_LIMIT < length script))
+      ⊎ ((length script ≤ SCRIPT_LIMIT) × ((note ≡ Fine) ⊎ ((note ≡ JournalFull) ⊎ HasRisen run.sink.faults run.sink_after.faults))))
 
-  script-end : (note : Note) (bytes script : List ℕ) → IsEndedAs plan run note → run.inputs.told plan.text ≡ Some bytes → run.inputs.told plan.script ≡ Some script
+  script-end : (note : Note) (bytes script : List ℕ) → IsEndedAs plan run note → text_of plan run.inputs ≡ Some bytes → script_of plan run.inputs ≡ Some script
       → IsTextUnfailed run → IsScriptUnfailed run → IsAccepted bytes → ScriptEnd note script
   unfolding ScriptEnd
   script-end Fine bytes script it is is' unfailed unfailed' accepted = inr (inr (read-script script is' it.read, inl refl))
@@ -223,7 +257,7 @@ module _ (plan : Plan) (run : Run) where
       let P : Option (List ℕ) → Type 0 = λ o. IfSome o (λ bytes. TEXT_LIMIT < length bytes) in
       let long = subst P is it.1 in let fits = accepted.0 in absurd (omega arith)
   script-end ScriptTooLong bytes script it is is' unfailed unfailed' accepted =
-      let P : Option (List ℕ) → Type 0 = λ o. IfSome o (λ script. script_limit < length script) in inr (inl (refl, subst P is' it.1))
+      let P : Option (List ℕ) → Type 0 = λ o. IfSome o (λ script. SCRIPT_LIMIT < length script) in inr (inl (refl, subst P is' it.1))
   script-end JournalFull bytes script it is is' unfailed unfailed' accepted = inr (inr (read-script script is' it.read, inr (inl refl)))
   script-end Memory bytes script it is is' unfailed unfailed' accepted = inl refl
 

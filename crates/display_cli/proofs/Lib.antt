@@ -1,7 +1,7 @@
 pub mod Snoc
 pub mod LastLine
 pub mod Next
-pub mod Rounds
+pub mod Sends
 pub mod Ready
 pub mod GoingOn
 pub mod Results
@@ -9,5 +9,9 @@ pub mod Fronts
 pub mod Lines
 pub mod Handled
 pub mod Played
+pub mod Watches
 pub mod Headline
+pub mod Opened
+pub mod Made
 pub mod ReadLines
+pub mod Heads

@@ -1,8 +1,8 @@
 -- A run goes on over the lines of its script.
-use Rattle.std.proofs.Common.{◌≡◌, ℕ, zero, suc, inl, Bool, true, false, List, [], ◌∷◌, ◌++◌, length, drop, Some, None, refl, sym, ap, ◌∙◌, subst, append_assoc, arith, add-one, ◌+◌, ◌<◌}
+use Rattle.std.proofs.Common.{◌≡◌, ℕ, zero, suc, inl, inr, Bool, true, false, List, [], ◌∷◌, ◌++◌, length, drop, Some, None, refl, sym, ap, ◌∙◌, subst, append_assoc, arith, add-one, ◌+◌, ◌<◌}
 use Rattle.std.specs.Prelude.{◌||◌, slice_get}
 use Rattle.std.specs.Option.{option_map}
-use Rattle.std.specs.List.{list_any, list_all}
+use Rattle.std.specs.List.{list_any}
 use Rattle.std.proofs.lemmas.List.{append-nil}
 use Rattle.std.proofs.lemmas.List.Folds.{list_any-append}
 use Rattle.cell_units.specs.Operation.{Operation}
@@ -12,16 +12,17 @@ use Rattle.display_map.specs.Replay.{History, state_of, present_of, appended}
 use Rattle.edit_script.specs.Commands.{Command}
 use Rattle.edit_script.specs.Verdict.{Accepted, ops_of}
 use Rattle.display_cli.specs.Entries.{Entry, judged}
-use Rattle.display_cli.specs.Legal.{IsLegalSoFar, IsChanging, IsChanged, is_line, is_end, lines_in, next_entry, next_verdict, is_landed}
+use Rattle.display_cli.specs.Legal.{IsLegalSoFar, IsChanging, IsChanged, is_line, is_end, lines_in, next_entry, next_verdict, is_landed, needs_settled}
 use Rattle.display_cli.specs.Outside.{SinkState, Takes, TakesFront}
-use Rattle.display_cli.specs.Output.{answered, any_refused, answer, printed, is_refused}
+use Rattle.display_cli.specs.declared.tally.Tally.{Tally}
+use Rattle.display_cli.specs.Output.{answered, answer, printed, refusals_in, tally_of}
+use Rattle.display_cli.specs.inside.Counting.{counted}
 use Rattle.display_cli.specs.Ended.{Course, IsStopped}
-use Rattle.display_cli.specs.inside.Going.{IsFree, at, IsGoing, IsCalm, changed}
-use Rattle.display_cli.proofs.Snoc.{quiet-append, answered-snoc, any_refused-snoc, lines-append, last-snoc, any-snoc}
+use Rattle.display_cli.specs.inside.Going.{IsFree, at, IsGoing, MayHandle, changed}
+use Rattle.display_cli.proofs.Snoc.{quiet-append, answered-snoc, tally-snoc, lines-append, last-snoc, any-snoc}
 use Rattle.display_cli.proofs.LastLine.{dids, same-end, end-not-empty, begun-more, dids-more}
 use Rattle.display_cli.proofs.Next.{legal-snoc, free-snoc, next-line-event, next-did, next-published, all-done}
-use Rattle.display_cli.proofs.Rounds.{none-wait, all-settled}
-use Rattle.display_cli.proofs.Ready.{is_jobless}
+use Rattle.display_cli.proofs.Sends.{none-wait}
 use Rattle.display_cli.proofs.Fronts.{takes-more, takes-none, takes-same, front-all, front-behind}
 use Rattle.display_cli.proofs.GoingOn.{stopped-at}
 
@@ -57,8 +58,8 @@ none-left (y ∷ xs) zero e = cc
 none-left (y ∷ xs) (suc k) e = none-left xs k e
 
 -- the handling of the next entry
-module _ (course : Course) (number : ℕ) (entry : Entry) (left : List (ℕ × Entry)) (refused : Bool) (h : History) (sink : SinkState)
-    (going : IsGoing course ((number, entry) ∷ left) refused (at h sink)) where
+module _ (course : Course) (number : ℕ) (entry : Entry) (left : List (ℕ × Entry)) (tally : Tally) (h : History) (sink : SinkState)
+    (going : IsGoing course ((number, entry) ∷ left) tally (at h sink)) where
   pub it-is-next : next_entry course.entries h.events ≡ Some (number, entry)
   it-is-next = (from-left course.entries (lines_in h.events) (number, entry) left going.lines).0
 
@@ -71,50 +72,58 @@ module _ (course : Course) (number : ℕ) (entry : Entry) (left : List (ℕ × E
       answered-snoc h.opening course.entries h.events (Line number)
       ∙ ap (λ v. answered h.opening course.entries h.events ++ printed (answer h.opening course.entries h.events v)) its-verdict
 
-  its-refusals : any_refused h.opening course.entries (h.events ++ Line number ∷ []) ≡ (refused || is_refused (Some (judged (present_of h) entry)))
-  its-refusals =
-      any_refused-snoc h.opening course.entries h.events (Line number)
-      ∙ (ap (λ b. b || is_refused (next_verdict h.opening course.entries h.events)) going.refusals
-      ∙ ap (λ v. refused || is_refused v) its-verdict)
+  its-tally : (lines : List (List ℕ)) → answer h.opening course.entries h.events (Some (judged (present_of h) entry)) ≡ lines
+      → tally_of h.opening course.entries (h.events ++ Line number ∷ []) ≡ counted tally (refusals_in (Some (judged (present_of h) entry))) (length lines)
+  its-tally lines is =
+      let next = next_verdict h.opening course.entries h.events in
+      tally-snoc h.opening course.entries h.events (Line number) (tally.handled + 1) (tally.refused + refusals_in (Some (judged (present_of h) entry)))
+      (tally.answers + length lines)
+      (ap (λ (t : Tally). t.handled + 1) going.tallied)
+      (ap (λ (t : Tally). t.refused + refusals_in next) going.tallied ∙ ap (λ v. tally.refused + refusals_in v) its-verdict)
+      (ap (λ (t : Tally). t.answers + length (answer h.opening course.entries h.events next)) going.tallied
+      ∙ (ap (λ v. tally.answers + length (answer h.opening course.entries h.events v)) its-verdict ∙ ap (λ l. tally.answers + length l) is))
 
   its-lines : drop (lines_in (h.events ++ Line number ∷ [])) course.entries ≡ left
   its-lines =
       ap (λ k. drop k course.entries) (lines-append h.events (Line number ∷ []) ∙ add-one (lines_in h.events))
       ∙ (from-left course.entries (lines_in h.events) (number, entry) left going.lines).1
 
-  pub its-legal : IsCalm h → IsLegalSoFar h.opening course.entries course.workers (h.events ++ Line number ∷ [])
-  its-legal calm =
+  pub its-legal : MayHandle course.workers h (judged (present_of h) entry)
+      → IsLegalSoFar h.opening course.entries course.workers (h.events ++ Line number ∷ [])
+  its-legal may =
       legal-snoc h.opening course.entries course.workers h.events (Line number) going.legal
       (next-line-event h.opening course.entries course.workers h.events number going.free (ap (option_map (λ l. l.0)) it-is-next)
-      (all-settled (state_of h) calm.ready.over calm.none_waits) (none-wait (state_of h) calm.none_waits))
+      (λ wanted. may.settled (sym (ap needs_settled its-verdict) ∙ wanted)) (elim may.busy [
+        | inl none ↦ inl (none-wait (state_of h) none)
+        | inr full ↦ inr full
+      ]))
 
   -- while its answer is written
-  pub stopped-line : IsCalm h → (lines : List (List ℕ)) (then : SinkState)
+  pub stopped-line : MayHandle course.workers h (judged (present_of h) entry) → (lines : List (List ℕ)) (then : SinkState)
       → answer h.opening course.entries h.events (Some (judged (present_of h) entry)) ≡ lines → TakesFront (printed lines) sink then
-      → IsStopped course (h.events ++ Line number ∷ []) then []
-  stopped-line calm lines then is front =
-      stopped-at course (appended h (Line number ∷ [])) then going.opening (end-not-empty h.events (Line number) []) (its-legal calm)
+      → IsStopped None course (h.events ++ Line number ∷ []) then []
+  stopped-line may lines then is front =
+      stopped-at course (appended h (Line number ∷ [])) then going.opening (end-not-empty h.events (Line number) []) (its-legal may)
       (front-behind course.sink sink then (answered h.opening course.entries h.events) (printed lines) []
       (answered h.opening course.entries (h.events ++ Line number ∷ [])) going.written front
       (append-nil (answered h.opening course.entries h.events ++ printed lines)
       ∙ (ap (λ l. answered h.opening course.entries h.events ++ printed l) (sym is) ∙ sym its-answer)))
 
   -- behind a line that does no operation
-  pub going-line : IsCalm h → (lines : List (List ℕ)) (then : SinkState)
+  pub going-line : MayHandle course.workers h (judged (present_of h) entry) → (lines : List (List ℕ)) (then : SinkState)
       → answer h.opening course.entries h.events (Some (judged (present_of h) entry)) ≡ lines → Takes (printed lines) sink then
       → ((command : Command) → judged (present_of h) entry ≡ Accepted command → ops_of command ≡ [])
-      → IsGoing course left (refused || is_refused (Some (judged (present_of h) entry))) (at (appended h (Line number ∷ [])) then)
-  going-line calm lines then is written idle =
+      → IsGoing course left (counted tally (refusals_in (Some (judged (present_of h) entry))) (length lines)) (at (appended h (Line number ∷ [])) then)
+  going-line may lines then is written idle =
       record {
-        some_worker = going.some_worker;
         opening = going.opening;
-        legal = its-legal calm;
+        legal = its-legal may;
         free = free-line;
         lines = its-lines;
         written = takes-same course.sink then _ _
             (ap (λ l. answered h.opening course.entries h.events ++ printed l) (sym is) ∙ sym its-answer)
             (takes-more course.sink sink then (answered h.opening course.entries h.events) (printed lines) going.written written);
-        refusals = its-refusals;
+        tallied = its-tally lines is;
       }
     where
       idle-verdict : (command : Command) → next_verdict h.opening course.entries h.events ≡ Some (Accepted command) → ops_of command ≡ []
@@ -186,42 +195,34 @@ changed-quiet : (ops : List Operation) → list_any is_line (changed ops) ≡ fa
 changed-quiet [] = refl
 changed-quiet (op ∷ ops) = list_any-append is_line (dids ops) (Published false ∷ []) ∙ (ap (λ b. b || false) (dids-quiet ops))
 
-pub changed-jobless : (ops : List Operation) → list_all is_jobless (changed ops) ≡ true
-changed-jobless [] = refl
-changed-jobless (op ∷ ops) = published-jobless ops
-  where
-    published-jobless : (ops : List Operation) → list_all is_jobless (dids ops ++ Published false ∷ []) ≡ true
-    published-jobless [] = refl
-    published-jobless (op ∷ ops) = published-jobless ops
-
 -- a change that is accepted: its answer has no line
-module _ (course : Course) (number : ℕ) (entry : Entry) (left : List (ℕ × Entry)) (refused : Bool) (h : History) (sink : SinkState)
-    (going : IsGoing course ((number, entry) ∷ left) refused (at h sink)) (calm : IsCalm h) (command : Command)
+module _ (course : Course) (number : ℕ) (entry : Entry) (left : List (ℕ × Entry)) (tally : Tally) (h : History) (sink : SinkState)
+    (going : IsGoing course ((number, entry) ∷ left) tally (at h sink)) (may : MayHandle course.workers h (judged (present_of h) entry)) (command : Command)
     (accepted : judged (present_of h) entry ≡ Accepted command)
     (silent : answer h.opening course.entries h.events (Some (Accepted command)) ≡ []) where
   next-accepted : next_verdict h.opening course.entries h.events ≡ Some (Accepted command)
-  next-accepted = its-verdict course number entry left refused h sink going ∙ ap Some accepted
+  next-accepted = its-verdict course number entry left tally h sink going ∙ ap Some accepted
 
   no-answer : answer h.opening course.entries h.events (Some (judged (present_of h) entry)) ≡ []
   no-answer = ap (λ v. answer h.opening course.entries h.events (Some v)) accepted ∙ silent
 
-  idle-line : IsGoing course left (refused || is_refused (Some (judged (present_of h) entry))) (at (appended h (Line number ∷ [])) sink)
-      → IsGoing course left (refused || false) (at (appended h (Line number ∷ [])) sink)
+  idle-line : IsGoing course left (counted tally (refusals_in (Some (judged (present_of h) entry))) 0) (at (appended h (Line number ∷ [])) sink)
+      → IsGoing course left (counted tally 0 0) (at (appended h (Line number ∷ [])) sink)
   idle-line it =
-      let P : Bool → Type 0 = λ b. IsGoing course left (refused || b) (at (appended h (Line number ∷ [])) sink) in
-      subst P (ap (λ v. is_refused (Some v)) accepted) it
+      let P : ℕ → Type 0 = λ n. IsGoing course left (counted tally n 0) (at (appended h (Line number ∷ [])) sink) in
+      subst P (ap (λ v. refusals_in (Some v)) accepted) it
 
   at-line : IsLegalSoFar h.opening course.entries course.workers (h.events ++ Line number ∷ [])
-  at-line = its-legal course number entry left refused h sink going calm
+  at-line = its-legal course number entry left tally h sink going may
 
   all-legal : IsLegalSoFar h.opening course.entries course.workers ((h.events ++ Line number ∷ []) ++ dids (ops_of command))
   all-legal = dids-legal h.opening course.entries course.workers h.events number command next-accepted going.free.goes_on [] (ops_of command) refl at-line
 
   -- its version isn't published yet
-  pub stopped-dids : IsStopped course ((h.events ++ Line number ∷ []) ++ dids (ops_of command)) sink []
+  pub stopped-dids : IsStopped None course ((h.events ++ Line number ∷ []) ++ dids (ops_of command)) sink []
   stopped-dids =
       let quiet = quiet-append h.opening course.entries (h.events ++ Line number ∷ []) (dids (ops_of command)) (dids-quiet (ops_of command)) in
-      let here = its-answer course number entry left refused h sink going in
+      let here = its-answer course number entry left tally h sink going in
       let whole : List ℕ = answered h.opening course.entries h.events in
       stopped-at course (appended (appended h (Line number ∷ [])) (dids (ops_of command))) sink going.opening
       (begun-more (h.events ++ Line number ∷ []) (dids (ops_of command)) (end-not-empty h.events (Line number) [])) all-legal
@@ -229,15 +230,15 @@ module _ (course : Course) (number : ℕ) (entry : Entry) (left : List (ℕ × E
       (sym (quiet.answered ∙ (here ∙ ap (λ l. whole ++ printed l) no-answer))))
 
   -- ... and now it is, where there was an operation
-  pub going-changed : IsGoing course left (refused || false) (at (appended (appended h (Line number ∷ [])) (changed (ops_of command))) sink)
+  pub going-changed : IsGoing course left (counted tally 0 0) (at (appended (appended h (Line number ∷ [])) (changed (ops_of command))) sink)
   going-changed = by-operations (ops_of command) refl
     where
       by-operations : (ops : List Operation) → ops_of command ≡ ops
-          → IsGoing course left (refused || false) (at (appended (appended h (Line number ∷ [])) (changed ops)) sink)
+          → IsGoing course left (counted tally 0 0) (at (appended (appended h (Line number ∷ [])) (changed ops)) sink)
       by-operations [] e =
-          let P : List Event → Type 0 = λ l. IsGoing course left (refused || false) (at (record { opening = h.opening; events = l }) sink) in
+          let P : List Event → Type 0 = λ l. IsGoing course left (counted tally 0 0) (at (record { opening = h.opening; events = l }) sink) in
           subst P (sym (append-nil (h.events ++ Line number ∷ [])))
-          (idle-line (going-line course number entry left refused h sink going calm [] sink no-answer (takes-none sink)
+          (idle-line (going-line course number entry left tally h sink going may [] sink no-answer (takes-none sink)
           (λ others it. ap ops_of (accepted-same' others command (sym it ∙ accepted)) ∙ e)))
       by-operations (op ∷ ops) e =
           let text : List ℕ = h.opening in
@@ -253,16 +254,15 @@ module _ (course : Course) (number : ℕ) (entry : Entry) (left : List (ℕ × E
           let legal = subst P whole (published-legal text entries workers past number command next-accepted going.free.goes_on op ops e done) in
           let free = subst F whole (published-free text entries workers past number command next-accepted going.free.goes_on (op ∷ ops)) in
           let quiet = quiet-append text entries (past ++ Line number ∷ []) (changed (op ∷ ops)) (changed-quiet (op ∷ ops)) in
-          let here = its-answer course number entry left refused h sink going in
+          let here = its-answer course number entry left tally h sink going in
           let W : List ℕ → Type 0 = λ bytes. Takes bytes course.sink sink in
           record {
-            some_worker = going.some_worker;
             opening = going.opening;
             legal = legal;
             free = free;
-            lines = ap (λ k. drop k entries) quiet.lines ∙ its-lines course number entry left refused h sink going;
+            lines = ap (λ k. drop k entries) quiet.lines ∙ its-lines course number entry left tally h sink going;
             written = subst W (sym (quiet.answered ∙ (here ∙ (ap (λ l. answered text entries past ++ printed l) no-answer ∙ append-nil (answered text entries past))))) going.written;
-            refusals = quiet.refused ∙ (its-refusals course number entry left refused h sink going ∙ ap (λ v. refused || is_refused (Some v)) accepted);
+            tallied = quiet.tallied ∙ (its-tally course number entry left tally h sink going [] no-answer ∙ ap (λ v. counted tally (refusals_in (Some v)) 0) accepted);
           }
 
 -- where the journal grew by the operations of a change, there was one

@@ -1,5 +1,5 @@
 -- Which event may come next in a legal history.
-use Rattle.std.proofs.Common.{◌≡◌, ℕ, ◌⊎◌, inl, inr, true, false, List, [], ◌∷◌, ◌++◌, Option, Some, None, refl, sym, ap, ◌∙◌, subst, true≢false}
+use Rattle.std.proofs.Common.{◌≡◌, ℕ, ◌*◌, ◌⊎◌, inl, inr, true, false, List, [], ◌∷◌, ◌++◌, Option, Some, None, refl, sym, ap, ◌∙◌, subst, true≢false}
 use Rattle.std.specs.Option.{option_map}
 use Rattle.std.specs.List.{last_or, list_any}
 use Rattle.std.proofs.lemmas.List.{append-nil}
@@ -10,7 +10,8 @@ use Rattle.display_map.specs.Replay.{State, state_of, waits, is_settled, job_num
 use Rattle.edit_script.specs.Commands.{Command}
 use Rattle.edit_script.specs.Verdict.{Accepted, ops_of}
 use Rattle.display_cli.specs.Entries.{Entry}
-use Rattle.display_cli.specs.Legal.{Opens, TakesNextLine, IsChanging, IsChanged, DoesChanges, PublishesLandings, IsSend, Sends, LandsOnce, AnswersSettled, KeepsBusy, IsDone, Ends, IsLegalSoFar, history_of, next_entry, next_verdict, is_landed, is_end}
+use Rattle.display_owner.specs.Beside.{outstanding}
+use Rattle.display_cli.specs.Legal.{needs_settled, Opens, TakesNextLine, IsChanging, IsChanged, DoesChanges, PublishesLandings, IsSend, Sends, LandsOnce, AnswersSettled, KeepsBusy, IsDone, Ends, IsLegalSoFar, history_of, next_entry, next_verdict, is_landed, is_end}
 use Rattle.display_cli.specs.inside.Going.{IsFree}
 use Rattle.display_cli.proofs.Snoc.{AtEach-snoc, last-snoc, any-snoc}
 use Rattle.display_cli.proofs.LastLine.{dids, is_change, same-end, end-changes, end-not-empty, append-same}
@@ -198,14 +199,16 @@ next-last text entries workers h free is_done =
       ending = record { is_done = λ e. is_done; none_behind = free.goes_on };
     }
 
--- where no event is owed, all stands wrapped and no line waits, the next line may be handled
+-- where no event is owed, the next line may be handled: all stands wrapped where it wants that, and no line of the display
+-- waits or as many jobs are out as may be
 pub next-line-event :
     (text : List ℕ) (entries : List (ℕ × Entry)) (workers : ℕ) (h : List Event) (number : ℕ)
     → IsFree text entries h → option_map (λ l. l.0) (next_entry entries h) ≡ Some number
-    → is_settled (state_of (history_of text h)).present ≡ true
-    → list_any (waits (state_of (history_of text h))) (state_of (history_of text h)).present.marks ≡ false
+    → (needs_settled (next_verdict text entries h) ≡ true → is_settled (state_of (history_of text h)).present ≡ true)
+    → (list_any (waits (state_of (history_of text h))) (state_of (history_of text h)).present.marks ≡ false)
+    ⊎ (outstanding (state_of (history_of text h)) ≡ 2 * workers)
     → IsNext text entries workers h (Line number)
-next-line-event text entries workers h number free line settled calm =
+next-line-event text entries workers h number free line settled busy =
     record {
       opening = λ e. absurd (free.begun e);
       lines_in_order = λ n e. line ∙ ap Some (line-same number n e);
@@ -220,8 +223,8 @@ next-line-event text entries workers h number free line settled calm =
       };
       sends = λ j f c e. cc;
       once = λ j e. cc;
-      settled = λ n e q. settled;
-      busy = λ n e. inl calm;
+      settled = λ n e q. settled q;
+      busy = λ n e. busy;
       ending = record { is_done = λ e. cc; none_behind = free.goes_on };
     }
 

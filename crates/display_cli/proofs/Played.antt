@@ -1,5 +1,5 @@
 -- A run from its first version to its last.
-use Rattle.std.proofs.Common.{◌≡◌, ℕ, zero, suc, ◌+◌, ◌<◌, ◌≤◌, inl, inr, Bool, true, false, not, cond, List, [], ◌∷◌, ◌++◌, map, length, take, drop, get_or, Some, None, Result, Ok, Err, refl, sym, ap, ◌∙◌, subst, arith}
+use Rattle.std.proofs.Common.{◌≡◌, ℕ, zero, suc, ◌+◌, ◌<◌, ◌≤◌, Bool, true, false, not, cond, List, [], ◌∷◌, ◌++◌, map, length, take, drop, get_or, Some, None, Result, Ok, Err, refl, sym, ap, ◌∙◌, subst, arith, length-append}
 use Rattle.std.specs.Prelude.{◌||◌, ◌==◌, nat_lt}
 use Rattle.std.specs.Result.{IsErrAnd}
 use Rattle.std.specs.List.{enumerate_from, filter, position, position_or_len, prefix_len}
@@ -9,24 +9,24 @@ use Rattle.cell_units.specs.Text.{is_feed}
 use Rattle.cell_units.specs.Cutting.{cut_lines, onto_line}
 use Rattle.display_map.specs.Events.{Event}
 use Rattle.display_map.specs.Events.{Published}
-use Rattle.display_map.specs.Replay.{History, replayed, state_of, appended}
+use Rattle.display_map.specs.Events.{event_limit}
+use Rattle.display_map.specs.Replay.{History, state_of, present_of, versions_of, is_settled, appended}
+use Rattle.display_owner.specs.Beside.{outstanding}
 use Rattle.edit_script.specs.declared.asked.Form.{Form}
 use Rattle.edit_script.specs.Verdict.{is_blank}
 use Rattle.display_cli.specs.declared.stop.Stop.{Stop}
 use Rattle.display_cli.specs.declared.stop.Stop.TheVariants as stops
-use Rattle.display_cli.specs.Entries.{Entry, Bytes, script_lines, numbered_from}
+use Rattle.display_cli.specs.Entries.{Entry, Bytes, script_lines}
 use Rattle.display_cli.specs.Outside.{SinkState, Takes}
-use Rattle.display_cli.specs.Output.{any_refused}
-use Rattle.display_cli.specs.Legal.{AtEach, Opens, TakesNextLine, DoesChanges, PublishesLandings, Sends, LandsOnce, AnswersSettled, KeepsBusy, Ends, IsLegalSoFar, IsDone, lines_in}
-use Rattle.display_cli.specs.Ended.{Course, IsFinished}
+use Rattle.display_cli.specs.declared.tally.Tally.{Tally}
+use Rattle.display_cli.specs.Output.{answered, no_lines, tally_of}
+use Rattle.display_cli.specs.Legal.{AtEach, Opens, TakesNextLine, DoesChanges, PublishesLandings, Sends, LandsOnce, AnswersSettled, KeepsBusy, Ends, IsLegal, IsLegalSoFar, IsDone, lines_in}
+use Rattle.display_cli.specs.Ended.{Course}
 use Rattle.display_cli.specs.inside.Going as going
-use Rattle.display_cli.specs.inside.Going.{Stage, at, IsGoing, IsCut, IsReady, IsCalm, AreOver, IsPlayed, HasEnded}
+use Rattle.display_cli.specs.inside.Going.{Stage, at, AreHandled, IsGoing, IsCut, IsPlayed, HasEnded, HasRoomAhead, numbered_from}
 use Rattle.display_cli.proofs.Snoc.{quiet-append, last-snoc}
 use Rattle.display_cli.proofs.Next.{legal-snoc, free-snoc, next-opening, next-last}
-use Rattle.display_cli.proofs.Rounds.{all-settled, none-outstanding}
 use Rattle.display_cli.proofs.Fronts.{takes-none}
-use Rattle.display_cli.proofs.Ready.{over-jobless}
-use Rattle.display_cli.proofs.GoingOn.{output-unwatched}
 use Rattle.display_cli.proofs.Lines.{none-left}
 
 numbered-step : (form : Form) (number : ℕ) (line : List ℕ) (lines : List (List ℕ)) (b : Bool) → is_blank line ≡ b
@@ -43,21 +43,16 @@ numbered-step form number line lines b e =
     either true = refl
     either false = refl
 
-or-none : (a : Bool) → (a || false) ≡ a
-or-none true = refl
-or-none false = refl
-
-module _ (course : Course) (form : Form) (number : ℕ) (line : List ℕ) (lines : List (List ℕ)) (refused : Bool) (s : Stage)
-    (going : IsGoing course (numbered_from form number (line ∷ lines)) refused s) where
-  pub over-blank : is_blank line ≡ true → IsGoing course (numbered_from form (number + 1) lines) (refused || false) s
+module _ (course : Course) (form : Form) (number : ℕ) (line : List ℕ) (lines : List (List ℕ)) (tally : Tally) (s : Stage)
+    (going : IsGoing course (numbered_from form number (line ∷ lines)) tally s) where
+  pub over-blank : is_blank line ≡ true → IsGoing course (numbered_from form (number + 1) lines) tally s
   over-blank e =
-      let P : List (ℕ × Entry) → Type 0 = λ left. IsGoing course left refused s in
-      let Q : Bool → Type 0 = λ b. IsGoing course (numbered_from form (number + 1) lines) b s in
-      subst Q (sym (or-none refused)) (subst P (numbered-step form number line lines true e) going)
+      let P : List (ℕ × Entry) → Type 0 = λ left. IsGoing course left tally s in
+      subst P (numbered-step form number line lines true e) going
 
-  pub at-line : is_blank line ≡ false → IsGoing course ((number, Bytes form line) ∷ numbered_from form (number + 1) lines) refused s
+  pub at-line : is_blank line ≡ false → IsGoing course ((number, Bytes form line) ∷ numbered_from form (number + 1) lines) tally s
   at-line e =
-      let P : List (ℕ × Entry) → Type 0 = λ left. IsGoing course left refused s in
+      let P : List (ℕ × Entry) → Type 0 = λ left. IsGoing course left tally s in
       subst P (numbered-step form number line lines false e) going
 
 -- the lines of a script, cut at the first line feed
@@ -144,70 +139,69 @@ none-legal text entries workers =
     }
 
 module _ (h : History) (fresh : h.events ≡ []) where
-  pub going-fresh : (entries : List (ℕ × Entry)) (workers : ℕ) (sink : SinkState) → 1 ≤ workers
-      → IsGoing (record { text = h.opening; entries = entries; workers = workers; sink = sink }) entries false (at (appended h (Published false ∷ [])) sink)
-  going-fresh entries workers sink some_worker =
-      let P : List Event → Type 0 = λ events. IsGoing (record { text = h.opening; entries = entries; workers = workers; sink = sink }) entries false
+  pub going-fresh : (entries : List (ℕ × Entry)) (workers watchers : ℕ) (sink : SinkState)
+      → IsGoing (record { text = h.opening; entries = entries; workers = workers; watchers = watchers; sink = sink }) entries no_lines
+      (at (appended h (Published false ∷ [])) sink)
+  going-fresh entries workers watchers sink =
+      let P : List Event → Type 0 = λ events. IsGoing (record { text = h.opening; entries = entries; workers = workers; watchers = watchers; sink = sink }) entries no_lines
       (at (record { opening = h.opening; events = events ++ Published false ∷ [] }) sink) in
       subst P (sym fresh) (record {
-        some_worker = some_worker;
         opening = refl;
         legal = legal-snoc h.opening entries workers [] (Published false) (none-legal h.opening entries workers) (next-opening h.opening entries workers);
         free = free-snoc h.opening entries [] (Published false) refl refl refl refl;
         lines = refl;
         written = takes-none sink;
-        refusals = refl;
+        tallied = refl;
       })
 
-  pub ready-fresh : IsReady (appended h (Published false ∷ []))
-  unfolding replayed
-  ready-fresh =
-      let P : List Event → Type 0 = λ events. IsReady (record { opening = h.opening; events = events ++ Published false ∷ [] }) in
-      subst P (sym fresh) (record { over = over-jobless (record { opening = h.opening; events = [] }) (Published false ∷ []) refl (none-over h.opening); published = omega arith })
-    where
-      none-over : (text : List ℕ) → AreOver (state_of (record { opening = text; events = [] })).jobs
-      none-over text = refl
+  pub published-fresh : 1 ≤ versions_of (h.events ++ Published false ∷ [])
+  published-fresh = let P : List Event → Type 0 = λ events. 1 ≤ versions_of (events ++ Published false ∷ []) in subst P (sym fresh) (omega arith)
+
+  pub room-fresh : length (h.events ++ Published false ∷ []) < event_limit
+  room-fresh = let P : List Event → Type 0 = λ events. length (events ++ Published false ∷ []) < event_limit in subst P (sym fresh) (omega arith)
 
 -- the last version is published
-pub played : (course : Course) (refused : Bool) (s : Stage) → IsGoing course [] refused s → IsCalm s.history
-    → IsPlayed course refused (at (appended s.history (Published true ∷ [])) s.sink)
-played course refused s going calm status says =
+pub played : (course : Course) (tally : Tally) (s : Stage) → IsGoing course [] tally s → is_settled (present_of s.history) ≡ true
+    → outstanding (state_of s.history) ≡ 0 → HasRoomAhead s.history → IsPlayed None course tally (at (appended s.history (Published true ∷ [])) s.sink)
+played course tally s going settled landed room =
     let h : History = s.history in
     let is_done : IsDone h.opening course.entries h.events = record {
       lines = none-left course.entries (lines_in h.events) going.lines;
-      settled = all-settled (state_of h) calm.ready.over calm.none_waits;
-      landed = none-outstanding (state_of h) calm.ready.over;
+      settled = settled;
+      landed = landed;
     } in
     let quiet = quiet-append h.opening course.entries h.events (Published true ∷ []) refl in
+    let more = length-append h.events (Published true ∷ []) in
     let W : List ℕ → Type 0 = λ bytes. Takes bytes course.sink s.sink in
-    let P : List ℕ → Type 0 = λ text. IsFinished (record { text = text; entries = course.entries; workers = course.workers; sink = course.sink })
-    (h.events ++ Published true ∷ []) s.sink [] status in
-    let same : any_refused h.opening course.entries (h.events ++ Published true ∷ []) ≡ refused = quiet.refused ∙ going.refusals in
-    subst P going.opening (record {
-      legal = record {
+    let T : List ℕ → Type 0 = λ text. Takes (answered text course.entries (h.events ++ Published true ∷ [])) course.sink s.sink in
+    let L : List ℕ → Type 0 = λ text. IsLegal text course.entries course.workers (h.events ++ Published true ∷ []) in
+    record {
+      opening = going.opening;
+      legal = subst L going.opening (record {
         so_far = legal-snoc h.opening course.entries course.workers h.events (Published true) going.legal (next-last h.opening course.entries course.workers h.events going.free is_done);
         ends = last-snoc None h.events (Published true);
-      };
-      written = subst W (sym (output-unwatched h.opening course.entries (h.events ++ Published true ∷ []) ∙ quiet.answered)) going.written;
-      refusals = (λ e. same ∙ says.0 e, λ e. says.1 (sym same ∙ e));
-    })
+      });
+      written = subst T going.opening (subst W (sym quiet.answered) going.written);
+      tallied = ap (λ text. tally_of text course.entries (h.events ++ Published true ∷ [])) (sym going.opening) ∙ (quiet.tallied ∙ going.tallied);
+      room = omega arith;
+    }
 
 pub none-lines : (rest : List ℕ) → (length rest == 0) ≡ true → script_lines rest ≡ []
 none-lines [] e = refl
 none-lines (x ∷ rest) e = absurd (let no_length : suc (length rest) ≡ 0 = eqb-true (suc (length rest)) 0 e in omega arith)
 
-pub ended-err : (course : Course) (s : Stage) (r : Result Bool Stop) (stop : Stop) → IsErrAnd r (λ e. e ≡ stop) → IsCut course s stop → HasEnded course s r
+pub lines-err : (course : Course) (s : Stage) (r : Result Tally Stop) (stop : Stop) → IsErrAnd r (λ e. e ≡ stop) → IsCut None course s stop → AreHandled course s r
+lines-err course s (Ok tally) stop e it = absurd e
+lines-err course s (Err other) stop e it = let P : Stop → Type 0 = λ stop. IsCut None course s stop in subst P (sym e) it
+
+pub ended-err : (course : Course) (s : Stage) (r : Result Tally Stop) (stop : Stop) → IsErrAnd r (λ e. e ≡ stop) → IsCut None course s stop → HasEnded None course s r
 ended-err course s (Ok now) stop e it = absurd e
-ended-err course s (Err other) stop e it = let P : Stop → Type 0 = λ stop. HasEnded course s (Err stop) in subst P (sym e) (inl it)
+ended-err course s (Err other) stop e it = let P : Stop → Type 0 = λ stop. IsCut None course s stop in subst P (sym e) it
 
--- there was no memory to begin
-pub ended-unbegun : (course : Course) (s : Stage) (r : Result Bool Stop) → IsErrAnd r (λ e. e ≡ stops.Memory)
-    → s.history.events ≡ [] → s.sink ≡ course.sink → HasEnded course s r
-ended-unbegun course s (Ok now) e none same = absurd e
-ended-unbegun course s (Err other) e none same = inr (e, none, same)
-
-pub ends-err : (old new : History) (r : Result (Unit {0}) Stop) (stop : Stop) → IsErrAnd r (λ e. e ≡ stop)
-    → ((course : Course) (refused : Bool) (sink : SinkState) → IsGoing course [] refused (at old sink) → IsCut course (at new sink) stop) → going.Ends old new r
-ends-err old new (Ok done) stop e it = absurd e
-ends-err old new (Err other) stop e it =
-    λ course refused sink going. (let P : Stop → Type 0 = λ s. IsCut course (at new sink) s in subst P (sym e) (it course refused sink going))
+pub ends-err : (workers : ℕ) (old new : History) (r : Result (Unit {0}) Stop) (stop : Stop) → IsErrAnd r (λ e. e ≡ stop)
+    → ((course : Course) (tally : Tally) (sink : SinkState) → course.workers ≡ workers
+    → IsGoing course [] tally (at old sink) → IsCut None course (at new sink) stop) → going.Ends workers old new r
+ends-err workers old new (Ok done) stop e it = absurd e
+ends-err workers old new (Err other) stop e it =
+    λ course tally sink same going.
+    (let P : Stop → Type 0 = λ s. IsCut None course (at new sink) s in subst P (sym e) (it course tally sink same going))

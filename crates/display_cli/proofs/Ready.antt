@@ -1,39 +1,61 @@
--- A display stays ready over events that leave no job outstanding.
-use Rattle.std.proofs.Common.{◌≡◌, ◌+◌, ◌≤◌, Bool, true, false, cond, List, [], ◌∷◌, ◌++◌, refl, sym, ap, ◌∙◌, subst, arith}
-use Rattle.std.specs.List.{list_all, fold}
+-- What stays as it is while an owner goes on.
+use Rattle.std.proofs.Common.{◌≡◌, ℕ, ◌+◌, ◌≤◌, Bool, true, false, cond, List, [], ◌∷◌, ◌++◌, Option, Some, None, refl, sym, ap, ◌∙◌, subst, arith}
+use Rattle.std.specs.Prelude.{◌==◌, if◌then◌else◌}
 use Rattle.std.proofs.lemmas.List.Sums.{sum_by-append}
+use Rattle.cell_units.specs.Record.{Record}
 use Rattle.display_map.specs.Events.{Event}
-use Rattle.display_map.specs.Events.{Line, Did, Sent, Landed, Published}
-use Rattle.display_map.specs.Replay.{History, State, SentJob, happens, replayed, state_of, versions_of, is_published, appended}
-use Rattle.display_cli.specs.inside.Going.{IsReady, AreOver}
-use Rattle.display_cli.proofs.Rounds.{state-append}
+use Rattle.display_map.specs.Events.{Sent, Landed, Published}
+use Rattle.display_map.specs.Replay.{History, State, SentJob, happens, replayed, state_of, present_of, landed_on, job_numbered, versions_of, is_published, appended}
+use Rattle.display_owner.specs.declared.owner.Owner.{Owner}
+use Rattle.display_owner.specs.Beside.{Step, Sends, Lands, events_of, behind, behind_all, HasGone}
+use Rattle.display_owner.specs.Owned.{IsOwned}
+use Rattle.display_cli.specs.inside.Going.{IsReady}
+use Rattle.display_cli.proofs.Sends.{state-append}
 
--- events that send and land nothing keep the jobs
-abbrev pub is_jobless : Event → Bool
-is_jobless (Sent job first count) = false
-is_jobless (Landed job) = false
-is_jobless _ = true
+-- a version stays published
+pub published-more : (old new : History) (more : List Event) → new ≡ appended old more → 1 ≤ versions_of old.events → 1 ≤ versions_of new.events
+published-more old new more e some =
+    let all : versions_of (old.events ++ more) ≡ versions_of old.events + versions_of more =
+    sum_by-append (λ e. cond (is_published e) 1 0) old.events more in
+    let P : History → Type 0 = λ h. 1 ≤ versions_of h.events in
+    subst P (sym e) (omega arith)
 
-jobs-kept : (s : State) (more : List Event) → list_all is_jobless more ≡ true → (fold happens s more).jobs ≡ s.jobs
-jobs-kept s [] e = refl
-jobs-kept s (Line number ∷ more) e = jobs-kept s more e
-jobs-kept s (Did op ∷ more) e = jobs-kept (happens s (Did op)) more e
-jobs-kept s (Sent job first count ∷ more) e = cc
-jobs-kept s (Landed job ∷ more) e = cc
-jobs-kept s (Published last ∷ more) e = jobs-kept s more e
+pub ready-more : (old new : Owner) (more : List Event) → new.display ≡ appended old.display more → IsReady old → IsOwned new → IsReady new
+ready-more old new more e ready owned = record { owned = owned; published = published-more old.display new.display more e ready.published }
 
-pub over-jobless : (h : History) (more : List Event) → list_all is_jobless more ≡ true
-    → AreOver (state_of h).jobs → AreOver (state_of (appended h more)).jobs
+pub ready-same : (old new : Owner) → new.display ≡ old.display → IsReady old → IsOwned new → IsReady new
+ready-same old new e ready owned =
+    let P : History → Type 0 = λ h. 1 ≤ versions_of h.events in
+    record { owned = owned; published = subst P (sym e) ready.published }
+
+published-steps : (h : History) (steps : List Step) → 1 ≤ versions_of h.events → 1 ≤ versions_of (behind_all h steps).events
+published-steps h [] some = some
+published-steps h (step ∷ steps) some = published-steps (behind h step) steps (published-more h (behind h step) (events_of step) refl some)
+
+pub ready-gone : (workers : ℕ) (old new : Owner) → HasGone workers old.display new.display → IsReady old → IsOwned new → IsReady new
+ready-gone workers old new gone ready owned =
+    let P : History → Type 0 = λ h. 1 ≤ versions_of h.events in
+    record { owned = owned; published = subst P (sym gone.display) (published-steps old.display gone.steps ready.published) }
+
+landed-if : (b : Bool) (r s : Record) → s.text ≡ r.text → (if b then s else r).text ≡ r.text
+landed-if true r s e = e
+landed-if false r s e = refl
+
+landed-text : (r : Record) (o : Option SentJob) → (landed_on r o).text ≡ r.text
+landed-text r None = refl
+landed-text r (Some job) = landed-if (job.width == r.width) r _ refl
+
+-- runs that are sent and jobs that land keep the text
+text-step : (h : History) (step : Step) → (present_of (behind h step)).text ≡ (present_of h).text
 unfolding replayed
-over-jobless h more e over =
-    let P : List SentJob → Type 0 = λ jobs. AreOver jobs in
-    subst P (sym (ap (λ s. s.jobs) (state-append h more) ∙ jobs-kept (state_of h) more e)) over
+text-step h (Sends job first count) = ap (λ (s : State). s.present.text) (state-append h (Sent job first count ∷ []))
+text-step h (Lands job) =
+    ap (λ (s : State). s.present.text) (state-append h (Landed job ∷ (Published false ∷ [])))
+    ∙ landed-text (state_of h).present (job_numbered job (state_of h).jobs)
 
-versions-more : (xs ys : List Event) → 1 ≤ versions_of xs → 1 ≤ versions_of (xs ++ ys)
-versions-more xs ys some = let all : versions_of (xs ++ ys) ≡ versions_of xs + versions_of ys = sum_by-append (λ e. cond (is_published e) 1 0) xs ys in omega arith
+text-steps : (h : History) (steps : List Step) → (present_of (behind_all h steps)).text ≡ (present_of h).text
+text-steps h [] = refl
+text-steps h (step ∷ steps) = text-steps (behind h step) steps ∙ text-step h step
 
-pub ready-more : (h : History) (more : List Event) → AreOver (state_of (appended h more)).jobs → IsReady h → IsReady (appended h more)
-ready-more h more over ready = record { over = over; published = versions-more h.events more ready.published }
-
-pub ready-jobless : (h : History) (more : List Event) → list_all is_jobless more ≡ true → IsReady h → IsReady (appended h more)
-ready-jobless h more e ready = ready-more h more (over-jobless h more e ready.over) ready
+pub text-gone : (workers : ℕ) (old new : History) → HasGone workers old new → (present_of new).text ≡ (present_of old).text
+text-gone workers old new gone = ap (λ (h : History). (present_of h).text) gone.display ∙ text-steps old gone.steps

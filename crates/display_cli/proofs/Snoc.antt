@@ -1,5 +1,5 @@
 -- Histories with one more event.
-use Rattle.std.proofs.Common.{◌≡◌, ℕ, zero, suc, ◌+◌, Bool, true, false, cond, List, [], ◌∷◌, ◌++◌, Option, Some, refl, sym, ap, ◌∙◌, subst, append_assoc, add-zero}
+use Rattle.std.proofs.Common.{◌≡◌, ℕ, zero, suc, ◌+◌, Bool, true, false, cond, List, [], ◌∷◌, ◌++◌, Option, Some, refl, sym, ap, ◌∙◌, subst, append_assoc, add-zero, zero-add, add_assoc, length, length-append}
 use Rattle.std.specs.Prelude.{◌||◌}
 use Rattle.std.specs.List.{last_or, list_any}
 use Rattle.std.proofs.lemmas.List.{append-nil}
@@ -9,7 +9,8 @@ use Rattle.display_map.specs.Events.{Event}
 use Rattle.display_map.specs.Events.{Line, Did, Sent, Landed, Published}
 use Rattle.display_cli.specs.Entries.{Entry}
 use Rattle.display_cli.specs.Legal.{AtEach, lines_in, is_line}
-use Rattle.display_cli.specs.Output.{printed, answer_at, answers_from, answered, is_refused_at, any_refused_from, any_refused}
+use Rattle.display_cli.specs.declared.tally.Tally.{Tally}
+use Rattle.display_cli.specs.Output.{printed, answer_at, answers_from, answered, refusals, refusals_at, refusals_from, tally_of}
 
 pub AtEach-snoc :
     (P : List Event → Event → Type 0) (h : List Event) (e : Event) → AtEach P h → P h e → AtEach P (h ++ e ∷ [])
@@ -44,25 +45,45 @@ or-none : (a : Bool) → (a || false) ≡ a
 or-none true = refl
 or-none false = refl
 
-pub refused-snoc :
+pub refusals-snoc :
     (text : List ℕ) (entries : List (ℕ × Entry)) (past events : List Event) (e : Event)
-    → any_refused_from text entries past (events ++ e ∷ [])
-    ≡ (any_refused_from text entries past events || is_refused_at text entries (past ++ events) e)
-refused-snoc text entries past [] e =
-    or-none (is_refused_at text entries past e) ∙ ap (λ p. is_refused_at text entries p e) (sym (append-nil past))
-refused-snoc text entries past (x ∷ events) e =
-    ap (λ b. is_refused_at text entries past x || b) (refused-snoc text entries (past ++ x ∷ []) events e)
-    ∙ (or-assoc (is_refused_at text entries past x) (any_refused_from text entries (past ++ x ∷ []) events) (is_refused_at text entries ((past ++ x ∷ []) ++ events) e)
-    ∙ ap (λ p. (is_refused_at text entries past x || any_refused_from text entries (past ++ x ∷ []) events) || is_refused_at text entries p e)
+    → refusals_from text entries past (events ++ e ∷ [])
+    ≡ refusals_from text entries past events + refusals_at text entries (past ++ events) e
+refusals-snoc text entries past [] e =
+    add-zero (refusals_at text entries past e)
+    ∙ (sym (zero-add (refusals_at text entries past e)) ∙ ap (λ p. 0 + refusals_at text entries p e) (sym (append-nil past)))
+refusals-snoc text entries past (x ∷ events) e =
+    ap (λ n. refusals_at text entries past x + n) (refusals-snoc text entries (past ++ x ∷ []) events e)
+    ∙ (sym (add_assoc (refusals_at text entries past x) (refusals_from text entries (past ++ x ∷ []) events) (refusals_at text entries ((past ++ x ∷ []) ++ events) e))
+    ∙ ap (λ p. (refusals_at text entries past x + refusals_from text entries (past ++ x ∷ []) events) + refusals_at text entries p e)
     (append_assoc past (x ∷ []) events))
-
-pub any_refused-snoc :
-    (text : List ℕ) (entries : List (ℕ × Entry)) (h : List Event) (e : Event)
-    → any_refused text entries (h ++ e ∷ []) ≡ (any_refused text entries h || is_refused_at text entries h e)
-any_refused-snoc text entries h e = refused-snoc text entries [] h e
 
 pub lines-append : (xs ys : List Event) → lines_in (xs ++ ys) ≡ lines_in xs + lines_in ys
 lines-append xs ys = sum_by-append (λ e. cond (is_line e) 1 0) xs ys
+
+abbrev tally : (handled refused answers : ℕ) → Tally
+tally handled refused answers = record { handled = handled; refused = refused; answers = answers }
+
+tally-same : (a b c d e f : ℕ) → a ≡ b → c ≡ d → e ≡ f → tally a c e ≡ tally b d f
+tally-same a b c d e f p q r = ap (λ n. tally n c e) p ∙ (ap (λ n. tally b n e) q ∙ ap (λ n. tally b d n) r)
+
+-- what is counted of one more event
+pub tally-snoc : (text : List ℕ) (entries : List (ℕ × Entry)) (h : List Event) (e : Event) (handled refused answers : ℕ)
+    → lines_in h + lines_in (e ∷ []) ≡ handled → refusals text entries h + refusals_at text entries h e ≡ refused
+    → length (answers_from text entries [] h) + length (answer_at text entries h e) ≡ answers
+    → tally_of text entries (h ++ e ∷ []) ≡ record { handled = handled; refused = refused; answers = answers }
+tally-snoc text entries h e handled refused answers p q r =
+    tally-same (lines_in (h ++ e ∷ [])) handled (refusals text entries (h ++ e ∷ [])) refused (length (answers_from text entries [] (h ++ e ∷ []))) answers
+    (lines-append h (e ∷ []) ∙ p) (refusals-snoc text entries [] h e ∙ q)
+    (ap length (answers-snoc text entries [] h e) ∙ (length-append (answers_from text entries [] h) (answer_at text entries h e) ∙ r))
+
+-- ... that is no line
+tally-still : (text : List ℕ) (entries : List (ℕ × Entry)) (h : List Event) (e : Event) → lines_in (e ∷ []) ≡ 0 → refusals_at text entries h e ≡ 0
+    → answer_at text entries h e ≡ [] → tally_of text entries (h ++ e ∷ []) ≡ tally_of text entries h
+tally-still text entries h e p q r =
+    tally-snoc text entries h e (lines_in h) (refusals text entries h) (length (answers_from text entries [] h))
+    (ap (λ n. lines_in h + n) p ∙ add-zero (lines_in h)) (ap (λ n. refusals text entries h + n) q ∙ add-zero (refusals text entries h))
+    (ap (λ l. length (answers_from text entries [] h) + length l) r ∙ add-zero (length (answers_from text entries [] h)))
 
 pub last-snoc : {X : Type 0} (o : Option X) (xs : List X) (x : X) → last_or o (xs ++ x ∷ []) ≡ Some x
 last-snoc o [] x = refl
@@ -75,7 +96,7 @@ any-snoc p (y ∷ ys) x = ap (λ b. p y || b) (any-snoc p ys x) ∙ or-assoc (p 
 -- events without a line among them
 pub record IsQuiet (text : List ℕ) (entries : List (ℕ × Entry)) (h more : List Event) : Type 0 where
   pub answered : answered text entries (h ++ more) ≡ answered text entries h
-  pub refused : any_refused text entries (h ++ more) ≡ any_refused text entries h
+  pub tallied : tally_of text entries (h ++ more) ≡ tally_of text entries h
   pub lines : lines_in (h ++ more) ≡ lines_in h
 
 quiet-one : (text : List ℕ) (entries : List (ℕ × Entry)) (h : List Event) (e : Event) → is_line e ≡ false → IsQuiet text entries h (e ∷ [])
@@ -83,25 +104,25 @@ quiet-one text entries h (Line number) e = cc
 quiet-one text entries h (Did op) e =
     record {
       answered = answered-snoc text entries h (Did op) ∙ append-nil (answered text entries h);
-      refused = any_refused-snoc text entries h (Did op) ∙ or-none (any_refused text entries h);
+      tallied = tally-still text entries h (Did op) refl refl refl;
       lines = lines-append h (Did op ∷ []) ∙ add-zero (lines_in h);
     }
 quiet-one text entries h (Sent job first count) e =
     record {
       answered = answered-snoc text entries h (Sent job first count) ∙ append-nil (answered text entries h);
-      refused = any_refused-snoc text entries h (Sent job first count) ∙ or-none (any_refused text entries h);
+      tallied = tally-still text entries h (Sent job first count) refl refl refl;
       lines = lines-append h (Sent job first count ∷ []) ∙ add-zero (lines_in h);
     }
 quiet-one text entries h (Landed job) e =
     record {
       answered = answered-snoc text entries h (Landed job) ∙ append-nil (answered text entries h);
-      refused = any_refused-snoc text entries h (Landed job) ∙ or-none (any_refused text entries h);
+      tallied = tally-still text entries h (Landed job) refl refl refl;
       lines = lines-append h (Landed job ∷ []) ∙ add-zero (lines_in h);
     }
 quiet-one text entries h (Published last) e =
     record {
       answered = answered-snoc text entries h (Published last) ∙ append-nil (answered text entries h);
-      refused = any_refused-snoc text entries h (Published last) ∙ or-none (any_refused text entries h);
+      tallied = tally-still text entries h (Published last) refl refl refl;
       lines = lines-append h (Published last ∷ []) ∙ add-zero (lines_in h);
     }
 
@@ -118,7 +139,7 @@ pub quiet-append :
 quiet-append text entries h [] e =
     record {
       answered = ap (answered text entries) (append-nil h);
-      refused = ap (any_refused text entries) (append-nil h);
+      tallied = ap (tally_of text entries) (append-nil h);
       lines = ap lines_in (append-nil h);
     }
 quiet-append text entries h (x ∷ more) e =
@@ -127,6 +148,6 @@ quiet-append text entries h (x ∷ more) e =
     let same : (h ++ x ∷ []) ++ more ≡ h ++ (x ∷ more) = append_assoc h (x ∷ []) more in
     record {
       answered = ap (answered text entries) (sym same) ∙ (rest.answered ∙ one.answered);
-      refused = ap (any_refused text entries) (sym same) ∙ (rest.refused ∙ one.refused);
+      tallied = ap (tally_of text entries) (sym same) ∙ (rest.tallied ∙ one.tallied);
       lines = ap lines_in (sym same) ∙ (rest.lines ∙ one.lines);
     }

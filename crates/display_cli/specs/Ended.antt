@@ -1,5 +1,5 @@
 -- How a run ends, and what each end means.
-use Rattle.std.specs.Prelude.{ℕ, ◌≡◌, ◌≢◌, ◌+◌, ◌<◌, ◌≤◌, ◌⊎◌, ◌↔◌, ◌++◌, true, List, [], ◌∷◌, length, map, Option, Some, None, IfSome}
+use Rattle.std.specs.Prelude.{ℕ, ◌≡◌, ◌≢◌, ◌+◌, ◌<◌, ◌≤◌, ◌⊎◌, ◌↔◌, ◌++◌, true, All, List, [], ◌∷◌, length, map, Option, Some, None, IfSome}
 use Rattle.std.specs.Str.{IsUtf8}
 use Rattle.std.specs.Str.Lossy.{utf8_valid_len}
 use Rattle.cell_units.specs.Text.{clean}
@@ -9,22 +9,21 @@ use Rattle.cell_units.specs.declared.limits.TheConstants.{TEXT_LIMIT}
 use Rattle.cell_units.specs.Refusal.{IsAccepted}
 use Rattle.display_map.specs.Events.{event_limit}
 use Rattle.display_map.specs.Replay.{present_of}
-use Rattle.display_cli.specs.declared.words.Plan.{Plan}
+use Rattle.board_watch.specs.declared.seen.Seen.{Seen}
+use Rattle.board_watch.specs.Watching.{AreRising, IsWatched}
+use Rattle.command_words.specs.declared.plan.Plan.{Plan}
+use Rattle.made_input.specs.Made.{TextAndScript, made_of}
 use Rattle.display_cli.specs.declared.ended.Ended.{Ended}
-use Rattle.display_cli.specs.declared.ended.Seen.{Seen}
 use Rattle.display_cli.specs.declared.ended.Note.{Note}
 use Rattle.display_cli.specs.declared.ended.Note.TheVariants.{Fine, Usage, ReadText, ReadScript, Write, TextNotUtf8, TextTooLong, ScriptTooLong, JournalFull, Memory}
+use Rattle.display_cli.specs.declared.limits.TheConstants.{SCRIPT_LIMIT}
 use Rattle.display_cli.specs.declared.outside.Part.{Part}
 use Rattle.display_cli.specs.declared.outside.Part.TheVariants.{Text, Script}
 use Rattle.display_cli.specs.Outside.{Read, InputState, SinkState, HasRisen, AreTold, Takes, TakesFront}
 use Rattle.display_cli.specs.Entries.{Entry, asked_by, numbered_lines}
 use Rattle.display_cli.specs.Legal.{IsLegal, IsLegalSoFar, next_entry, history_of}
-use Rattle.display_cli.specs.Output.{output, any_refused}
+use Rattle.display_cli.specs.Output.{output, refusals}
 use Rattle.display_cli.specs.Notes.{note_line}
-
--- how many bytes a script may have
-abbrev pub script_limit : ℕ
-script_limit = 16777216
 
 -- the status of each note
 abbrev pub HasStatus : Note → ℕ → Type 0
@@ -65,24 +64,38 @@ run_of inputs inputs_after sink sink_after ended = record {
 
 -- ---- finished, stopped and refused
 
--- what a run is given: the opening text, the entries that it handles, how many workers it has, and its sink
+-- what a run is given: the opening text, the entries that it handles, how many workers and watchers it has, and its sink
 pub record Course : Type 0 where
   pub text : List ℕ
   pub entries : List (ℕ × Entry)
   pub workers : ℕ
+  pub watchers : ℕ
   pub sink : SinkState
 
--- a finished run: its history is legal, it wrote all its output, and its status says whether an entry was refused
-pub record IsFinished (course : Course) (history : List Event) (sink : SinkState) (watched : List (List Seen)) (status : ℕ) : Type 0 where
+-- what the watchers of a finished run saw: each saw versions of its history in order, and last the last one
+pub record HaveWatched (course : Course) (history : List Event) (watched : List (List Seen)) : Type 0 where
+  pub all : length watched ≡ course.watchers
+  pub each : All (IsWatched (history_of course.text history)) watched
+
+-- ... and of a stopped run: as many as found memory, and the numbers of the versions that each saw rise
+pub record HaveWatchedSome (course : Course) (watched : List (List Seen)) : Type 0 where
+  pub few : length watched ≤ course.watchers
+  pub each : All (AreRising 0) watched
+
+-- a finished run: its history is legal, it wrote all its output, its status says whether an entry was refused, and its
+-- watchers saw its last version
+pub record IsFinished (make : Option ℕ) (course : Course) (history : List Event) (sink : SinkState) (watched : List (List Seen)) (status : ℕ) : Type 0 where
   pub legal : IsLegal course.text course.entries course.workers history
-  pub written : Takes (output course.text course.entries history watched) course.sink sink
-  pub refusals : (status ≡ 1) ↔ (any_refused course.text course.entries history ≡ true)
+  pub written : Takes (output make course.text course.entries history watched) course.sink sink
+  pub refusals : (status ≡ 1) ↔ (1 ≤ refusals course.text course.entries history)
+  pub watchers : HaveWatched course history watched
 
 -- a stopped run: its history has begun and is legal so far, and it wrote a front of its output
-pub record IsStopped (course : Course) (history : List Event) (sink : SinkState) (watched : List (List Seen)) : Type 0 where
+pub record IsStopped (make : Option ℕ) (course : Course) (history : List Event) (sink : SinkState) (watched : List (List Seen)) : Type 0 where
   pub begun : history ≢ []
   pub legal : IsLegalSoFar course.text course.entries course.workers history
-  pub written : TakesFront (output course.text course.entries history watched) course.sink sink
+  pub written : TakesFront (output make course.text course.entries history watched) course.sink sink
+  pub watchers : HaveWatchedSome course watched
 
 -- a refused run: it wrote nothing, began no history, and no watcher saw a version
 pub record IsRefused (run : Run) : Type 0 where
@@ -90,29 +103,48 @@ pub record IsRefused (run : Run) : Type 0 where
   pub watched : run.watched ≡ []
   pub sink : run.sink_after ≡ run.sink
 
+-- the bytes that are told of a name, or with a make those that are made
+abbrev pub given : Option ℕ → Option (List ℕ) → (TextAndScript → List ℕ) → Option (List ℕ)
+given None told part = told
+given (Some number) told part = Some (part (made_of number))
+
+-- the bytes of a plan's text, where they are told
+abbrev pub text_of : Plan → InputState → Option (List ℕ)
+text_of plan inputs = given plan.make (inputs.told plan.text) (λ made. made.text)
+
+-- ... and of its script
+abbrev pub script_of : Plan → InputState → Option (List ℕ)
+script_of plan inputs = given plan.make (inputs.told plan.script) (λ made. made.script)
+
 -- a text and a script that were read whole and accepted
 pub record HasRead (plan : Plan) (run : Run) : Type 0 where
   pub bytes : List ℕ
   pub script : List ℕ
-  pub text_told : AreTold (run.inputs.told plan.text) bytes
-  pub script_told : AreTold (run.inputs.told plan.script) script
+  pub text_told : AreTold (text_of plan run.inputs) bytes
+  pub script_told : AreTold (script_of plan run.inputs) script
   pub text_accepted : IsAccepted bytes
-  pub script_fits : length script ≤ script_limit
+  pub script_fits : length script ≤ SCRIPT_LIMIT
 
 -- the course of a run that has read them
 abbrev pub course_of : Plan → (bytes script : List ℕ) → SinkState → Course
 course_of plan bytes script sink =
-    record { text = clean bytes; entries = numbered_lines script; workers = plan.workers; sink = sink }
+    record {
+      text = clean bytes;
+      entries = numbered_lines script;
+      workers = plan.workers;
+      watchers = plan.watchers;
+      sink = sink;
+    }
 
 -- a run that has read its text and its script, and then finished
 pub record HasFinished (plan : Plan) (run : Run) : Type 0 where
   pub read : HasRead plan run
-  pub finished : IsFinished (course_of plan read.bytes read.script run.sink) run.history run.sink_after run.watched run.status
+  pub finished : IsFinished plan.make (course_of plan read.bytes read.script run.sink) run.history run.sink_after run.watched run.status
 
 -- ... and then stopped, for a cause that a course and a history give
 pub record HasStopped (plan : Plan) (run : Run) (cause : Course → List Event → Type 0) : Type 0 where
   pub read : HasRead plan run
-  pub stopped : IsStopped (course_of plan read.bytes read.script run.sink) run.history run.sink_after run.watched
+  pub stopped : IsStopped plan.make (course_of plan read.bytes read.script run.sink) run.history run.sink_after run.watched
   pub caused : cause (course_of plan read.bytes read.script run.sink) run.history
 
 -- ---- what makes a run end with each note
@@ -137,7 +169,7 @@ IsWriteFailed run course events = HasRisen run.sink.faults run.sink_after.faults
 
 -- the text was read whole and accepted
 abbrev pub HasText : Plan → Run → Type 0
-HasText plan run = (bytes : List ℕ) × AreTold (run.inputs.told plan.text) bytes × IsAccepted bytes
+HasText plan run = (bytes : List ℕ) × AreTold (text_of plan run.inputs) bytes × IsAccepted bytes
 
 -- bytes that are not UTF-8, with the length of their longest prefix that is
 abbrev pub IsNotUtf8At : ℕ → List ℕ → Type 0
@@ -149,20 +181,21 @@ pub record IsShort (plan : Plan) (run : Run) : Type 0 where
   pub reads_passed : run.inputs_after.faults ≡ run.inputs.faults
   pub writes_passed : run.sink_after.faults ≡ run.sink.faults
 
--- what a run of a plan is, by the note that it ends with
+-- what a run of a plan is, by the note that it ends with. No read fails where text and script are made
 abbrev pub IsEndedAs : Plan → Run → Note → Type 0
 IsEndedAs plan run Fine = HasFinished plan run
 IsEndedAs plan run Write = HasStopped plan run (IsWriteFailed run)
 IsEndedAs plan run JournalFull = HasStopped plan run IsFull
 IsEndedAs plan run Memory = IsShort plan run
-IsEndedAs plan run ReadText = IsRefused run × HasRisen run.inputs.faults.text run.inputs_after.faults.text
+IsEndedAs plan run ReadText =
+    IsRefused run × HasRisen run.inputs.faults.text run.inputs_after.faults.text × (plan.make ≡ None)
 IsEndedAs plan run ReadScript =
-    IsRefused run × HasRisen run.inputs.faults.script run.inputs_after.faults.script × HasText plan run
-IsEndedAs plan run (TextNotUtf8 at) = IsRefused run × IfSome (run.inputs.told plan.text) (IsNotUtf8At at)
+    IsRefused run × HasRisen run.inputs.faults.script run.inputs_after.faults.script × HasText plan run × (plan.make ≡ None)
+IsEndedAs plan run (TextNotUtf8 at) = IsRefused run × IfSome (text_of plan run.inputs) (IsNotUtf8At at)
 IsEndedAs plan run TextTooLong =
-    IsRefused run × IfSome (run.inputs.told plan.text) (λ bytes. TEXT_LIMIT < length bytes)
+    IsRefused run × IfSome (text_of plan run.inputs) (λ bytes. TEXT_LIMIT < length bytes)
 IsEndedAs plan run ScriptTooLong =
-    IsRefused run × IfSome (run.inputs.told plan.script) (λ script. script_limit < length script) × HasText plan run
+    IsRefused run × IfSome (script_of plan run.inputs) (λ script. SCRIPT_LIMIT < length script) × HasText plan run
 IsEndedAs plan run Usage = ⊥
 
 -- ---- which reads are made
@@ -173,13 +206,14 @@ AreReadsOf part name at [] = Unit {0}
 AreReadsOf part name at (read ∷ reads) =
     (read.part ≡ part) × (read.name ≡ name) × (read.at ≡ at) × AreReadsOf part name (at + read.count) reads
 
--- the reads of a run are those of its text, and then those of its script
+-- the reads of a run are those of its text, and then those of its script; with a make there are none
 pub record ReadsInOrder (plan : Plan) (old new : List Read) : Type 0 where
   pub text : List Read
   pub script : List Read
   pub made : new ≡ old ++ (text ++ script)
   pub of_text : AreReadsOf Text plan.text 0 text
   pub of_script : AreReadsOf Script plan.script 0 script
+  pub none : plan.make ≢ None → new ≡ old
 
 -- ---- which notes are owed
 
@@ -193,20 +227,20 @@ IsScriptUnfailed run = HasRisen run.inputs.faults.script run.inputs_after.faults
 
 -- the answers that are owed where the text is told and no read of it failed: want of memory alone may come in their place
 pub record IsOwed (plan : Plan) (run : Run) : Type 0 where
-  pub too_long : (bytes : List ℕ) → run.inputs.told plan.text ≡ Some bytes → IsTextUnfailed run
+  pub too_long : (bytes : List ℕ) → text_of plan run.inputs ≡ Some bytes → IsTextUnfailed run
       → TEXT_LIMIT < length bytes → (run.note ≡ TextTooLong) ⊎ (run.note ≡ Memory)
-  pub not_utf8 : (bytes : List ℕ) → run.inputs.told plan.text ≡ Some bytes → IsTextUnfailed run
+  pub not_utf8 : (bytes : List ℕ) → text_of plan run.inputs ≡ Some bytes → IsTextUnfailed run
       → length bytes ≤ TEXT_LIMIT → (IsUtf8 bytes → ⊥)
       → (run.note ≡ TextNotUtf8 (utf8_valid_len bytes)) ⊎ (run.note ≡ Memory)
-  pub script_too_long : (bytes script : List ℕ) → run.inputs.told plan.text ≡ Some bytes
-      → run.inputs.told plan.script ≡ Some script → IsTextUnfailed run → IsScriptUnfailed run
-      → IsAccepted bytes → script_limit < length script → (run.note ≡ ScriptTooLong) ⊎ (run.note ≡ Memory)
+  pub script_too_long : (bytes script : List ℕ) → text_of plan run.inputs ≡ Some bytes
+      → script_of plan run.inputs ≡ Some script → IsTextUnfailed run → IsScriptUnfailed run
+      → IsAccepted bytes → SCRIPT_LIMIT < length script → (run.note ≡ ScriptTooLong) ⊎ (run.note ≡ Memory)
 
 -- where both are told and within their limits and no count rose, the run finishes, unless memory or the journal's room ends
 abbrev pub IsComplete : Plan → Run → Type 0
 IsComplete plan run =
-    (bytes script : List ℕ) → run.inputs.told plan.text ≡ Some bytes → run.inputs.told plan.script ≡ Some script
-    → IsAccepted bytes → length script ≤ script_limit
+    (bytes script : List ℕ) → text_of plan run.inputs ≡ Some bytes → script_of plan run.inputs ≡ Some script
+    → IsAccepted bytes → length script ≤ SCRIPT_LIMIT
     → IsTextUnfailed run → IsScriptUnfailed run → (HasRisen run.sink.faults run.sink_after.faults → ⊥)
     → (run.note ≡ Fine) ⊎ ((run.note ≡ Memory) ⊎ (run.note ≡ JournalFull))
 
@@ -217,11 +251,13 @@ pub record IsRun (run : Run) (plan : Plan) : Type 0 where
   pub owed : IsOwed plan run
   pub complete : IsComplete plan run
 
--- a run of words, of which a plan is the reading, if they have one
+-- a run of words, of which a plan is the reading, if they have one. Words without a reading are refused, and want of memory
+-- alone may come in place of that answer
 pub record IsRunOfWords (plan : Option Plan) (run : Run) : Type 0 where
   pub status : HasStatus run.note run.status
-  pub usage : (plan ≡ None) ↔ (run.note ≡ Usage)
-  pub nothing : run.note ≡ Usage → IsRefused run
+  pub usage : run.note ≡ Usage → plan ≡ None
+  pub unread : plan ≡ None → (run.note ≡ Usage) ⊎ (run.note ≡ Memory)
+  pub nothing : plan ≡ None → IsRefused run
   pub planned : IfSome plan (IsRun run)
 
 -- what is said of a note: the sink took a front of its line, and all of it unless a write failed

@@ -1,14 +1,13 @@
 -- What a run is given to handle, one after the other.
 use Rattle.std.specs.Prelude.{ℕ, not, nat_lt, if◌then◌else◌, List, length, map, filter, Option, Some, None}
-use Rattle.std.specs.List.{enumerate_from}
 use Rattle.cell_units.specs.Text.{is_feed}
 use Rattle.cell_units.specs.Record.{Record}
 use Rattle.cell_units.specs.Cutting.{cut_lines}
 use Rattle.edit_script.specs.declared.asked.Form.{Form}
-use Rattle.edit_script.specs.declared.asked.Form.TheVariants.{First}
 use Rattle.display_sheet.specs.Changes.{entries_in}
 use Rattle.edit_script.specs.Commands.{Command, Apply, Ask, Settle, command_of}
-use Rattle.edit_script.specs.Verdict.{Verdict, is_blank, line_limit, verdict}
+use Rattle.edit_script.specs.Script.{form_of, asking_from}
+use Rattle.edit_script.specs.Verdict.{Verdict, line_limit, verdict}
 
 -- an entry: the bytes of a line, and the form in which they are read
 pub data Entry : Type 0 where
@@ -22,14 +21,10 @@ judged r (Bytes form line) = verdict form r line
 abbrev pub script_lines : List ℕ → List (List ℕ)
 script_lines script = map (filter (λ b. not (is_feed b))) (cut_lines is_feed script)
 
--- the lines that aren't skipped as entries, each with its number. The first line has the given one
-abbrev pub numbered_from : Form → ℕ → List (List ℕ) → List (ℕ × Entry)
-numbered_from form number lines =
-    map (λ l. (l.0, Bytes form l.1)) (filter (λ l. not (is_blank l.1)) (enumerate_from number lines))
-
--- the entries of a script: its lines, counted from 1
-abbrev pub numbered_lines : List ℕ → List (ℕ × Entry)
-numbered_lines script = numbered_from First 1 (script_lines script)
+-- the entries of a script: its lines that are neither blank nor its header, counted from 1 with those, in the form that the header
+-- gives
+unfoldable pub numbered_lines : List ℕ → List (ℕ × Entry)
+numbered_lines script = map (λ l. (l.0, Bytes (form_of (script_lines script)) l.1)) (asking_from 1 (script_lines script))
 
 -- how many operations a command asks for: an entry of an edit counts as one
 abbrev pub asked_by_command : Option Command → ℕ

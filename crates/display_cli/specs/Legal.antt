@@ -1,5 +1,5 @@
 -- When a history is one of a run: entries on an opening text, by a number of workers.
-use Rattle.std.specs.Prelude.{ℕ, ◌≡◌, ◌+◌, ◌*◌, ◌<◌, ◌≤◌, ◌⊎◌, not, Bool, true, false, List, [], ◌∷◌, ◌++◌, length, map, take, drop, count_by, slice_get, Option, Some, None}
+use Rattle.std.specs.Prelude.{ℕ, ◌≡◌, ◌+◌, ◌*◌, ◌<◌, ◌≤◌, ◌⊎◌, Bool, true, false, List, [], ◌∷◌, ◌++◌, length, map, take, drop, count_by, slice_get, Option, Some, None}
 use Rattle.std.specs.List.{last_or, list_any, list_all}
 use Rattle.std.specs.Option.{option_map}
 use Rattle.cell_units.specs.declared.limits.TheConstants.{RUN_LIMIT}
@@ -7,6 +7,7 @@ use Rattle.cell_units.specs.Operation.{Operation}
 use Rattle.display_map.specs.Events.{Event}
 use Rattle.display_map.specs.Events.{Line, Did, Sent, Landed, Published}
 use Rattle.display_map.specs.Replay.{History, State, state_of, present_of, waits, is_settled, job_numbered}
+use Rattle.display_owner.specs.Beside.{outstanding}
 use Rattle.edit_script.specs.Commands.{Command}
 use Rattle.edit_script.specs.Verdict.{Verdict, Refused, Accepted, ops_of, wants_settled}
 use Rattle.display_cli.specs.Entries.{Entry, judged}
@@ -26,10 +27,6 @@ lines_in history = count_by is_line history
 abbrev pub is_landed : Option Event → Bool
 is_landed (Some (Landed job)) = true
 is_landed _ = false
-
--- how many jobs were sent and haven't landed
-abbrev pub outstanding : State → ℕ
-outstanding s = count_by (λ job. not job.landed) s.jobs
 
 -- what events make of an opening text
 abbrev pub history_of : List ℕ → List Event → History

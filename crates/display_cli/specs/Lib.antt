@@ -1,6 +1,5 @@
 -- What the crate promises
 pub mod Outside
-pub mod Words
 pub mod Entries
 pub mod Legal
 pub mod Output

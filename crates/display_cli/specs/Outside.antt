@@ -40,6 +40,10 @@ pub record SinkState : Type 0 where
   pub taken : Option (List ℕ)
   pub faults : ℕ
 
+-- a sink that tells that it took these bytes, and of which no write failed
+abbrev pub nowhere : List ℕ → SinkState
+nowhere taken = record { taken = Some taken; faults = 0 }
+
 -- a count rose. One that stands at the greatest u64 also passes for one that rose
 abbrev pub HasRisen : ℕ → ℕ → Type 0
 HasRisen old new = (old < new) ⊎ ((old ≡ 2 ^ 64 - 1) × (new ≡ old))

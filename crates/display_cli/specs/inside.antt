@@ -1,5 +1,9 @@
 pub mod Reading
+pub mod Heading
+pub mod Stopping
+pub mod Counting
 pub mod Going
+pub mod Left
 pub mod Opening
 pub mod Named
 pub mod Calls

@@ -1,4 +1,5 @@
 //! How a run ended.
+use board_watch::Watched;
 use display_map::Journal;
 
 /// Why a run ended as it did.
@@ -24,19 +25,6 @@ pub enum Note {
     JournalFull,
     /// There was no memory.
     Memory,
-}
-
-/// A version that a watcher saw: its number, and how many rows it has.
-#[derive(Clone, Copy, Debug, PartialEq, Eq)]
-pub struct Seen {
-    pub version: u64,
-    pub rows: u32,
-}
-
-/// What a watcher saw, in order.
-#[derive(Debug, Drop)]
-pub struct Watched {
-    pub seen: Vec<Seen>,
 }
 
 /// The end of a run: its status and why it has it, the history of its display, and what each watcher saw.

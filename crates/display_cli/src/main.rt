@@ -4,19 +4,24 @@
 //! the real files, the standard output and standard error.
 #![tactic(auto)]
 
+mod beside;
 mod calls;
 mod ended;
 mod inputs;
+mod limits;
 mod outside;
 mod read;
 mod runner;
 mod say;
+mod script;
 mod settling;
 mod sinks;
 mod stop;
+mod summary;
+mod tally;
 mod told;
 mod top;
-mod words;
+mod watch;
 mod write;
 
 use crate::inputs::FileInputs;
@@ -25,6 +30,7 @@ use crate::top::{give_up, program};
 use std::env::Env;
 use std::process::ExitCode;
 use std::{env, io};
+use wrap_workers::FreeGate;
 
 #[cfg(test)]
 mod tests;
@@ -42,10 +48,12 @@ fn main(rt: HostRuntime) -> ExitCode {
     let mut inputs = FileInputs::new(&rt);
     let mut out = StreamSink::new(rt.stdout());
     ExitCode::from(program(
+        &rt,
         rt.alloc(),
         words.as_slice(),
         &mut inputs,
         &mut out,
         &mut err,
+        &FreeGate,
     ))
 }

@@ -1,30 +1,34 @@
 //! The runner of a script: it handles one line after the other.
-ghost use Rattle.std.specs.Prelude.{false, ◌≡◌, ◌+◌, ◌<◌, ◌≤◌, ◌⊎◌, ℕ, List, [], ◌∷◌, Bool, length, OnOk, IfOk, IfErr, OnErr};
-ghost use Rattle.std.specs.List.{position};
-ghost use Rattle.cell_units.specs.Text.{is_feed};
+ghost use Rattle.std.specs.Prelude.{true, false, ◌≡◌, ◌+◌, ◌<◌, ◌≤◌, ◌^◌, ◌⊎◌, ℕ, List, [], ◌∷◌, Bool, length, OnOk, IfOk, IfErr, OnErr, IfSome};
 ghost use Rattle.display_sheet.specs.Changes.{ops_of};
 ghost use Rattle.display_map.specs.Events.{event_limit};
 ghost use Rattle.display_map.specs.Events.{Line};
-ghost use Rattle.display_map.specs.Replay.{present_of, appended};
+ghost use Rattle.display_map.specs.Replay.{is_settled, present_of, appended};
+ghost use Rattle.display_owner.specs.Owned.{IsOwned, IsSameTeam};
 ghost use Rattle.edit_script.specs.declared.asked.Asked.TheVariants as asks;
 ghost use Rattle.edit_script.specs.Commands.{Settle, meaning};
 ghost use Rattle.edit_script.specs.Printed.{refusal_text};
-ghost use Rattle.edit_script.specs.Verdict.{Refused, Accepted};
+ghost use Rattle.edit_script.specs.Verdict.{Refused, Accepted, query_wants_settled};
 ghost use Rattle.display_cli.specs.declared.stop.Stop.TheVariants as stops;
 ghost use Rattle.display_cli.specs.Outside.{Takes};
 ghost use Rattle.display_cli.specs.Output.{printed};
 ghost use Rattle.display_cli.specs.Entries.{script_lines, asked_by_command};
 ghost use Rattle.display_cli.specs.inside.Reading.{IsUnwritten};
-ghost use Rattle.display_cli.specs.inside.Going.{IsCalm, IsReady, HasChanged, IsWithinChange, IsUnrecorded, Handles, HandlesQuery, HandlesChange, IsReadOn, IsUnreadOn, HandlesLine, HandlesFirst, HandlesAll, PlaysAll, Ends, SameSink, stage};
+ghost use Rattle.display_cli.specs.inside.Going.{IsReady, IsAbreast, HasChanged, IsWithinChange, IsUnrecorded, Handles, HandlesUnread, HandlesQuery, HandlesChange, IsReadOn, IsUnreadOn, read_wants_settled, HandlesLine, HandlesFirst, HandlesAll, HandlesScript, PlaysAll, SameSink, stage};
 
 use crate::outside::Sink;
-use crate::settling::{check_room, settle};
+use crate::script::{head_of, split_line};
+use crate::settling::{check_room, finish, land_ready, prepare};
 use crate::stop::Stop;
+use crate::tally::{Outcome, Tally};
 use crate::write::{write_answer, write_line};
 use cell_units::{Fault, Refusal, Steps};
-use display_map::{Change, Display};
+use display_map::Change;
+use display_owner::Owner;
 use edit_script::{Asked, Form, Query, answer, read_line, refusal_line, skipped};
 use std::alloc::Global;
+use std::sync::Wait;
+use wrap_workers::Gate;
 
 /// How many operations a change asks for: an entry of an edit counts as one.
 fn operations(change: &Change) -> usize
@@ -37,20 +41,38 @@ fn operations(change: &Change) -> usize
     }
 }
 
-/// Records that the line of this number is handled, where the journal has room for it and for so many operations.
-fn record_line(
-    alloc: Global,
-    number: u64,
-    operations: usize,
-    display: &mut Display,
-) -> Result<(), Stop>
-    ensures recorded { OnOk result (display.new ≡ appended display.old (Line number ∷ [])) }
-    ensures room { OnOk result (length display.old.events + 3 + operations ≤ event_limit) }
-    ensures unchanged { OnErr result (display.new ≡ display.old) }
-    ensures why { IfErr result (IsUnrecorded (length display.old.events + 3 + operations)) }
+/// Whether a question is answered only where every display line stands wrapped at the width.
+fn query_wants_settled(query: &Query) -> bool
+    ensures { result ≡ query_wants_settled query.now }
 {
-    check_room(display, operations)?;
-    display.note_line(alloc, number)?;
+    !matches!(query, Query::Peek { .. })
+}
+
+/// Whether what was read of a line is to be done only there.
+fn wants_settled(read: &Result<Asked, Fault>) -> bool
+    ensures { result ≡ read_wants_settled read.now }
+{
+    match read {
+        Ok(Asked::Settle) => true,
+        Ok(Asked::Query(query)) => query_wants_settled(query),
+        Ok(Asked::Change(_)) | Err(_) => false,
+    }
+}
+
+/// Records that the line of this number is handled, where the journal has room for it and for so many operations.
+fn record_line(number: u64, operations: usize, owner: &mut Owner) -> Result<(), Stop>
+    requires { IsReady owner.old }
+    ensures recorded { OnOk result
+        (owner.new.display ≡ appended owner.old.display (Line number ∷ [])) }
+    ensures room { OnOk result (length owner.old.display.events + 3 + operations ≤ event_limit) }
+    ensures unchanged { OnErr result (owner.new.display ≡ owner.old.display) }
+    ensures why { IfErr result
+        (IsUnrecorded (length owner.old.display.events + 3 + operations)) }
+    ensures ready { OnOk result (IsReady owner.new) }
+    ensures team { IsSameTeam owner.old owner.new }
+{
+    check_room(&owner.display, operations)?;
+    owner.note_line(number)?;
     Ok(())
 }
 
@@ -66,102 +88,112 @@ fn write_refusal<K: Sink>(alloc: Global, refusal: Refusal, out: &mut K) -> Resul
 }
 
 /// Does a change, and publishes the display where it had an operation. Answers why it is refused, if it is.
-fn apply_change(
-    alloc: Global,
+fn apply_change<R: Wait>(
+    rt: &R,
     change: &Change,
-    display: &mut Display,
-    steps: &mut Steps,
+    owner: &mut Owner,
 ) -> Result<Option<Refusal>, Stop>
-    requires room { length display.old.events + length (ops_of change.now) + 1 ≤ event_limit }
-    ensures changed { IfOk result (HasChanged display.old change.now display.new) }
+    requires room { length owner.old.display.events + length (ops_of change.now) + 1 ≤ event_limit }
+    requires ready { IsReady owner.old }
+    ensures changed { IfOk result (HasChanged owner.old.display change.now owner.new.display) }
     ensures memory { IfErr result (λ stop. stop ≡ stops.Memory) }
-    ensures stopped { OnErr result (IsWithinChange display.old change.now display.new) }
+    ensures stopped { OnErr result
+        (IsWithinChange owner.old.display change.now owner.new.display) }
+    ensures ready { OnOk result (IsReady owner.new) }
+    ensures team { IsSameTeam owner.old owner.new }
 {
-    let room = display.room();
-    match display.apply(alloc, change, steps) {
+    let room = owner.display.room();
+    match owner.apply(change) {
         Ok(()) => {}
         Err(Fault::Refused(refusal)) => return Ok(Some(refusal)),
         Err(Fault::NoMemory) => return Err(Stop::Memory),
     }
     // The journal grew where there was an operation.
-    if display.room() < room {
-        display.publish(alloc, false)?;
+    if owner.display.room() < room {
+        owner.publish(rt, false)?;
     }
     Ok(None)
 }
 
-/// Where the first line feed is.
-fn feed_at(bytes: &[u8]) -> Option<usize>
-    ensures { result ≡ position is_feed bytes.now }
-{
-    bytes.iter().position(|b| *b == b'\n')
-}
-
-/// The first line of what is left of a script, without its line feed, and what is left behind it.
-fn split_line(script: &[u8]) -> (&[u8], &[u8])
-    requires { 0 < length script.now }
-    ensures lines { script_lines script.now ≡ result.0.now ∷ script_lines result.1.now }
-    ensures shorter { length result.1.now < length script.now }
-{
-    match feed_at(script) {
-        Some(end) => (&script[..end], &script[end + 1..]),
-        None => (script, &script[script.len()..]),
-    }
-}
-
-/// What runs a script on a display: it reads the lines in one form, and writes the answers to a sink.
-#[derive(Drop)]
-pub(crate) struct Runner<'a, K> {
-    pub(crate) alloc: Global,
+/// What runs a script on a display, beside the workers of its owner: it reads the lines in one form, which is that of the script
+/// once its head is read, and writes the answers to a sink. It isn't `Drop`, as its owner isn't.
+pub(crate) struct Runner<'a, R, G, K> {
+    pub(crate) rt: &'a R,
+    pub(crate) gate: &'a G,
     pub(crate) form: Form,
-    pub(crate) display: Display,
+    pub(crate) owner: Owner,
     pub(crate) out: &'a mut K,
-    pub(crate) steps: Steps,
 }
 
-impl<'a, K: Sink> Runner<'a, K> {
+impl<'a, R: Wait, G: Gate, K: Sink> Runner<'a, R, G, K> {
     /// Handles the line of this number that asks for nothing but the wrapping of every display line.
-    fn settled(&mut self, number: u64) -> Result<bool, Stop>
-        requires { IsCalm self.old.display }
-        ensures handled { Handles number (Accepted Settle)
+    fn settled(&mut self, number: u64) -> Result<Outcome, Stop>
+        requires abreast { IsAbreast self.old.owner }
+        requires settled { is_settled (present_of self.old.owner.display) ≡ true }
+        ensures handled { Handles self.old.owner.crew.workers number (Accepted Settle)
             (stage K.state self.old) (stage K.state self.new) result }
-        ensures ready { OnOk result (IsReady self.new.display) }
+        ensures ready { OnOk result (IsReady self.new.owner) }
+        ensures team { IsSameTeam self.old.owner self.new.owner }
         ensures sink { SameSink self.old self.new }
         ensures form { self.new.form ≡ self.old.form }
     {
-        record_line(self.alloc, number, 0, &mut self.display)?;
-        Ok(false)
+        record_line(number, 0, &mut self.owner)?;
+        Ok(Outcome::Accepted { lines: 0 })
     }
 
     /// Refuses the line of this number.
-    fn refuse(&mut self, number: u64, refusal: Refusal) -> Result<bool, Stop>
-        requires { IsCalm self.old.display }
-        ensures handled { Handles number (Refused refusal)
+    fn refuse(&mut self, number: u64, refusal: Refusal) -> Result<Outcome, Stop>
+        requires { IsAbreast self.old.owner }
+        ensures handled { Handles self.old.owner.crew.workers number (Refused refusal)
             (stage K.state self.old) (stage K.state self.new) result }
-        ensures ready { OnOk result (IsReady self.new.display) }
+        ensures ready { OnOk result (IsReady self.new.owner) }
+        ensures team { IsSameTeam self.old.owner self.new.owner }
         ensures sink { SameSink self.old self.new }
         ensures form { self.new.form ≡ self.old.form }
     {
-        record_line(self.alloc, number, 0, &mut self.display)?;
-        write_refusal(self.alloc, refusal, self.out)?;
-        Ok(true)
+        record_line(number, 0, &mut self.owner)?;
+        write_refusal(self.owner.alloc, refusal, self.out)?;
+        Ok(Outcome::Refused)
+    }
+
+    /// Refuses the line of this number for why it wasn't read, or stops where there was no memory for that.
+    fn refuse_unread(&mut self, number: u64, fault: Fault) -> Result<Outcome, Stop>
+        requires { IsAbreast self.old.owner }
+        ensures handled { HandlesUnread self.old.owner.crew.workers number fault
+            (stage K.state self.old) (stage K.state self.new) result }
+        ensures ready { OnOk result (IsReady self.new.owner) }
+        ensures team { IsSameTeam self.old.owner self.new.owner }
+        ensures sink { SameSink self.old self.new }
+        ensures form { self.new.form ≡ self.old.form }
+    {
+        match fault {
+            Fault::Refused(refusal) => self.refuse(number, refusal),
+            Fault::NoMemory => Err(Stop::Memory),
+        }
     }
 
     /// Answers a query on a view of the display, or refuses it, which the line of this number asks.
-    fn answer(&mut self, number: u64, query: &Query) -> Result<bool, Stop>
-        requires { IsCalm self.old.display }
-        ensures handled { HandlesQuery number query.now
+    fn answer(&mut self, number: u64, query: &Query) -> Result<Outcome, Stop>
+        requires abreast { IsAbreast self.old.owner }
+        requires settled { query_wants_settled query.now ≡ true
+            → is_settled (present_of self.old.owner.display) ≡ true }
+        ensures handled { HandlesQuery self.old.owner.crew.workers number query.now
             (stage K.state self.old) (stage K.state self.new) result }
-        ensures ready { OnOk result (IsReady self.new.display) }
+        ensures ready { OnOk result (IsReady self.new.owner) }
+        ensures team { IsSameTeam self.old.owner self.new.owner }
         ensures sink { SameSink self.old self.new }
         ensures form { self.new.form ≡ self.old.form }
     {
-        let view = self.display.view()?;
-        match answer(self.alloc, &view, query, &mut self.steps) {
+        let mut steps = Steps::new();
+        let alloc = self.owner.alloc;
+        let view = self.owner.display.view()?;
+        // With this count rattle knows that no answer has too many lines to be counted.
+        let _rows = view.row_count();
+        match answer(alloc, &view, query, &mut steps) {
             Ok(mut lines) => {
-                record_line(self.alloc, number, 0, &mut self.display)?;
-                write_answer(self.alloc, &mut lines, self.out, &mut self.steps)?;
-                Ok(false)
+                record_line(number, 0, &mut self.owner)?;
+                let lines = write_answer(alloc, &mut lines, self.out, &mut steps)?;
+                Ok(Outcome::Accepted { lines })
             }
             Err(Fault::Refused(refusal)) => self.refuse(number, refusal),
             Err(Fault::NoMemory) => Err(Stop::Memory),
@@ -169,115 +201,123 @@ impl<'a, K: Sink> Runner<'a, K> {
     }
 
     /// Does the change that the line of this number asks, or refuses it.
-    fn change(&mut self, number: u64, change: &Change) -> Result<bool, Stop>
-        requires { IsCalm self.old.display }
-        ensures handled { HandlesChange number change.now
+    fn change(&mut self, number: u64, change: &Change) -> Result<Outcome, Stop>
+        requires { IsAbreast self.old.owner }
+        ensures handled { HandlesChange self.old.owner.crew.workers number change.now
             (stage K.state self.old) (stage K.state self.new) result }
-        ensures ready { OnOk result (IsReady self.new.display) }
+        ensures ready { OnOk result (IsReady self.new.owner) }
+        ensures team { IsSameTeam self.old.owner self.new.owner }
         ensures sink { SameSink self.old self.new }
         ensures form { self.new.form ≡ self.old.form }
     {
-        record_line(self.alloc, number, operations(change), &mut self.display)?;
-        match apply_change(self.alloc, change, &mut self.display, &mut self.steps)? {
+        record_line(number, operations(change), &mut self.owner)?;
+        match apply_change(self.rt, change, &mut self.owner)? {
             Some(refusal) => {
-                write_refusal(self.alloc, refusal, self.out)?;
-                Ok(true)
+                write_refusal(self.owner.alloc, refusal, self.out)?;
+                Ok(Outcome::Refused)
             }
-            None => Ok(false),
+            None => Ok(Outcome::Accepted { lines: 0 }),
         }
     }
 
     /// What the line asks on the display as it is.
-    fn read(&mut self, line: &[u8]) -> Result<Asked, Fault>
+    fn read(&self, line: &[u8]) -> Result<Asked, Fault>
         ensures read { IfOk result
-            (IsReadOn self.old.form (present_of self.old.display).text line.now) }
+            (IsReadOn self.now.form (present_of self.now.owner.display).text line.now) }
         ensures refused { IfErr result
-            (IsUnreadOn self.old.form (present_of self.old.display).text line.now) }
-        ensures display { self.new.display ≡ self.old.display }
-        ensures kept { K.state self.new.out.now ≡ K.state self.old.out.now }
-        ensures sink { SameSink self.old self.new }
-        ensures form { self.new.form ≡ self.old.form }
+            (IsUnreadOn self.now.form (present_of self.now.owner.display).text line.now) }
     {
-        let view = self.display.view()?;
-        read_line(self.alloc, line, self.form, &view, &mut self.steps)
+        let view = self.owner.display.view()?;
+        read_line(self.owner.alloc, line, self.form, &view, &mut Steps::new())
     }
 
-    /// Handles the line of this number, where no line of the display waits. Answers whether it is refused.
-    fn handle_line(&mut self, number: u64, line: &[u8]) -> Result<bool, Stop>
-        requires { IsCalm self.old.display }
-        ensures handled { HandlesLine number self.old.form line.now
+    /// Handles the line of this number, and says what became of it.
+    fn handle_line(&mut self, number: u64, line: &[u8]) -> Result<Outcome, Stop>
+        requires { IsReady self.old.owner }
+        ensures handled { HandlesLine self.old.owner.crew.workers number self.old.form line.now
             (stage K.state self.old) (stage K.state self.new) result }
-        ensures ready { OnOk result (IsReady self.new.display) }
+        ensures ready { OnOk result (IsReady self.new.owner) }
+        ensures team { IsSameTeam self.old.owner self.new.owner }
         ensures sink { SameSink self.old self.new }
         ensures form { self.new.form ≡ self.old.form }
     {
-        match self.read(line) {
+        let read = self.read(line);
+        prepare(self.rt, self.gate, &mut self.owner, wants_settled(&read))?;
+        match read {
             Ok(Asked::Change(change)) => self.change(number, &change),
             Ok(Asked::Query(query)) => self.answer(number, &query),
             Ok(Asked::Settle) => self.settled(number),
-            Err(Fault::Refused(refusal)) => self.refuse(number, refusal),
-            Err(Fault::NoMemory) => Err(Stop::Memory),
+            Err(fault) => self.refuse_unread(number, fault),
         }
     }
 
-    /// Handles the line of this number, unless it is skipped. Answers whether it is refused.
-    fn run_line(&mut self, number: u64, line: &[u8]) -> Result<bool, Stop>
-        requires { IsReady self.old.display }
-        ensures handled { HandlesFirst number self.old.form line.now
+    /// Handles the line of this number, unless it is skipped, and says what became of it.
+    fn run_line(&mut self, number: u64, line: &[u8]) -> Result<Outcome, Stop>
+        requires { IsReady self.old.owner }
+        ensures handled { HandlesFirst self.old.owner.crew.workers number self.old.form line.now
             (stage K.state self.old) (stage K.state self.new) result }
-        ensures ready { OnOk result (IsReady self.new.display) }
+        ensures ready { OnOk result (IsReady self.new.owner) }
+        ensures team { IsSameTeam self.old.owner self.new.owner }
         ensures sink { SameSink self.old self.new }
         ensures form { self.new.form ≡ self.old.form }
     {
         if skipped(line) {
-            return Ok(false);
+            return Ok(Outcome::Skipped);
         }
-        settle(self.alloc, &mut self.display, &mut self.steps)?;
+        land_ready(self.rt, &mut self.owner)?;
         self.handle_line(number, line)
     }
 
-    /// Handles the lines of a script. Answers whether one is refused.
-    fn run_lines(&mut self, script: &[u8]) -> Result<bool, Stop>
-        requires { IsReady self.old.display }
-        ensures handled { HandlesAll self.old.form (script_lines script.now)
-            (stage K.state self.old) (stage K.state self.new) result }
-        ensures ready { OnOk result (IsReady self.new.display) }
+    /// Handles the lines behind so many that were passed, and counts them.
+    fn run_lines(&mut self, passed: u64, lines: &[u8]) -> Result<Tally, Stop>
+        requires ready { IsReady self.old.owner }
+        requires numbers { passed + length lines.now < 2 ^ 64 }
+        ensures handled { HandlesAll self.old.owner.crew.workers self.old.form passed
+            (script_lines lines.now) (stage K.state self.old) (stage K.state self.new) result }
+        ensures ready { OnOk result (IsReady self.new.owner) }
+        ensures team { IsSameTeam self.old.owner self.new.owner }
         ensures sink { SameSink self.old self.new }
-        ensures form { self.new.form ≡ self.old.form }
     {
-        let mut rest = script;
-        let mut number: u64 = 0;
-        let mut refused = false;
+        let mut rest = lines;
+        let mut number = passed;
+        let mut tally = Tally::none();
         while !rest.is_empty() {
             let (line, behind) = split_line(rest);
             number += 1;
-            let now = self.run_line(number, line)?;
-            refused = refused || now;
+            let outcome = self.run_line(number, line)?;
+            tally.count(outcome);
             rest = behind;
         }
-        Ok(refused)
+        Ok(tally)
     }
 
-    /// Runs a script on a display that was just started. Answers whether a line is refused.
-    pub(crate) fn play(&mut self, script: &[u8]) -> Result<bool, Stop>
-        requires { self.old.display.events ≡ [] }
-        ensures played { PlaysAll self.old.form script.now
+    /// Handles the lines of a script, in the form that its head gives, and counts them.
+    fn run_script(&mut self, script: &[u8]) -> Result<Tally, Stop>
+        requires { IsReady self.old.owner }
+        ensures handled { HandlesScript self.old.owner.crew.workers script.now
             (stage K.state self.old) (stage K.state self.new) result }
+        ensures ready { OnOk result (IsReady self.new.owner) }
+        ensures team { IsSameTeam self.old.owner self.new.owner }
         ensures sink { SameSink self.old self.new }
     {
-        self.display.publish(self.alloc, false)?;
-        let refused = self.run_lines(script)?;
-        finish(self.alloc, &mut self.display, &mut self.steps)?;
-        Ok(refused)
+        check_room(&self.owner.display, 0)?;
+        let head = head_of(self.owner.alloc, script)?;
+        self.form = head.form;
+        self.run_lines(head.passed, head.rest)
     }
-}
 
-/// Settles a display and publishes its last version.
-fn finish(alloc: Global, display: &mut Display, steps: &mut Steps) -> Result<(), Stop>
-    requires { IsReady display.old }
-    ensures { Ends display.old display.new result }
-{
-    settle(alloc, display, steps)?;
-    display.publish(alloc, true)?;
-    Ok(())
+    /// Runs a script to its last version, and counts its lines.
+    pub(crate) fn play(&mut self, script: &[u8]) -> Result<Tally, Stop>
+        requires { IsReady self.old.owner }
+        ensures played { PlaysAll self.old.owner.crew.workers script.now
+            (stage K.state self.old) (stage K.state self.new) result }
+        ensures shown { OnOk result
+            (IfSome self.new.owner.writer (λ writer. writer.newest ≡ self.new.owner.display)) }
+        ensures team { IsSameTeam self.old.owner self.new.owner }
+        ensures sink { SameSink self.old self.new }
+    {
+        let tally = self.run_script(script)?;
+        finish(self.rt, self.gate, &mut self.owner)?;
+        Ok(tally)
+    }
 }

@@ -1,20 +1,20 @@
-//! Settling a display: it sends jobs, does them and lands them, until no line waits.
-ghost use Rattle.std.specs.Prelude.{false, ◌≡◌, ◌+◌, ◌<◌, ◌≤◌, [], ◌∷◌, length, OnOk, IfOk, IfErr, None};
+//! What a run does beside the lines of its script: its owner sends runs, lands results and settles.
+ghost use Rattle.std.specs.Prelude.{◌≡◌, ◌+◌, ◌<◌, ◌≤◌, true, length, OnOk, IfErr, IfSome};
 ghost use Rattle.display_map.specs.Events.{event_limit};
-ghost use Rattle.display_map.specs.Events.{Landed, Published};
-ghost use Rattle.display_map.specs.Replay.{appended};
-ghost use Rattle.display_map.specs.Sending.{IsOutstanding};
+ghost use Rattle.display_map.specs.Replay.{is_settled, present_of};
+ghost use Rattle.display_owner.specs.Beside.{HasGone, IsHalted};
+ghost use Rattle.display_owner.specs.Owned.{IsBusy, IsOwned, IsSameTeam};
 ghost use Rattle.display_cli.specs.declared.stop.Stop.TheVariants as stops;
-ghost use Rattle.display_cli.specs.inside.Going.{IsReady, HasLanded, IsLandingStopped, IsRoundStopped, IsCalm, GoesOn};
+ghost use Rattle.display_cli.specs.inside.Going.{IsReady, IsAbreast, GoesOn, Ends};
 
 use crate::stop::Stop;
-use cell_units::Steps;
-use display_map::{Display, Held};
-use std::alloc::Global;
-use wrap_workers::{Finished, Job, do_job};
+use display_map::Display;
+use display_owner::{Halt, Owner};
+use std::sync::Wait;
+use wrap_workers::Gate;
 
-/// How many events a step appends beside operations, at most: `Sent`, `Landed` and `Published` for a job, `Line` and
-/// `Published` for a line.
+/// How many events a step appends beside operations, at most: `Line` and `Published` for a line, and one more for what
+/// comes between lines.
 const EVENTS_AHEAD: u32 = 3;
 
 /// Whether the journal has room for the events of a step, with so many operations.
@@ -30,51 +30,73 @@ pub(crate) fn check_room(display: &Display, operations: usize) -> Result<(), Sto
     Ok(())
 }
 
-/// Does a job that was just sent, lands it and publishes the display.
-fn land_job(
-    alloc: Global,
-    job: Job<Held>,
-    display: &mut Display,
-    steps: &mut Steps,
-) -> Result<(), Stop>
-    requires room { length display.old.events + 2 ≤ event_limit }
-    requires sent { IsOutstanding display.old job }
-    ensures landed { OnOk result
-        (display.new ≡ appended display.old (Landed job.number ∷ (Published false ∷ []))) }
-    ensures memory { IfErr result (λ stop. stop ≡ stops.Memory) }
-    ensures stopped { IfErr result (λ _. IsLandingStopped display.old job.number display.new) }
+/// Lands the results that are there.
+pub(crate) fn land_ready<R: Wait>(rt: &R, owner: &mut Owner) -> Result<(), Stop>
+    requires { IsReady owner.old }
+    ensures going { GoesOn owner.old.crew.workers owner.old.display owner.new.display result }
+    ensures ready { OnOk result (IsReady owner.new) }
+    ensures team { IsSameTeam owner.old owner.new }
 {
-    let Finished::Done(done) = do_job(alloc, job) else {
-        return Err(Stop::Memory);
-    };
-    if display.land(alloc, done, steps).is_err() {
-        return Err(Stop::Memory);
-    }
-    display.publish(alloc, false)?;
+    owner.land_ready(rt)?;
     Ok(())
 }
 
-/// Sends the next run, does it and lands it, if a line waits.
-fn land_next(alloc: Global, display: &mut Display, steps: &mut Steps) -> Result<bool, Stop>
-    ensures landed { IfOk result (HasLanded display.old display.new) }
-    ensures stopped { IfErr result (IsRoundStopped display.old display.new) }
+/// Settles where that is wanted, and else sends as many runs as may be.
+fn settle_or_send<R: Wait, G: Gate>(
+    rt: &R,
+    gate: &G,
+    owner: &mut Owner,
+    settles: bool,
+) -> Result<(), Halt>
+    requires { IsOwned owner.old }
+    ensures gone { OnOk result
+        (HasGone owner.old.crew.workers owner.old.display owner.new.display) }
+    ensures owned { OnOk result (IsOwned owner.new) }
+    ensures busy { OnOk result (IsBusy owner.new) }
+    ensures settled { OnOk result
+        (settles ≡ true → is_settled (present_of owner.new.display) ≡ true) }
+    ensures halted { IfErr result
+        (IsHalted owner.old.crew.workers owner.old.display owner.new.display) }
+    ensures team { IsSameTeam owner.old owner.new }
 {
-    check_room(display, 0)?;
-    match display.take_run(alloc, steps)? {
-        Some(job) => {
-            land_job(alloc, job, display, steps)?;
-            Ok(true)
-        }
-        None => Ok(false),
+    if settles {
+        owner.settle(rt, gate)
+    } else {
+        owner.send_runs(rt)
     }
 }
 
-/// Lands job after job until no line waits.
-pub(crate) fn settle(alloc: Global, display: &mut Display, steps: &mut Steps) -> Result<(), Stop>
-    requires { IsReady display.old }
-    ensures calm { OnOk result (IsCalm display.new) }
-    ensures going { GoesOn display.old display.new result }
+/// Does what is to be done before the next line: as many runs are out as may be, or each line of the display stands wrapped
+/// at the width, where the line wants that.
+pub(crate) fn prepare<R: Wait, G: Gate>(
+    rt: &R,
+    gate: &G,
+    owner: &mut Owner,
+    settles: bool,
+) -> Result<(), Stop>
+    requires { IsReady owner.old }
+    ensures going { GoesOn owner.old.crew.workers owner.old.display owner.new.display result }
+    ensures abreast { OnOk result (IsAbreast owner.new) }
+    ensures settled { OnOk result
+        (settles ≡ true → is_settled (present_of owner.new.display) ≡ true) }
+    ensures text { OnOk result
+        ((present_of owner.new.display).text ≡ (present_of owner.old.display).text) }
+    ensures team { IsSameTeam owner.old owner.new }
 {
-    while land_next(alloc, display, steps)? {}
+    settle_or_send(rt, gate, owner, settles)?;
+    check_room(&owner.display, 0)
+}
+
+/// Settles, lands what is outstanding, and publishes the last version.
+pub(crate) fn finish<R: Wait, G: Gate>(rt: &R, gate: &G, owner: &mut Owner) -> Result<(), Stop>
+    requires { IsReady owner.old }
+    ensures ends { Ends owner.old.crew.workers owner.old.display owner.new.display result }
+    ensures shown { OnOk result
+        (IfSome owner.new.writer (λ writer. writer.newest ≡ owner.new.display)) }
+    ensures team { IsSameTeam owner.old owner.new }
+{
+    owner.finish(rt, gate)?;
+    check_room(&owner.display, 0)?;
+    owner.publish(rt, true)?;
     Ok(())
 }

@@ -3,7 +3,7 @@ ghost use Rattle.std.specs.Prelude.{◌≡◌, ◌++◌, ◌<◌, ◌≤◌, fal
 ghost use Rattle.display_cli.specs.inside.Calls.{is_failing, one_more};
 ghost use Rattle.display_cli.specs.inside.Named.{list_state};
 ghost use Rattle.display_cli.specs.inside.Telling.{bytes_told};
-ghost use Rattle.display_cli.specs.Outside.{SinkState, Takes, Refuses};
+ghost use Rattle.display_cli.specs.Outside.{SinkState, Takes, Refuses, nowhere};
 
 use crate::calls::Calls;
 use crate::outside::{Failed, Sink};
@@ -86,7 +86,7 @@ impl SureSink {
 }
 
 impl Sink for SureSink {
-    ghost state = { λ s. record { taken = Some (bytes_told s.told); faults = 0 } };
+    ghost state = { λ s. nowhere (bytes_told s.told) };
 
     /// Takes the whole piece.
     fn write(&mut self, piece: &[u8]) -> Result<usize, Failed>

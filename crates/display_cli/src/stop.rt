@@ -1,6 +1,7 @@
 //! Why a run stops.
 use crate::outside::Failed;
 use cell_units::NoMemory;
+use display_owner::Halt;
 
 /// Why a run stops before its script's end.
 #[derive(Clone, Copy, Debug, PartialEq, Eq)]
@@ -21,6 +22,20 @@ impl From<NoMemory> for Stop {
 
     fn from(_error: NoMemory) -> Stop {
         Stop::Memory
+    }
+}
+
+impl From<Halt> for Stop {
+    ghost use Rattle.std.specs.Prelude.{◌≡◌};
+    ghost use Rattle.display_cli.specs.inside.Stopping.{stop_of};
+
+    ghost from_gives = { λ halt s. s ≡ stop_of halt };
+
+    fn from(halt: Halt) -> Stop {
+        match halt {
+            Halt::Full => Stop::JournalFull,
+            Halt::Memory => Stop::Memory,
+        }
     }
 }
 

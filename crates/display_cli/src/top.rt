@@ -1,28 +1,39 @@
 //! The top calls: the run of a script, and the program that says how its run ended.
-ghost use Rattle.std.specs.Prelude.{◌≡◌, ◌≢◌, ◌≤◌, ◌↔◌, ℕ, true, [], None, Some, IfOk, IfErr, IfSome, OnOk};
+ghost use Rattle.std.specs.Prelude.{◌≡◌, ◌≢◌, ◌≤◌, ◌↔◌, ℕ, true, ◌<◌, [], length, map, None, Some, IfOk, IfErr, IfSome, OnOk, vec_len};
+ghost use Rattle.display_map.specs.Events.{event_limit};
+ghost use Rattle.command_words.specs.Words.{IsWithinLimits, plan_of};
 ghost use Rattle.display_cli.specs.declared.ended.Note.TheVariants as notes;
 ghost use Rattle.display_cli.specs.declared.outside.Part.TheVariants as parts;
-ghost use Rattle.display_cli.specs.Outside.{HasRisen};
-ghost use Rattle.display_cli.specs.Words.{plan_of};
+ghost use Rattle.display_cli.specs.Outside.{HasRisen, InputState};
 ghost use Rattle.display_cli.specs.Ended.{HasStatus, run_of, IsRefused, IsEndedAs, ReadsInOrder, IsRun, IsRunOfWords, Says, IsProgram};
-ghost use Rattle.display_cli.specs.inside.Opening.{IsOpenedOn, IsStartRefused, IsTextRefused, IsScript, IsScriptRefused, HasRunOn, note_of};
+ghost use Rattle.display_cli.specs.inside.Opening.{IsOpenedOn, IsStartRefused, IsTextRefused, IsScript, IsScriptRefused, IsNoteOf, EndsWatch, HasRunOn, SeeLast, note_of, seen_by};
+ghost use Rattle.display_cli.specs.inside.Going.{IsReady};
+ghost use Rattle.display_cli.specs.inside.Left.{AreBoards, HasLeft, HasLeftBy, board_of, boards_of};
 ghost use Rattle.display_cli.specs.inside.Reading.{ReadsName};
 
+use crate::beside::{Left, play_with};
 use crate::ended::{Ended, Note};
+use crate::limits::SCRIPT_LIMIT;
 use crate::outside::{Inputs, Part, Sink};
 use crate::read::{Unread, read_whole};
-use crate::runner::Runner;
 use crate::say::say;
+use crate::sinks::SureSink;
 use crate::stop::Stop;
-use crate::words::{Plan, read_words};
+use crate::summary::report;
+use crate::tally::Tally;
+use crate::watch::write_watched;
+use board_watch::{Watched, Watcher, end_all, give_up_all, watchers};
 use cell_units::limits::TEXT_LIMIT;
 use cell_units::{NoMemory, Steps, TextFault};
+use command_words::{Plan, read_words};
 use display_map::{Display, Journal};
-use edit_script::Form;
+use display_owner::{Opened, open};
+use made_input::made;
 use std::alloc::Global;
-
-/// The greatest length of a script, in bytes.
-const SCRIPT_LIMIT: usize = 16_777_216;
+use std::sync::Wait;
+use std::thread::Threads;
+use version_board::Writer;
+use wrap_workers::Gate;
 
 /// The status of a note, for a run without refused lines.
 fn status_of(note: Note) -> u8
@@ -126,35 +137,19 @@ fn note_of(stop: Stop) -> Note
     }
 }
 
-/// Gives a sink back as it is: with this call rattle knows what a runner left behind its reference.
-fn give_back<K>(out: &mut K)
-    ensures { out.new ≡ out.old }
-{}
-
-/// Runs a script on a display that was just started.
-fn run_script<K: Sink>(alloc: Global, script: &[u8], display: Display, out: &mut K) -> Ended
-    requires { display.events ≡ [] }
+/// The end of a run that came to its script's end, of which this was counted, or that stopped.
+fn ended_as(played: Result<Tally, Stop>, history: Journal, watched: Vec<Watched>) -> Ended
     ensures status { HasStatus result.note result.status }
-    ensures watched { result.watched.items ≡ [] }
-    ensures run { HasRunOn display.opening script.now (K.state out.old) (K.state out.new) result }
+    ensures note { IsNoteOf played result.status result.note }
+    ensures history { result.history ≡ history }
+    ensures watched { result.watched ≡ watched }
 {
-    let mut runner = Runner {
-        alloc,
-        form: Form::First,
-        display,
-        out,
-        steps: Steps::new(),
-    };
-    let played = runner.play(script);
-    let Runner { display, out, .. } = runner;
-    give_back(out);
-    let history = display.into_journal();
     match played {
-        Ok(refused) => Ended {
-            status: fine_status(refused),
+        Ok(tally) => Ended {
+            status: fine_status(tally.refused > 0),
             note: Note::Fine,
             history,
-            watched: Vec::new(alloc),
+            watched,
         },
         Err(stop) => {
             let note = note_of(stop);
@@ -162,15 +157,205 @@ fn run_script<K: Sink>(alloc: Global, script: &[u8], display: Display, out: &mut
                 status: status_of(note),
                 note,
                 history,
-                watched: Vec::new(alloc),
+                watched,
             }
         }
     }
 }
 
-/// Runs a plan.
-fn run_plan<I: Inputs, K: Sink>(alloc: Global, plan: &Plan, inputs: &mut I, out: &mut K) -> Ended
-    requires { 1 ≤ plan.now.workers }
+/// Lets the watchers of a board, if there is one, see its last version, and gives what each saw.
+fn see_last(
+    alloc: Global,
+    writer: &mut Option<Writer>,
+    team: Vec<Watcher>,
+) -> Result<Vec<Watched>, NoMemory>
+    requires { AreBoards (board_of writer.old) (boards_of team.items) }
+    ensures count { IfOk result (λ watched. vec_len watched ≡ vec_len team) }
+    ensures seen { IfOk result (λ watched. SeeLast writer.old (seen_by watched)) }
+{
+    match writer {
+        Some(writer) => end_all(alloc, writer, team),
+        None => Ok(Vec::new(alloc)),
+    }
+}
+
+/// Lets the watchers of a run that came to its end see its last version and writes what each saw; of one that stopped it
+/// gives what they saw so far.
+fn end_watch<K: Sink>(
+    alloc: Global,
+    played: Result<Tally, Stop>,
+    writer: &mut Option<Writer>,
+    team: Vec<Watcher>,
+    out: &mut K,
+) -> (Result<Tally, Stop>, Vec<Watched>)
+    requires { AreBoards (board_of writer.old) (boards_of team.items) }
+    ensures { EndsWatch played writer.old (vec_len team)
+        (K.state out.old) (K.state out.new) result.0 (seen_by result.1) }
+{
+    match played {
+        Ok(tally) => match see_last(alloc, writer, team) {
+            Ok(watched) => match write_watched(alloc, watched.as_slice(), out) {
+                Ok(()) => (Ok(tally), watched),
+                Err(stop) => (Err(stop), watched),
+            },
+            Err(NoMemory) => (Err(Stop::Memory), Vec::new(alloc)),
+        },
+        Err(stop) => (Err(stop), give_up_all(alloc, team)),
+    }
+}
+
+/// Closes a board, if there is one.
+fn close<R: Wait>(rt: &R, writer: Option<Writer>) {
+    if let Some(writer) = writer {
+        writer.close(rt);
+    }
+}
+
+/// What is left, and the watchers, where a script was played by an opened owner.
+fn play_opened<R: Threads + Wait + Sync, G: Gate + Sync, K: Sink>(
+    rt: &R,
+    gate: &G,
+    script: &[u8],
+    opened: Opened,
+    out: &mut K,
+) -> (Left, Vec<Watcher>)
+    requires ready { IsReady opened.owner }
+    requires room { length opened.owner.display.events < event_limit }
+    requires readers { AreBoards (board_of opened.owner.writer)
+        (map (λ reader. reader.board) opened.readers.items) }
+    ensures left { HasLeft script.now opened.owner (K.state out.old) (K.state out.new) result.0 }
+    ensures team { AreBoards (board_of result.0.writer)
+        (boards_of result.1.items) }
+    ensures few { vec_len result.1 ≤ vec_len opened.readers }
+    ensures all { OnOk result.0.played (vec_len result.1 ≡ vec_len opened.readers) }
+{
+    let Opened {
+        owner,
+        workers,
+        readers,
+    } = opened;
+    match watchers(owner.alloc, readers) {
+        Ok(mut team) => {
+            let left = play_with(rt, gate, script, owner, workers, &mut team, out);
+            (left, team)
+        }
+        Err(NoMemory) => {
+            let alloc = owner.alloc;
+            let (display, writer) = owner.dismiss(rt);
+            let left = Left {
+                played: Err(Stop::Memory),
+                display,
+                writer,
+            };
+            (left, Vec::new(alloc))
+        }
+    }
+}
+
+/// The same where text and script are made: the answers go nowhere, and in place of them their summary is written.
+fn play_made<R: Threads + Wait + Sync, G: Gate + Sync, K: Sink>(
+    rt: &R,
+    gate: &G,
+    script: &[u8],
+    opened: Opened,
+    out: &mut K,
+) -> (Left, Vec<Watcher>)
+    requires ready { IsReady opened.owner }
+    requires room { length opened.owner.display.events < event_limit }
+    requires readers { AreBoards (board_of opened.owner.writer)
+        (map (λ reader. reader.board) opened.readers.items) }
+    ensures left { (number : ℕ) → HasLeftBy (Some number) script.now opened.owner
+        (K.state out.old) (K.state out.new) result.0 }
+    ensures team { AreBoards (board_of result.0.writer)
+        (boards_of result.1.items) }
+    ensures few { vec_len result.1 ≤ vec_len opened.readers }
+    ensures all { OnOk result.0.played (vec_len result.1 ≡ vec_len opened.readers) }
+{
+    let alloc = opened.owner.alloc;
+    let mut nowhere = SureSink::new();
+    let (left, team) = play_opened(rt, gate, script, opened, &mut nowhere);
+    let Left {
+        played,
+        display,
+        writer,
+    } = left;
+    let played = report(alloc, played, &display, out);
+    let left = Left {
+        played,
+        display,
+        writer,
+    };
+    (left, team)
+}
+
+/// What is left, and the watchers, where the script of a plan was played.
+fn play_plan<R: Threads + Wait + Sync, G: Gate + Sync, K: Sink>(
+    rt: &R,
+    gate: &G,
+    plan: &Plan,
+    script: &[u8],
+    opened: Opened,
+    out: &mut K,
+) -> (Left, Vec<Watcher>)
+    requires ready { IsReady opened.owner }
+    requires room { length opened.owner.display.events < event_limit }
+    requires readers { AreBoards (board_of opened.owner.writer)
+        (map (λ reader. reader.board) opened.readers.items) }
+    ensures left { HasLeftBy plan.now.make script.now opened.owner
+        (K.state out.old) (K.state out.new) result.0 }
+    ensures team { AreBoards (board_of result.0.writer)
+        (boards_of result.1.items) }
+    ensures few { vec_len result.1 ≤ vec_len opened.readers }
+    ensures all { OnOk result.0.played (vec_len result.1 ≡ vec_len opened.readers) }
+{
+    match plan.make {
+        Some(_) => play_made(rt, gate, script, opened, out),
+        None => play_opened(rt, gate, script, opened, out),
+    }
+}
+
+/// Runs a script on a display that was just started.
+fn run_script<R: Threads + Wait + Sync, G: Gate + Sync, K: Sink>(
+    rt: &R,
+    alloc: Global,
+    gate: &G,
+    plan: &Plan,
+    script: &[u8],
+    display: Display,
+    out: &mut K,
+) -> Ended
+    requires events { display.events ≡ [] }
+    requires limits { IsWithinLimits plan.now }
+    ensures status { HasStatus result.note result.status }
+    ensures run { HasRunOn plan.now display.opening script.now (K.state out.old) (K.state out.new) result }
+{
+    match open(rt, alloc, display, plan.workers, plan.watchers) {
+        Ok(opened) => {
+            let (left, team) = play_plan(rt, gate, plan, script, opened, out);
+            let Left {
+                played,
+                display,
+                mut writer,
+            } = left;
+            let (played, watched) = end_watch(alloc, played, &mut writer, team, out);
+            close(rt, writer);
+            ended_as(played, display.into_journal(), watched)
+        }
+        Err(display) => ended_as(Err(Stop::Memory), display.into_journal(), Vec::new(alloc)),
+    }
+}
+
+/// Runs a plan that names a text and a script.
+fn run_named<R: Threads + Wait + Sync, I: Inputs, K: Sink, G: Gate + Sync>(
+    rt: &R,
+    alloc: Global,
+    plan: &Plan,
+    inputs: &mut I,
+    out: &mut K,
+    gate: &G,
+) -> Ended
+    requires named { plan.now.make ≡ None }
+    requires limits { IsWithinLimits plan.now }
     ensures status { HasStatus result.note result.status }
     ensures ended { IsEndedAs plan.now
         (run_of (I.state inputs.old) (I.state inputs.new) (K.state out.old) (K.state out.new) result) result.note }
@@ -181,37 +366,86 @@ fn run_plan<I: Inputs, K: Sink>(alloc: Global, plan: &Plan, inputs: &mut I, out:
         Err(note) => return nothing(alloc, note),
     };
     match read_script(alloc, plan, inputs) {
-        Ok(script) => run_script(alloc, script.as_slice(), display, out),
+        Ok(script) => run_script(rt, alloc, gate, plan, script.as_slice(), display, out),
         Err(note) => nothing(alloc, note),
+    }
+}
+
+/// Runs a plan whose text and script are made from this number.
+fn run_made<R: Threads + Wait + Sync, K: Sink, G: Gate + Sync>(
+    rt: &R,
+    alloc: Global,
+    plan: &Plan,
+    number: u32,
+    out: &mut K,
+    gate: &G,
+) -> Ended
+    requires made { plan.now.make ≡ Some number }
+    requires limits { IsWithinLimits plan.now }
+    ensures status { HasStatus result.note result.status }
+    ensures ended { (inputs : InputState) → IsEndedAs plan.now
+        (run_of inputs inputs (K.state out.old) (K.state out.new) result) result.note }
+{
+    let made = match made(alloc, number) {
+        Ok(made) => made,
+        Err(NoMemory) => return nothing(alloc, Note::Memory),
+    };
+    match start(alloc, made.text.as_slice()) {
+        Ok(display) => run_script(rt, alloc, gate, plan, made.script.as_slice(), display, out),
+        Err(note) => nothing(alloc, note),
+    }
+}
+
+/// Runs a plan.
+fn run_plan<R: Threads + Wait + Sync, I: Inputs, K: Sink, G: Gate + Sync>(
+    rt: &R,
+    alloc: Global,
+    plan: &Plan,
+    inputs: &mut I,
+    out: &mut K,
+    gate: &G,
+) -> Ended
+    requires limits { IsWithinLimits plan.now }
+    ensures status { HasStatus result.note result.status }
+    ensures ended { IsEndedAs plan.now
+        (run_of (I.state inputs.old) (I.state inputs.new) (K.state out.old) (K.state out.new) result) result.note }
+    ensures reads { ReadsInOrder plan.now (I.state inputs.old).reads (I.state inputs.new).reads }
+{
+    match plan.make {
+        Some(number) => run_made(rt, alloc, plan, number, out, gate),
+        None => run_named(rt, alloc, plan, inputs, out, gate),
     }
 }
 
 /// Runs the script that the second of the words names on the text that the first one names. The output goes to the
 /// sink, line by line. The text is read whole and judged, its length first and then its bytes, before the script is read.
+/// With `--make` text and script are made, nothing is read, and one line stands in place of the answers.
 ///
 /// `Ended` says how the run ended, and holds the history of its display:
 ///
 /// - `Fine`, with the status 0, or 1 where a line was refused: all was read, done and written;
-/// - `Usage`: the words aren't two names. Nothing is read or written;
+/// - `Usage`: the words have no reading. Nothing is read or written;
 /// - `ReadText`, `ReadScript`: a read failed; `Write`: a write failed, and a front of the output was written;
 /// - `TextTooLong`, `TextNotUtf8`, `ScriptTooLong`: what was read isn't accepted, and nothing is written;
 /// - `JournalFull`: the journal has no room for the next line of the script; `Memory`: there was no memory.
-pub fn run<I: Inputs, K: Sink>(
+pub fn run<R: Threads + Wait + Sync, I: Inputs + Send, K: Sink + Send, G: Gate + Sync>(
+    rt: &R,
     alloc: Global,
     words: &[String],
     inputs: &mut I,
     out: &mut K,
+    gate: &G,
 ) -> Ended
     // What the run is by its note, which reads it made, and which notes were owed.
     ensures run { IsRunOfWords (plan_of words.now)
         (run_of (I.state inputs.old) (I.state inputs.new) (K.state out.old) (K.state out.new) result) }
 
     // Words without a reading leave the outside as it is.
-    ensures untouched { result.note ≡ notes.Usage
+    ensures untouched { plan_of words.now ≡ None
         → (inputs.new ≡ inputs.old) × (out.new ≡ out.old) }
 {
     match read_words(alloc, words) {
-        Ok(Some(plan)) => run_plan(alloc, &plan, inputs, out),
+        Ok(Some(plan)) => run_plan(rt, alloc, &plan, inputs, out, gate),
         Ok(None) => nothing(alloc, Note::Usage),
         Err(NoMemory) => nothing(alloc, Note::Memory),
     }
@@ -228,17 +462,19 @@ pub fn give_up<E: Sink>(err: &mut E) -> u8
 
 /// Runs the program on its words, says on `err` why its run ended before its script did, and answers the status of the
 /// run. Where `err` fails too, there is nobody to tell.
-pub fn program<I: Inputs, K: Sink, E: Sink>(
+pub fn program<R: Threads + Wait + Sync, I: Inputs + Send, K: Sink + Send, E: Sink, G: Gate + Sync>(
+    rt: &R,
     alloc: Global,
     words: &[String],
     inputs: &mut I,
     out: &mut K,
     err: &mut E,
+    gate: &G,
 ) -> u8
     ensures { IsProgram (plan_of words.now) (I.state inputs.old) (I.state inputs.new)
         (K.state out.old) (K.state out.new) (E.state err.old) (E.state err.new) result }
 {
-    let ended = run(alloc, words, inputs, out);
+    let ended = run(rt, alloc, words, inputs, out, gate);
     let _ = say(&ended.note, err);
     ended.status
 }

@@ -1,5 +1,5 @@
 //! Writing lines to a sink.
-ghost use Rattle.std.specs.Prelude.{◌≡◌, ◌+◌, ◌≤◌, ◌++◌, ℕ, List, [], ◌∷◌, length, IfOk, OnOk, IfErr, OnErr, string_bytes};
+ghost use Rattle.std.specs.Prelude.{◌≡◌, ◌+◌, ◌<◌, ◌≤◌, ◌^◌, ◌++◌, ℕ, List, [], ◌∷◌, length, IfOk, OnOk, IfErr, OnErr, string_bytes};
 ghost use Rattle.cell_units.specs.Text.{line_feed};
 ghost use Rattle.display_cli.specs.Outside.{HasRisen, Takes, TakesFront};
 ghost use Rattle.display_cli.specs.Output.{printed};
@@ -45,19 +45,23 @@ pub(crate) fn write_line<K: Sink>(alloc: Global, line: &str, out: &mut K) -> Res
     Ok(())
 }
 
-/// Writes the lines of an answer, each with its line feed.
+/// Writes the lines of an answer, each with its line feed, and says how many they are.
 pub(crate) fn write_answer<K: Sink>(
     alloc: Global,
     answer: &mut Answer,
     out: &mut K,
     steps: &mut Steps,
-) -> Result<(), Stop>
+) -> Result<u64, Stop>
+    requires { length answer.old < 2 ^ 64 }
+    ensures lines { IfOk result (λ lines. lines ≡ length answer.old) }
     ensures written { OnOk result (Takes (printed answer.old) (K.state out.old) (K.state out.new)) }
     ensures stopped { IfErr result
         (IsUnwritten (printed answer.old) (K.state out.old) (K.state out.new)) }
 {
+    let mut lines: u64 = 0;
     while let Some(line) = answer.next_line(alloc, steps)? {
         write_line(alloc, line.as_str(), out)?;
+        lines += 1;
     }
-    Ok(())
+    Ok(lines)
 }

@@ -1,19 +1,30 @@
 -- How a text is opened and a script read.
-use Rattle.std.specs.Prelude.{ℕ, ◌≡◌, ◌<◌, ◌≤◌, ◌⊎◌, List, [], length, Option, IfSome}
+use Rattle.std.specs.Prelude.{ℕ, ◌≡◌, ◌<◌, ◌≤◌, ◌⊎◌, ◌↔◌, Bool, true, All, List, [], length, map, Option, Some, None, IfSome, Result, Ok, Err, OnOk}
+use Rattle.std.specs.declared.alloc.Global.{Global}
+use Rattle.std.specs.declared.vec.Vec.{Vec}
 use Rattle.cell_units.specs.Text.{clean}
 use Rattle.display_map.specs.Events.{Event}
 use Rattle.cell_units.specs.declared.limits.TheConstants.{TEXT_LIMIT}
 use Rattle.cell_units.specs.Refusal.{IsAccepted}
 use Rattle.display_map.specs.Events.{event_limit}
-use Rattle.display_map.specs.Replay.{History}
+use Rattle.display_map.specs.Replay.{History, ends}
+use Rattle.version_board.specs.Known.{Known}
+use Rattle.board_watch.specs.declared.seen.Seen.{Seen}
+use Rattle.board_watch.specs.declared.seen.Watched.{Watched}
+use Rattle.board_watch.specs.Watching.{IsWatched}
+use Rattle.command_words.specs.declared.plan.Plan.{Plan}
+use Rattle.display_cli.specs.declared.limits.TheConstants.{SCRIPT_LIMIT}
 use Rattle.display_cli.specs.declared.ended.Ended.{Ended}
 use Rattle.display_cli.specs.declared.ended.Note.{Note}
 use Rattle.display_cli.specs.declared.ended.Note.TheVariants.{Fine, ReadText, ReadScript, Write, TextNotUtf8, TextTooLong, ScriptTooLong, JournalFull, Memory}
 use Rattle.display_cli.specs.declared.stop.Stop.{Stop}
 use Rattle.display_cli.specs.declared.stop.Stop.TheVariants as stops
-use Rattle.display_cli.specs.Outside.{Faults, SinkState, HasRisen, AreTold}
+use Rattle.display_cli.specs.declared.tally.Tally.{Tally}
+use Rattle.display_cli.specs.Outside.{Faults, SinkState, HasRisen, AreTold, Takes, nowhere}
 use Rattle.display_cli.specs.Entries.{numbered_lines}
-use Rattle.display_cli.specs.Ended.{Course, IsFinished, IsStopped, IsFull, IsNotUtf8At, script_limit}
+use Rattle.display_cli.specs.Legal.{history_of}
+use Rattle.display_cli.specs.Ended.{Course, IsFinished, IsStopped, IsFull, IsNotUtf8At}
+use Rattle.display_cli.specs.inside.Going.{HasEnded, IsWhy, at}
 
 -- a display was started on accepted bytes, which are those that are told
 abbrev pub IsOpenedOn : Option (List ℕ) → History → Type 0
@@ -37,34 +48,75 @@ IsTextRefused told old new _ = ⊥
 
 -- a script was read whole, and is within its limit
 abbrev pub IsScript : Option (List ℕ) → List ℕ → Type 0
-IsScript told script = AreTold told script × (length script ≤ script_limit)
+IsScript told script = AreTold told script × (length script ≤ SCRIPT_LIMIT)
 
 -- why a script wasn't read
 abbrev pub IsScriptRefused : Option (List ℕ) → Faults → Faults → Note → Type 0
 IsScriptRefused told old new ReadScript = HasRisen old.script new.script
-IsScriptRefused told old new ScriptTooLong = IfSome told (λ script. script_limit < length script)
+IsScriptRefused told old new ScriptTooLong = IfSome told (λ script. SCRIPT_LIMIT < length script)
 IsScriptRefused told old new Memory = new ≡ old
 IsScriptRefused told old new _ = ⊥
-
--- how the run of a script ended
-abbrev pub HasRun : Course → ℕ → List Event → SinkState → Note → Type 0
-HasRun course status events sink Fine = IsFinished course events sink [] status
-HasRun course status events sink Write = IsStopped course events sink [] × HasRisen course.sink.faults sink.faults
-HasRun course status events sink JournalFull = IsStopped course events sink [] × IsFull course events
-HasRun course status events sink Memory =
-    (sink.faults ≡ course.sink.faults)
-    × ((IsStopped course events sink [] × (length events < event_limit)) ⊎ ((events ≡ []) × (sink ≡ course.sink)))
-HasRun course status events sink _ = ⊥
-
--- how the run of a script on an opening text ended, with any number of workers
-abbrev pub HasRunOn : List ℕ → List ℕ → SinkState → SinkState → Ended → Type 0
-HasRunOn opening script old new ended =
-    (workers : ℕ) → 1 ≤ workers
-    → HasRun (record { text = opening; entries = numbered_lines script; workers = workers; sink = old })
-    ended.status ended.history new ended.note
 
 -- the note of a run that stopped
 abbrev pub note_of : Stop → Note
 note_of stops.Write = Write
 note_of stops.JournalFull = JournalFull
 note_of stops.Memory = Memory
+
+-- what watchers saw
+abbrev pub seen_by : Vec Watched Global → List (List Seen)
+seen_by watched = map (λ w. w.seen.items) watched.items
+
+-- what watchers saw of a board, of which the newest version is the last one. Without a board none watched
+abbrev pub SeeLast : Option Known → List (List Seen) → Type 0
+SeeLast None watched = watched ≡ []
+SeeLast (Some writer) watched = ends writer.newest.events ≡ true → All (IsWatched writer.newest) watched
+
+-- how the play of a script ended, with what the watchers saw written behind it
+abbrev pub HasWatched : Option ℕ → Course → List Event → SinkState → List (List Seen) → Result Tally Stop → Type 0
+HasWatched make course events sink watched (Ok tally) =
+    (status : ℕ) → ((status ≡ 1) ↔ (1 ≤ tally.refused)) → IsFinished make course events sink watched status
+HasWatched make course events sink watched (Err stop) =
+    IsStopped make course events sink watched × IsWhy course (at (history_of course.text events) sink) stop
+
+-- so many watchers ended their watch behind a play that ended so, whose last version the writer shows
+abbrev pub EndsWatch : Result Tally Stop → Option Known → ℕ → SinkState → SinkState → Result Tally Stop → List (List Seen) → Type 0
+EndsWatch played writer count old new result watched =
+    (make : Option ℕ) (course : Course) (h : History) → HasEnded make course (at h old) played → OnOk played (IfSome writer (λ w. w.newest ≡ h)) → count ≤ course.watchers
+    → OnOk played (count ≡ course.watchers) → HasWatched make course h.events new watched result
+
+-- the note and the status of a play that ended so
+abbrev pub IsNoteOf : Result Tally Stop → ℕ → Note → Type 0
+IsNoteOf (Ok tally) status note = (note ≡ Fine) × ((status ≡ 1) ↔ (1 ≤ tally.refused))
+IsNoteOf (Err stop) status note = note ≡ note_of stop
+
+-- how the run of a script ended
+abbrev pub HasRun : Option ℕ → Course → ℕ → List Event → SinkState → List (List Seen) → Note → Type 0
+HasRun make course status events sink watched Fine = IsFinished make course events sink watched status
+HasRun make course status events sink watched Write =
+    IsStopped make course events sink watched × HasRisen course.sink.faults sink.faults
+HasRun make course status events sink watched JournalFull = IsStopped make course events sink watched × IsFull course events
+HasRun make course status events sink watched Memory =
+    (sink.faults ≡ course.sink.faults)
+    × ((IsStopped make course events sink watched × (length events < event_limit))
+    ⊎ ((events ≡ []) × (watched ≡ []) × (sink ≡ course.sink)))
+HasRun make course status events sink watched _ = ⊥
+
+-- how the run of a script on an opening text ended, with the threads of a plan
+abbrev pub HasRunOn : Plan → List ℕ → List ℕ → SinkState → SinkState → Ended → Type 0
+HasRunOn plan opening script old new ended =
+    HasRun plan.make (record { text = opening; entries = numbered_lines script; workers = plan.workers; watchers = plan.watchers; sink = old })
+    ended.status ended.history new (seen_by ended.watched) ended.note
+
+-- ---- a made run
+
+-- the same course to a sink that tells what it took, and of which no write fails
+abbrev pub to_nowhere : Course → List ℕ → Course
+to_nowhere course taken = record course { sink = nowhere taken }
+
+-- a play whose answers went to such a sink ended so, and where it came to its end the summary was written
+abbrev pub Reports : Result Tally Stop → History → SinkState → SinkState → Result Tally Stop → Type 0
+Reports played h old new result =
+    (number : ℕ) (course : Course) (before behind : List ℕ) → Takes [] course.sink old
+    → HasEnded None (to_nowhere course before) (at h (nowhere behind)) played
+    → HasEnded (Some number) course (at h new) result

@@ -1,9 +1,16 @@
 //! Runs whose output is known, and the edges that no contract sees through.
+mod changing;
 mod examples;
+mod faults;
+mod headers;
+mod made;
 mod outside;
 mod refusals;
 mod rows;
+mod schedules;
+mod source;
 mod spots;
+mod threads;
 
 use crate::ended::Ended;
 use crate::inputs::{MapInputs, NamedBytes};
@@ -12,6 +19,9 @@ use crate::top::run;
 use cell_units::{NoMemory, Text};
 use std::alloc::Global;
 use std::process::Abort;
+use std::sync::Wait;
+use std::thread::Threads;
+use wrap_workers::{FreeGate, Gate};
 
 /// The end of a run, and what was written.
 #[derive(Drop)]
@@ -57,23 +67,64 @@ fn inputs_of(
     Ok(MapInputs::new(files, Vec::from_slice(alloc, failing)?))
 }
 
+/// Runs the words on the text `a` and the script `b`, where the reads and writes of some numbers fail.
+fn run_failing<R: Threads + Wait + Sync, G: Gate + Sync>(
+    rt: &R,
+    alloc: Global,
+    words: &[&str],
+    text: &[u8],
+    script: &[u8],
+    failing_reads: &[u64],
+    failing_writes: &[u64],
+    gate: &G,
+) -> Result<Outcome, NoMemory> {
+    let mut inputs = inputs_of(alloc, text, script, failing_reads)?;
+    let mut out = ListSink::new(alloc, Vec::from_slice(alloc, failing_writes)?);
+    let words = strings(alloc, words)?;
+    let ended = run(rt, alloc, words.as_slice(), &mut inputs, &mut out, gate);
+    Ok(Outcome { ended, out })
+}
+
+/// Runs the words on the text `a` and the script `b`.
+fn run_words<R: Threads + Wait + Sync, G: Gate + Sync>(
+    rt: &R,
+    alloc: Global,
+    words: &[&str],
+    text: &[u8],
+    script: &[u8],
+    gate: &G,
+) -> Result<Outcome, NoMemory> {
+    run_failing(rt, alloc, words, text, script, &[], &[], gate)
+}
+
 /// Runs the script `b` on the text `a`, where the reads and writes of some numbers fail.
-fn run_of(
+fn run_of<R: Threads + Wait + Sync>(
+    rt: &R,
     alloc: Global,
     text: &[u8],
     script: &[u8],
     failing_reads: &[u64],
     failing_writes: &[u64],
 ) -> Result<Outcome, NoMemory> {
-    let mut inputs = inputs_of(alloc, text, script, failing_reads)?;
-    let mut out = ListSink::new(alloc, Vec::from_slice(alloc, failing_writes)?);
-    let words = strings(alloc, &["a", "b"])?;
-    let ended = run(alloc, words.as_slice(), &mut inputs, &mut out);
-    Ok(Outcome { ended, out })
+    let words = ["a", "b"];
+    run_failing(
+        rt,
+        alloc,
+        &words,
+        text,
+        script,
+        failing_reads,
+        failing_writes,
+        &FreeGate,
+    )
 }
 
-/// Runs each session, and compares what is written, and whether a line is refused.
-fn expect<R: Abort>(rt: &R, alloc: Global, sessions: &[Session]) -> Result<(), NoMemory> {
+/// Runs each session with 1, 2 and 8 workers, and compares what is written, and whether a line is refused.
+fn expect<R: Abort + Threads + Wait + Sync>(
+    rt: &R,
+    alloc: Global,
+    sessions: &[Session],
+) -> Result<(), NoMemory> {
     for session in sessions {
         let Session {
             shows,
@@ -81,10 +132,20 @@ fn expect<R: Abort>(rt: &R, alloc: Global, sessions: &[Session]) -> Result<(), N
             script,
             written,
         } = *session;
-        let outcome = run_of(alloc, text.as_bytes(), script.as_bytes(), &[], &[])?;
-        assert_eq!(rt; outcome.out.taken(), written.as_bytes(), "{shows}");
-        let refused = written.starts_with("! ") || written.contains("\n! ");
-        assert_eq!(rt; outcome.ended.status, u8::from(refused), "{shows}");
+        for workers in ["1", "2", "8"] {
+            let words = ["a", "b", "--workers", workers];
+            let outcome = run_words(
+                rt,
+                alloc,
+                &words,
+                text.as_bytes(),
+                script.as_bytes(),
+                &FreeGate,
+            )?;
+            assert_eq!(rt; outcome.out.taken(), written.as_bytes(), "{shows}");
+            let refused = written.starts_with("! ") || written.contains("\n! ");
+            assert_eq!(rt; outcome.ended.status, u8::from(refused), "{shows}");
+        }
     }
     Ok(())
 }

@@ -9,7 +9,10 @@ use cell_units::NoMemory;
 use std::alloc::Global;
 use std::fs;
 use std::io::{Error, ErrorKind, Write};
+use std::sync::Wait;
 use std::test::Fail;
+use std::thread::Threads;
+use wrap_workers::FreeGate;
 
 #[test]
 fn what_is_read_is_judged_by_its_limits(rt: HostRuntime) -> Result<(), Fail> {
@@ -22,7 +25,7 @@ fn what_is_read_is_judged_by_its_limits(rt: HostRuntime) -> Result<(), Fail> {
         (b"abc", script.as_slice(), Note::ScriptTooLong),
     ];
     for (text, script, note) in table {
-        let outcome = run_of(alloc, text, script, &[], &[])?;
+        let outcome = run_of(&rt, alloc, text, script, &[], &[])?;
         assert_eq!(rt; outcome.ended.note, note);
         assert_eq!(rt; outcome.ended.status, 5);
         assert!(rt; outcome.out.taken().is_empty());
@@ -42,10 +45,11 @@ fn a_text_of_just_the_limit_is_accepted_and_no_edit_goes_past_it(
         text.push(b'\n')?;
     }
     assert_eq!(rt; text.len(), 33_554_432);
-    let script = br#"{"rows":[524287,9]}
+    let script = br#"{"width":0}
+{"rows":[524287,9]}
 {"edit":[[0,0,"x"]]}
 {"rows":[0,1]}"#;
-    let outcome = run_of(alloc, text.as_slice(), script, &[], &[])?;
+    let outcome = run_of(&rt, alloc, text.as_slice(), script, &[], &[])?;
     let written = format!(in alloc; "524287 t|{line}\n524288 t|\n! 5\n0 t|{line}\n")?;
     assert_eq!(rt; outcome.out.taken(), written.as_bytes());
     assert_eq!(rt; outcome.ended.status, 1);
@@ -64,7 +68,7 @@ fn a_fault_outside_ends_the_run(rt: HostRuntime) -> Result<(), Fail> {
         (&[], &[2], Note::Write, 4, "0 t|a\n"),
     ];
     for (reads, writes, note, status, written) in table {
-        let outcome = run_of(alloc, b"a\nb", script, reads, writes)?;
+        let outcome = run_of(&rt, alloc, b"a\nb", script, reads, writes)?;
         assert_eq!(rt; outcome.ended.note, note);
         assert_eq!(rt; outcome.ended.status, status);
         assert_eq!(rt; outcome.out.taken(), written.as_bytes());
@@ -73,7 +77,11 @@ fn a_fault_outside_ends_the_run(rt: HostRuntime) -> Result<(), Fail> {
 }
 
 /// Runs the program on words, with the text `a`, the text `c` that isn't UTF-8, and no `b`. Answers its status and what it says.
-fn said(alloc: Global, words: &[&str]) -> Result<(u8, ListSink), NoMemory> {
+fn said<R: Threads + Wait + Sync>(
+    rt: &R,
+    alloc: Global,
+    words: &[&str],
+) -> Result<(u8, ListSink), NoMemory> {
     let mut files = Vec::new(alloc);
     files.push(file(alloc, "a", b"a")?)?;
     files.push(file(alloc, "c", b"abc\xff")?)?;
@@ -81,7 +89,15 @@ fn said(alloc: Global, words: &[&str]) -> Result<(u8, ListSink), NoMemory> {
     let mut out = ListSink::new(alloc, Vec::new(alloc));
     let mut err = ListSink::new(alloc, Vec::new(alloc));
     let words = strings(alloc, words)?;
-    let status = program(alloc, words.as_slice(), &mut inputs, &mut out, &mut err);
+    let status = program(
+        rt,
+        alloc,
+        words.as_slice(),
+        &mut inputs,
+        &mut out,
+        &mut err,
+        &FreeGate,
+    );
     Ok((status, err))
 }
 
@@ -99,7 +115,7 @@ fn the_program_says_why_its_run_ended(rt: HostRuntime) -> Result<(), Fail> {
         ),
     ];
     for (words, status, line) in table {
-        let (ended, err) = said(rt.alloc(), words)?;
+        let (ended, err) = said(&rt, rt.alloc(), words)?;
         assert_eq!(rt; ended, status, "{line}");
         assert_eq!(rt; err.taken(), line.as_bytes());
     }
@@ -115,7 +131,15 @@ fn a_program_with_a_refused_line_says_nothing_and_ends_with_status_1(
     let mut out = ListSink::new(alloc, Vec::new(alloc));
     let mut err = ListSink::new(alloc, Vec::new(alloc));
     let words = strings(alloc, &["a", "b"])?;
-    let status = program(alloc, words.as_slice(), &mut inputs, &mut out, &mut err);
+    let status = program(
+        &rt,
+        alloc,
+        words.as_slice(),
+        &mut inputs,
+        &mut out,
+        &mut err,
+        &FreeGate,
+    );
     assert_eq!(rt; status, 1);
     assert_eq!(rt; out.taken(), b"! 1\n".as_slice());
     assert!(rt; err.taken().is_empty());
@@ -131,7 +155,14 @@ fn nothing_fails_over_sure_inputs_and_a_sure_sink(rt: HostRuntime) -> Result<(),
     let mut inputs = SureInputs::new(files);
     let mut out = SureSink::new();
     let words = strings(alloc, &["a", "b"])?;
-    let ended = run(alloc, words.as_slice(), &mut inputs, &mut out);
+    let ended = run(
+        &rt,
+        alloc,
+        words.as_slice(),
+        &mut inputs,
+        &mut out,
+        &FreeGate,
+    );
     assert_eq!(rt; ended.status, 0);
     Ok(())
 }
@@ -164,7 +195,14 @@ fn a_folder_and_a_missing_file_cannot_be_read(rt: HostRuntime) -> Result<(), Fai
         let mut inputs = FileInputs::new(&rt);
         let mut out = ListSink::new(alloc, Vec::new(alloc));
         let words = strings(alloc, &words)?;
-        let ended = run(alloc, words.as_slice(), &mut inputs, &mut out);
+        let ended = run(
+            &rt,
+            alloc,
+            words.as_slice(),
+            &mut inputs,
+            &mut out,
+            &FreeGate,
+        );
         assert_eq!(rt; ended.note, note);
         assert_eq!(rt; ended.status, 3);
         assert!(rt; out.taken().is_empty());
@@ -214,7 +252,14 @@ fn a_writer_may_take_parts_and_ends_the_run_where_it_fails_or_takes_nothing(
         let taken = Vec::new(alloc);
         let mut out = StreamSink::new(Slow { taken, most, calls });
         let words = strings(alloc, &["a", "b"])?;
-        let ended = run(alloc, words.as_slice(), &mut inputs, &mut out);
+        let ended = run(
+            &rt,
+            alloc,
+            words.as_slice(),
+            &mut inputs,
+            &mut out,
+            &FreeGate,
+        );
         assert_eq!(rt; ended.note, note);
         assert_eq!(rt; out.into_inner().taken.as_slice(), written.as_bytes());
     }

@@ -44,29 +44,6 @@ fn refused_lines_print_their_numbers_and_change_nothing(rt: HostRuntime) -> Resu
 }
 
 #[test]
-fn points_and_late_headers_are_no_commands(rt: HostRuntime) -> Result<(), Fail> {
-    let sessions = [
-        Session {
-            shows: "a point is no offset where no header says so",
-            text: "héllo\nx",
-            script: r#"{"edit":[[[0,2,"left"],[0,2,"right"],"e"]]}
-{"rows":[0,9]}
-{"display":[[9,0,"left"],"left"]}"#,
-            written: "! 1\n0 t|héllo\n1 t|x\n! 1\n",
-        },
-        Session {
-            shows: "a header behind another line is no command",
-            text: "a",
-            script: r#"{"tab":4}
-{"script":2}"#,
-            written: "! 1\n",
-        },
-    ];
-    expect(&rt, rt.alloc(), &sessions)?;
-    Ok(())
-}
-
-#[test]
 fn hostile_lines_are_answered_by_their_numbers(rt: HostRuntime) -> Result<(), Fail> {
     let alloc = rt.alloc();
     let lines: [(&[u8], &str); 19] = [
@@ -91,7 +68,7 @@ fn hostile_lines_are_answered_by_their_numbers(rt: HostRuntime) -> Result<(), Fa
         (br#"{"rows":[4294967296,4294967296]}"#, ""),
     ];
     for (line, written) in lines {
-        let outcome = run_of(alloc, b"abcdef", line, &[], &[])?;
+        let outcome = run_of(&rt, alloc, b"abcdef", line, &[], &[])?;
         assert_eq!(rt; outcome.out.taken(), written.as_bytes(), "{line:?}");
     }
     Ok(())
@@ -114,10 +91,10 @@ fn of_two_equal_keys_the_last_one_counts(rt: HostRuntime) -> Result<(), Fail> {
 fn a_blank_line_is_skipped_up_to_the_limit_of_a_line(rt: HostRuntime) -> Result<(), Fail> {
     let alloc = rt.alloc();
     let mut blank = vec![in alloc; b' '; 1_048_576]?;
-    let outcome = run_of(alloc, b"abcdef", blank.as_slice(), &[], &[])?;
+    let outcome = run_of(&rt, alloc, b"abcdef", blank.as_slice(), &[], &[])?;
     assert!(rt; outcome.out.taken().is_empty());
     blank.push(b' ')?;
-    let outcome = run_of(alloc, b"abcdef", blank.as_slice(), &[], &[])?;
+    let outcome = run_of(&rt, alloc, b"abcdef", blank.as_slice(), &[], &[])?;
     assert_eq!(rt; outcome.out.taken(), b"! 5\n".as_slice());
     Ok(())
 }

@@ -1,31 +1,47 @@
--- How the run of a script ended is what its play says.
-use Rattle.std.proofs.Common.{◌≡◌, Bool, Result, refl, subst, sym, ap, rules}
-use Rattle.display_cli.specs.declared.stop.Stop.{Stop}
-use Rattle.display_cli.specs.declared.ended.Note.TheVariants as notes
-use Rattle.display_cli.specs.Entries.{numbered_lines}
-use Rattle.display_cli.specs.Ended.{Course}
+-- An owner is opened, plays the script, and its watch ends; or there was no memory to open it.
+use Rattle.std.proofs.Common.{◌≡◌, ℕ, ◌≤◌, List, length, map, refl, sym, ap, ◌∙◌, subst, arith}
+use Rattle.std.specs.Prelude.{OnOk}
+use Rattle.std.specs.declared.alloc.Global.{Global}
+use Rattle.std.specs.declared.vec.Vec.{Vec}
+use Rattle.board_watch.specs.declared.seen.Watched.{Watched}
 use Rattle.display_cli.specs.Outside.{SinkState}
-use Rattle.display_cli.specs.inside.Going.{HasEnded, stage}
-use Rattle.display_cli.specs.inside.Opening.{HasRun}
-use Rattle.display_cli.proofs.Headline.{run-ok, run-err}
+use Rattle.display_cli.specs.Entries.{numbered_lines}
+use Rattle.display_cli.specs.inside.Opening.{EndsWatch, seen_by}
+use Rattle.display_cli.proofs.Headline.{run-unopened}
+use Rattle.display_cli.proofs.Opened.{opened-boards, run-opened}
 use Rattle.display_cli.proofs.top.run_script.Goals as goal
 
+pub play_plan-left-requires-clause-readers : goal.play_plan-left-requires-clause-readers
+play_plan-left-requires-clause-readers g c κs live =
+    opened-boards c.args.display c.requires.events c.args.plan.now.workers c.args.plan.now.watchers c.in-Ok.opened c.in-Ok.ensures.opened
+
 pub returns-in-Ok-clause-run : goal.returns-in-Ok-clause-run
-returns-in-Ok-clause-run g c workers some =
-    let course : Course = record { text = c.args.display.opening; entries = numbered_lines c.args.script.now; workers = workers; sink = g.K.Sink.state c.args.out.now } in
-    let P : Result Bool Stop → Type 0 = HasEnded course (stage g.K.Sink.state c.play-played.new.self) in
-    let Q : SinkState → Type 0 = λ k. HasRun course c.fine_status.result c.into_journal-history.result k notes.Fine in
-    let same : c.out-1.given.0 ≡ c.play-played.new.self.out.now = search rules in
-    subst Q (ap g.K.Sink.state (sym same))
-    (run-ok course c.in-Ok.refused (stage g.K.Sink.state c.play-played.new.self) c.fine_status.result c.into_journal-history.result notes.Fine
-    (subst P c.in-Ok.is (c.play-played.ensures.played workers some)) c.into_journal-history.ensures c.fine_status.ensures.refused refl)
+returns-in-Ok-clause-run g c =
+    let old : SinkState = g.K.Sink.state c.args.out.now in
+    let mid : SinkState = g.K.Sink.state c.play_plan-left.new.out in
+    let after : SinkState = g.K.Sink.state c.end_watch-played.new.out in
+    let left = c.play_plan-left.result.0 in
+    let count : ℕ = c.play_plan-left.result.1.len in
+    let many : c.in-Ok.opened.readers.len ≡ length c.in-Ok.opened.readers.items = omega (arith, c.in-Ok.opened.readers.ok.0) in
+    let few : count ≤ length c.in-Ok.opened.readers.items = omega (arith, many, c.play_plan-left.ensures.few) in
+    let N : ℕ → Type 0 = λ n. OnOk left.played (count ≡ n) in
+    let W : Vec Watched Global → Type 0 = λ w. EndsWatch left.played left.writer count mid after c.end_watch-played.result.0 (seen_by w) in
+    run-opened c.args.plan.now c.args.display c.args.script.now old mid after c.in-Ok.opened left count c.end_watch-played.result.0
+    (seen_by c.ended_as.result.watched) c.ended_as.result.status c.ended_as.result.history c.ended_as.result.note c.requires.events
+    c.in-Ok.ensures.opened c.play_plan-left.ensures.left (subst W (sym c.ended_as.ensures.watched) c.end_watch-played.ensures) few
+    (subst N many c.play_plan-left.ensures.all) (c.ended_as.ensures.history ∙ c.into_journal.ensures) c.ended_as.ensures.note
 
 pub returns-in-Err-clause-run : goal.returns-in-Err-clause-run
-returns-in-Err-clause-run g c workers some =
-    let course : Course = record { text = c.args.display.opening; entries = numbered_lines c.args.script.now; workers = workers; sink = g.K.Sink.state c.args.out.now } in
-    let P : Result Bool Stop → Type 0 = HasEnded course (stage g.K.Sink.state c.play-played.new.self) in
-    let Q : SinkState → Type 0 = λ k. HasRun course c.status_of.result c.into_journal-history.result k c.note_of-note.result in
-    let same : c.out-1.given.0 ≡ c.play-played.new.self.out.now = search rules in
-    subst Q (ap g.K.Sink.state (sym same))
-    (run-err course (stage g.K.Sink.state c.play-played.new.self) c.status_of.result c.into_journal-history.result c.in-Err.stop c.note_of-note.result
-    (subst P c.in-Err.is (c.play-played.ensures.played workers some)) c.into_journal-history.ensures c.note_of-note.ensures)
+returns-in-Err-clause-run g c =
+    let plan = c.args.plan.now in
+    let empty : seen_by c.ended_as-in-Err.result.watched ≡ seen_by c.new.result = ap seen_by c.ended_as-in-Err.ensures.watched in
+    run-unopened plan.make (record {
+      text = c.args.display.opening;
+      entries = numbered_lines c.args.script.now;
+      workers = plan.workers;
+      watchers = plan.watchers;
+      sink = g.K.Sink.state c.args.out.now;
+    }) c.args.display c.in-Err.display c.ended_as-in-Err.result.status c.ended_as-in-Err.result.note c.ended_as-in-Err.result.history
+    (seen_by c.ended_as-in-Err.result.watched) refl c.requires.events c.in-Err.ensures.unopened
+    (c.ended_as-in-Err.ensures.history ∙ c.into_journal-in-Err.ensures)
+    (empty ∙ ap (map (λ (w : Watched). w.seen.items)) c.new.ensures.items) c.ended_as-in-Err.ensures.note

@@ -1,10 +1,14 @@
--- The lines before those that are left were written.
-use Rattle.std.proofs.Common.{length}
+-- The lines before those that are left were written and counted.
+use Rattle.std.proofs.Common.{◌≡◌, ◌+◌, length}
 use Rattle.display_cli.proofs.Fronts.{AreWritten}
 use Rattle.display_cli.proofs.write.write_answer.Given as goal
 
 abbrev pub invariant-loop-line : goal.invariant-loop-line
-invariant-loop-line g l = AreWritten l.initial.answer l.answer (g.K.Sink.state l.initial.out) (g.K.Sink.state l.out)
+invariant-loop-line g l =
+    record {
+      written : AreWritten l.initial.answer l.answer (g.K.Sink.state l.initial.out) (g.K.Sink.state l.out);
+      counted : l.lines + length l.answer ≡ length l.initial.answer;
+    }
 
 abbrev pub decreases-loop-line : goal.decreases-loop-line
 decreases-loop-line g l = length l.answer

@@ -1,54 +1,55 @@
 -- The line is recorded, and then its change is done or its refusal is written.
-use Rattle.std.proofs.Common.{Option, subst, arith}
+use Rattle.std.proofs.Common.{◌≡◌, true, Option, subst, arith}
 use Rattle.cell_units.specs.declared.fault.Refusal.{Refusal}
-use Rattle.display_cli.specs.inside.Going.{HasChanged}
-use Rattle.display_cli.proofs.Handled.{change-unrecorded, change-stopped, change-refused, change-unwritten, change-done, ready-changed, ready-refused}
+use Rattle.display_map.specs.Replay.{present_of, is_settled}
+use Rattle.display_sheet.specs.declared.change.Change.{Change}
+use Rattle.display_sheet.specs.Changes.{change_refusal}
+use Rattle.display_owner.specs.declared.owner.Owner.{Owner}
+use Rattle.display_cli.specs.inside.Going.{HasChanged, IsAbreast, MayHandle}
+use Rattle.display_cli.proofs.Handled.{change_verdict, change-calm, change-unrecorded, change-stopped, change-refused, change-unwritten, change-done}
+use Rattle.display_cli.proofs.Sends.{may-handle}
 use Rattle.display_cli.proofs.runner.Runner.change.Goals as goal
+
+may : (owner : Owner) (change : Change) → IsAbreast owner → MayHandle owner.crew.workers owner.display (change_verdict owner.display change)
+may owner change abreast =
+    may-handle owner (change_verdict owner.display change) abreast
+    (change-calm change (change_refusal (present_of owner.display) change) (is_settled (present_of owner.display) ≡ true))
 
 pub returns-in_err-record_line-clause-handled : goal.returns-in_err-record_line-clause-handled
 returns-in_err-record_line-clause-handled g c =
-    change-unrecorded c.args.number c.args.self.now.display (g.K.Sink.state c.args.self.now.out.now) c.requires c.args.change.now
-    c.record_line.new.display c.from_residual.result c.in_err-record_line.field-0.0 c.operations.result c.from_residual.ensures.1
+    change-unrecorded c.args.self.now.owner.crew.workers c.args.number c.args.self.now.owner.display (g.K.Sink.state c.args.self.now.out.now) c.requires.room
+    c.args.change.now c.record_line.new.owner.display c.from_residual.result c.in_err-record_line.field-0.0 c.operations.result c.from_residual.ensures.1
     c.in_err-record_line.ensures.unchanged c.in_err-record_line.ensures.why c.operations.ensures.asked
 
 pub returns-in_err-refusal-clause-handled : goal.returns-in_err-refusal-clause-handled
 returns-in_err-refusal-clause-handled g c =
     let most = c.operations.ensures.most in
     let room = c.in_ok-record_line.ensures.room in
-    change-stopped c.args.number c.args.self.now.display (g.K.Sink.state c.args.self.now.out.now) c.requires c.record_line.new.display
-    c.in_ok-record_line.ensures.recorded c.args.change.now c.apply_change.new.display c.from_residual-in_err-refusal.result
-    c.in_err-refusal.field-0.0 c.from_residual-in_err-refusal.ensures.1 c.in_err-refusal.ensures.memory (omega arith)
-    c.in_err-refusal.ensures.stopped
+    change-stopped c.args.self.now.owner.crew.workers c.args.number c.args.self.now.owner.display (g.K.Sink.state c.args.self.now.out.now) c.args.change.now
+    (may c.args.self.now.owner c.args.change.now c.requires) c.record_line.new.owner.display c.in_ok-record_line.ensures.recorded
+    c.apply_change.new.owner.display c.from_residual-in_err-refusal.result c.in_err-refusal.field-0.0 c.from_residual-in_err-refusal.ensures.1
+    c.in_err-refusal.ensures.memory (omega arith) c.in_err-refusal.ensures.stopped
 
 pub returns-in_err-write_refusal-in-Some-clause-handled : goal.returns-in_err-write_refusal-in-Some-clause-handled
 returns-in_err-write_refusal-in-Some-clause-handled g c =
-    let H : Option Refusal → Type 0 = λ r. HasChanged c.record_line.new.display c.args.change.now c.apply_change.new.display r in
-    change-unwritten c.args.number c.args.self.now.display (g.K.Sink.state c.args.self.now.out.now) c.requires c.record_line.new.display
-    c.in_ok-record_line.ensures.recorded c.args.change.now c.in-Some.refusal c.apply_change.new.display (g.K.Sink.state c.write_refusal.new.out)
+    let H : Option Refusal → Type 0 = λ r. HasChanged c.record_line.new.owner.display c.args.change.now c.apply_change.new.owner.display r in
+    change-unwritten c.args.self.now.owner.crew.workers c.args.number c.args.self.now.owner.display (g.K.Sink.state c.args.self.now.out.now) c.args.change.now
+    (may c.args.self.now.owner c.args.change.now c.requires) c.record_line.new.owner.display c.in_ok-record_line.ensures.recorded
+    c.in-Some.refusal c.apply_change.new.owner.display (g.K.Sink.state c.write_refusal.new.out)
     c.from_residual-in_err-write_refusal-in-Some.result c.in_err-write_refusal-in-Some.field-0.0 c.from_residual-in_err-write_refusal-in-Some.ensures.1
     (subst H c.in-Some.is c.in_ok-refusal.ensures.changed) c.in_err-write_refusal-in-Some.ensures.stopped
 
 pub returns-in_ok-write_refusal-in-Some-clause-handled : goal.returns-in_ok-write_refusal-in-Some-clause-handled
 returns-in_ok-write_refusal-in-Some-clause-handled g c =
-    let H : Option Refusal → Type 0 = λ r. HasChanged c.record_line.new.display c.args.change.now c.apply_change.new.display r in
-    change-refused c.args.number c.args.self.now.display (g.K.Sink.state c.args.self.now.out.now) c.requires c.record_line.new.display
-    c.in_ok-record_line.ensures.recorded c.args.change.now c.in-Some.refusal c.apply_change.new.display (g.K.Sink.state c.write_refusal.new.out)
+    let H : Option Refusal → Type 0 = λ r. HasChanged c.record_line.new.owner.display c.args.change.now c.apply_change.new.owner.display r in
+    change-refused c.args.self.now.owner.crew.workers c.args.number c.args.self.now.owner.display (g.K.Sink.state c.args.self.now.out.now) c.args.change.now
+    (may c.args.self.now.owner c.args.change.now c.requires) c.record_line.new.owner.display c.in_ok-record_line.ensures.recorded
+    c.in-Some.refusal c.apply_change.new.owner.display (g.K.Sink.state c.write_refusal.new.out)
     (subst H c.in-Some.is c.in_ok-refusal.ensures.changed) c.in_ok-write_refusal-in-Some.ensures.written
-
-pub returns-in_ok-write_refusal-in-Some-clause-ready : goal.returns-in_ok-write_refusal-in-Some-clause-ready
-returns-in_ok-write_refusal-in-Some-clause-ready g c =
-    let H : Option Refusal → Type 0 = λ r. HasChanged c.record_line.new.display c.args.change.now c.apply_change.new.display r in
-    ready-refused c.args.self.now.display c.record_line.new.display c.apply_change.new.display c.args.number c.args.change.now c.in-Some.refusal
-    c.in_ok-record_line.ensures.recorded (subst H c.in-Some.is c.in_ok-refusal.ensures.changed) c.requires.ready
 
 pub returns-in-None-clause-handled : goal.returns-in-None-clause-handled
 returns-in-None-clause-handled g c =
-    let H : Option Refusal → Type 0 = λ r. HasChanged c.record_line.new.display c.args.change.now c.apply_change.new.display r in
-    change-done c.args.number c.args.self.now.display (g.K.Sink.state c.args.self.now.out.now) c.requires c.record_line.new.display
-    c.in_ok-record_line.ensures.recorded c.args.change.now c.apply_change.new.display (subst H c.in-None.is c.in_ok-refusal.ensures.changed)
-
-pub returns-in-None-clause-ready : goal.returns-in-None-clause-ready
-returns-in-None-clause-ready g c =
-    let H : Option Refusal → Type 0 = λ r. HasChanged c.record_line.new.display c.args.change.now c.apply_change.new.display r in
-    ready-changed c.args.self.now.display c.record_line.new.display c.apply_change.new.display c.args.number c.args.change.now
-    c.in_ok-record_line.ensures.recorded (subst H c.in-None.is c.in_ok-refusal.ensures.changed) c.requires.ready
+    let H : Option Refusal → Type 0 = λ r. HasChanged c.record_line.new.owner.display c.args.change.now c.apply_change.new.owner.display r in
+    change-done c.args.self.now.owner.crew.workers c.args.number c.args.self.now.owner.display (g.K.Sink.state c.args.self.now.out.now) c.args.change.now
+    (may c.args.self.now.owner c.args.change.now c.requires) c.record_line.new.owner.display c.in_ok-record_line.ensures.recorded
+    c.apply_change.new.owner.display (subst H c.in-None.is c.in_ok-refusal.ensures.changed)

@@ -1,41 +1,54 @@
--- What the line is read as has its verdict.
+-- What the line is read as has its verdict, on the display as it is when the line is recorded.
+use Rattle.std.proofs.Common.{◌≡◌, ◌∙◌, ◌∷◌, sym, ap}
 use Rattle.display_map.specs.Replay.{present_of}
 use Rattle.edit_script.specs.Commands.{Ask, Settle}
-use Rattle.edit_script.specs.Verdict.{Refused, Accepted, refused_or, query_refusal}
+use Rattle.edit_script.specs.Verdict.{Accepted, refused_or, query_refusal}
 use Rattle.display_cli.specs.Entries.{Bytes}
-use Rattle.display_cli.specs.inside.Going.{Stage, stage}
-use Rattle.display_cli.proofs.Handled.{stage-same, handles-at, change-at, verdict-change, verdict-settle, asked-change, verdict-refused, query-judged}
+use Rattle.display_cli.specs.inside.Going.{at, stage}
+use Rattle.display_cli.proofs.Handled.{handled-err, verdict-change, verdict-query, verdict-settle, asked-change, handles-unread}
+use Rattle.display_cli.proofs.ReadLines.{read-as, read-still, unread-as, unread-still}
 use Rattle.display_cli.proofs.runner.Runner.handle_line.Goals as goal
 
+pub returns-in_err-prepare-clause-handled : goal.returns-in_err-prepare-clause-handled
+returns-in_err-prepare-clause-handled g c course left tally same going =
+    handled-err course left tally (at c.prepare.new.owner.display (g.K.Sink.state c.args.self.now.out.now)) c.from_residual.result c.in_err-prepare.field-0.0
+    c.from_residual.ensures.1
+    (c.in_err-prepare.ensures.going course ((c.args.number, Bytes c.args.self.now.form c.args.line.now) ∷ left) tally (g.K.Sink.state c.args.self.now.out.now) same going)
+
 pub returns-in-Ok-Change-clause-handled : goal.returns-in-Ok-Change-clause-handled
-returns-in-Ok-Change-clause-handled g c course left refused going =
-    let old : Stage = stage g.K.Sink.state c.args.self.now in
-    let mid : Stage = stage g.K.Sink.state c.read.new.self in
-    change-at c.args.number c.in-Ok-Change.change old mid (stage g.K.Sink.state c.change.new.self) c.change.result
-    (stage-same old mid c.read.ensures.display c.read.ensures.kept) c.change.ensures.handled course left refused (Bytes c.args.self.now.form c.args.line.now) going
-    (verdict-change c.args.self.now.form (present_of c.args.self.now.display) c.args.line.now c.in-Ok-Change.field-0 c.in-Ok-Change.change c.in-Ok-Change.ensures.read c.in-Ok-Change.field-0-is)
-    (asked-change c.args.self.now.form (present_of c.args.self.now.display) c.args.line.now c.in-Ok-Change.field-0 c.in-Ok-Change.change c.in-Ok-Change.ensures.read c.in-Ok-Change.field-0-is)
+returns-in-Ok-Change-clause-handled g c course left tally same going =
+    let before = c.in_ok-prepare.ensures.going course ((c.args.number, Bytes c.args.self.now.form c.args.line.now) ∷ left) tally (g.K.Sink.state c.args.self.now.out.now) same going in
+    let read = read-still c.args.self.now.form (present_of c.args.self.now.owner.display).text (present_of c.prepare.new.owner.display).text c.args.line.now
+    c.in-Ok-Change.field-0 c.in_ok-prepare.ensures.text
+    (read-as c.args.self.now.form (present_of c.args.self.now.owner.display).text c.args.line.now c.read-read.result c.in-Ok-Change.field-0 c.in-Ok-Change.is c.read-read.ensures.read) in
+    c.change.ensures.handled course left tally (Bytes c.args.self.now.form c.args.line.now) (same ∙ sym c.prepare.ensures.team.workers) before
+    (verdict-change c.args.self.now.form (present_of c.prepare.new.owner.display) c.args.line.now c.in-Ok-Change.field-0 c.in-Ok-Change.change read c.in-Ok-Change.field-0-is)
+    (asked-change c.args.self.now.form (present_of c.prepare.new.owner.display) c.args.line.now c.in-Ok-Change.field-0 c.in-Ok-Change.change read c.in-Ok-Change.field-0-is)
 
 pub returns-in-Ok-Query-clause-handled : goal.returns-in-Ok-Query-clause-handled
-returns-in-Ok-Query-clause-handled g c course left refused going =
-    let old : Stage = stage g.K.Sink.state c.args.self.now in
-    let mid : Stage = stage g.K.Sink.state c.read.new.self in
-    handles-at c.args.number (refused_or (Ask c.in-Ok-Query.query) (query_refusal (present_of c.read.new.self.display) c.in-Ok-Query.query)) old mid (stage g.K.Sink.state c.answer.new.self) c.answer.result
-    (stage-same old mid c.read.ensures.display c.read.ensures.kept) c.answer.ensures.handled course left refused (Bytes c.args.self.now.form c.args.line.now) going
-    (query-judged c.args.self.now.form c.args.self.now.display c.read.new.self.display c.args.line.now c.in-Ok-Query.field-0 c.in-Ok-Query.query c.in-Ok-Query.ensures.read c.in-Ok-Query.field-0-is c.read.ensures.display)
+returns-in-Ok-Query-clause-handled g c course left tally same going =
+    let before = c.in_ok-prepare.ensures.going course ((c.args.number, Bytes c.args.self.now.form c.args.line.now) ∷ left) tally (g.K.Sink.state c.args.self.now.out.now) same going in
+    let read = read-still c.args.self.now.form (present_of c.args.self.now.owner.display).text (present_of c.prepare.new.owner.display).text c.args.line.now
+    c.in-Ok-Query.field-0 c.in_ok-prepare.ensures.text
+    (read-as c.args.self.now.form (present_of c.args.self.now.owner.display).text c.args.line.now c.read-read.result c.in-Ok-Query.field-0 c.in-Ok-Query.is c.read-read.ensures.read) in
+    c.answer.ensures.handled course left tally (Bytes c.args.self.now.form c.args.line.now) (same ∙ sym c.prepare.ensures.team.workers) before
+    (verdict-query c.args.self.now.form (present_of c.prepare.new.owner.display) c.args.line.now c.in-Ok-Query.field-0 c.in-Ok-Query.query read c.in-Ok-Query.field-0-is)
 
 pub returns-in-Ok-Settle-clause-handled : goal.returns-in-Ok-Settle-clause-handled
-returns-in-Ok-Settle-clause-handled g c course left refused going =
-    let old : Stage = stage g.K.Sink.state c.args.self.now in
-    let mid : Stage = stage g.K.Sink.state c.read.new.self in
-    handles-at c.args.number (Accepted Settle) old mid (stage g.K.Sink.state c.settled.new.self) c.settled.result
-    (stage-same old mid c.read.ensures.display c.read.ensures.kept) c.settled.ensures.handled course left refused (Bytes c.args.self.now.form c.args.line.now) going
-    (verdict-settle c.args.self.now.form (present_of c.args.self.now.display) c.args.line.now c.in-Ok-Settle.field-0 c.in-Ok-Settle.ensures.read c.in-Ok-Settle.field-0-is)
+returns-in-Ok-Settle-clause-handled g c course left tally same going =
+    let before = c.in_ok-prepare.ensures.going course ((c.args.number, Bytes c.args.self.now.form c.args.line.now) ∷ left) tally (g.K.Sink.state c.args.self.now.out.now) same going in
+    let read = read-still c.args.self.now.form (present_of c.args.self.now.owner.display).text (present_of c.prepare.new.owner.display).text c.args.line.now
+    c.in-Ok-Settle.field-0 c.in_ok-prepare.ensures.text
+    (read-as c.args.self.now.form (present_of c.args.self.now.owner.display).text c.args.line.now c.read-read.result c.in-Ok-Settle.field-0 c.in-Ok-Settle.is c.read-read.ensures.read) in
+    c.settled.ensures.handled course left tally (Bytes c.args.self.now.form c.args.line.now) (same ∙ sym c.prepare.ensures.team.workers) before
+    (verdict-settle c.args.self.now.form (present_of c.prepare.new.owner.display) c.args.line.now c.in-Ok-Settle.field-0 read c.in-Ok-Settle.field-0-is)
 
-pub returns-in-Err-Refused-clause-handled : goal.returns-in-Err-Refused-clause-handled
-returns-in-Err-Refused-clause-handled g c course left refused going =
-    let old : Stage = stage g.K.Sink.state c.args.self.now in
-    let mid : Stage = stage g.K.Sink.state c.read.new.self in
-    handles-at c.args.number (Refused c.in-Err-Refused.refusal) old mid (stage g.K.Sink.state c.refuse.new.self) c.refuse.result
-    (stage-same old mid c.read.ensures.display c.read.ensures.kept) c.refuse.ensures.handled course left refused (Bytes c.args.self.now.form c.args.line.now) going
-    (verdict-refused c.args.self.now.form (present_of c.args.self.now.display) c.args.line.now c.in-Err-Refused.field-0 c.in-Err-Refused.refusal c.in-Err-Refused.ensures.refused c.in-Err-Refused.field-0-is)
+pub returns-in-Err-clause-handled : goal.returns-in-Err-clause-handled
+returns-in-Err-clause-handled g c course left tally same going =
+    let before = c.in_ok-prepare.ensures.going course ((c.args.number, Bytes c.args.self.now.form c.args.line.now) ∷ left) tally (g.K.Sink.state c.args.self.now.out.now) same going in
+    let unread = unread-still c.args.self.now.form (present_of c.args.self.now.owner.display).text (present_of c.prepare.new.owner.display).text c.args.line.now
+    c.in-Err.fault c.in_ok-prepare.ensures.text
+    (unread-as c.args.self.now.form (present_of c.args.self.now.owner.display).text c.args.line.now c.read-read.result c.in-Err.fault c.in-Err.is c.read-read.ensures.refused) in
+    handles-unread c.prepare.new.owner.crew.workers c.args.number c.args.self.now.form c.args.line.now c.in-Err.fault
+    (at c.prepare.new.owner.display (g.K.Sink.state c.args.self.now.out.now)) (stage g.K.Sink.state c.refuse_unread.new.self) c.refuse_unread.result
+    unread c.refuse_unread.ensures.handled course left tally (same ∙ sym c.prepare.ensures.team.workers) before

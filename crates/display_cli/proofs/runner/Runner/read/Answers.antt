@@ -10,7 +10,7 @@ pub returns-clause-read : goal.returns-clause-read
 returns-clause-read g c =
     let form = c.args.self.now.form in
     let line = c.args.line.now in
-    read_on form (present_of c.args.self.now.display).text line c.read_line.result c.read_line.ensures.within
+    read_on form (present_of c.args.self.now.owner.display).text line c.read_line.result c.read_line.ensures.within
     (subst (λ (h : History). IfOk c.read_line.result (λ asked. command_of form (present_of h).text line ≡ Some (meaning asked))) c.in_ok-view.ensures c.read_line.ensures.read)
     c.read_line.ensures.fits
 
@@ -18,5 +18,5 @@ pub returns-clause-refused : goal.returns-clause-refused
 returns-clause-refused g c =
     let form = c.args.self.now.form in
     let line = c.args.line.now in
-    unread_on form (present_of c.args.self.now.display).text line c.read_line.result
+    unread_on form (present_of c.args.self.now.owner.display).text line c.read_line.result
     (subst (λ (h : History). IfErr c.read_line.result (IsLineRefused form (present_of h).text line)) c.in_ok-view.ensures c.read_line.ensures.refused)

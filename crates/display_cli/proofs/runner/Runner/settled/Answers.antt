@@ -3,20 +3,18 @@ use Rattle.std.proofs.Common.{[], refl}
 use Rattle.edit_script.specs.Commands.{Settle}
 use Rattle.edit_script.specs.Verdict.{Accepted}
 use Rattle.display_cli.proofs.Fronts.{takes-none}
-use Rattle.display_cli.proofs.Handled.{short-recorded, lines-written, ready-line}
+use Rattle.display_cli.proofs.Handled.{short-recorded, lines-written}
+use Rattle.display_cli.proofs.Sends.{may-handle}
 use Rattle.display_cli.proofs.runner.Runner.settled.Goals as goal
 
 pub returns-in_err-record_line-clause-handled : goal.returns-in_err-record_line-clause-handled
 returns-in_err-record_line-clause-handled g c =
-    short-recorded c.args.number c.args.self.now.display (g.K.Sink.state c.args.self.now.out.now) c.requires (Accepted Settle)
-    c.record_line.new.display c.from_residual.result c.in_err-record_line.field-0.0 c.from_residual.ensures.1
-    c.in_err-record_line.ensures.unchanged c.in_err-record_line.ensures.why
+    short-recorded c.args.self.now.owner.crew.workers c.args.number c.args.self.now.owner.display (g.K.Sink.state c.args.self.now.out.now)
+    c.requires.abreast.room (Accepted Settle) c.record_line.new.owner.display c.from_residual.result c.in_err-record_line.field-0.0
+    c.from_residual.ensures.1 c.in_err-record_line.ensures.unchanged c.in_err-record_line.ensures.why
 
 pub returns-clause-handled : goal.returns-clause-handled
 returns-clause-handled g c =
-    lines-written c.args.number c.args.self.now.display (g.K.Sink.state c.args.self.now.out.now) c.requires c.record_line.new.display
-    c.in_ok-record_line.ensures.recorded Settle [] (g.K.Sink.state c.args.self.now.out.now) refl refl (takes-none (g.K.Sink.state c.args.self.now.out.now))
-
-pub returns-clause-ready : goal.returns-clause-ready
-returns-clause-ready g c =
-    ready-line c.args.self.now.display c.record_line.new.display c.args.number c.in_ok-record_line.ensures.recorded c.requires.ready
+    lines-written c.args.self.now.owner.crew.workers c.args.number c.args.self.now.owner.display (g.K.Sink.state c.args.self.now.out.now)
+    (Accepted Settle) (may-handle c.args.self.now.owner (Accepted Settle) c.requires.abreast (λ e. c.requires.settled)) c.record_line.new.owner.display
+    c.in_ok-record_line.ensures.recorded Settle [] (g.K.Sink.state c.args.self.now.out.now) refl refl refl (takes-none (g.K.Sink.state c.args.self.now.out.now))

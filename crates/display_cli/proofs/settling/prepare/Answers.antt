@@ -1,0 +1,44 @@
+-- Where the owner went on, a run goes on, and where it halted, the run stopped.
+use Rattle.std.proofs.Common.{◌+◌, ◌≤◌, length, Result, Ok, Err, arith}
+use Rattle.std.specs.Prelude.{OnOk}
+use Rattle.display_map.specs.Events.{event_limit}
+use Rattle.display_owner.specs.declared.owner.Owner.{Owner}
+use Rattle.display_owner.specs.Owned.{IsBusy}
+use Rattle.display_cli.specs.declared.stop.Stop.{Stop}
+use Rattle.display_cli.specs.inside.Stopping.{stop_of}
+use Rattle.display_cli.specs.inside.Going.{IsReady, IsAbreast}
+use Rattle.display_cli.proofs.GoingOn.{goes-room, goes-err, halts-cut}
+use Rattle.display_cli.proofs.Ready.{ready-gone, text-gone}
+use Rattle.display_cli.proofs.Results.{on-ok}
+use Rattle.display_cli.proofs.settling.prepare.Goals as goal
+
+abreast : (owner : Owner) (r : Result (Unit {0}) Stop) → OnOk r (length owner.display.events + 3 + 0 ≤ event_limit) → IsReady owner → IsBusy owner
+    → OnOk r (IsAbreast owner)
+abreast owner (Ok done) room ready busy = record { ready = ready; busy = busy; room = omega arith }
+abreast owner (Err stop) room ready busy = tt
+
+pub returns-in_err-settle_or_send-clause-going : goal.returns-in_err-settle_or_send-clause-going
+returns-in_err-settle_or_send-clause-going g c =
+    goes-err c.args.owner.now.crew.workers c.args.owner.now.display c.settle_or_send.new.owner.display c.from_residual.result
+    (stop_of c.in_err-settle_or_send.field-0.0) c.from_residual.ensures.1
+    (halts-cut c.args.owner.now.crew.workers c.args.owner.now.display c.settle_or_send.new.owner.display c.in_err-settle_or_send.field-0.0
+    c.in_err-settle_or_send.ensures.halted)
+
+pub returns-clause-going : goal.returns-clause-going
+returns-clause-going g c =
+    goes-room c.args.owner.now.crew.workers c.args.owner.now.display c.settle_or_send.new.owner.display c.check_room.result c.in_ok-settle_or_send.ensures.gone
+    c.check_room.ensures.full
+
+pub returns-clause-abreast : goal.returns-clause-abreast
+returns-clause-abreast g c =
+    abreast c.settle_or_send.new.owner c.check_room.result c.check_room.ensures.room
+    (ready-gone c.args.owner.now.crew.workers c.args.owner.now c.settle_or_send.new.owner c.in_ok-settle_or_send.ensures.gone c.requires c.in_ok-settle_or_send.ensures.owned)
+    c.in_ok-settle_or_send.ensures.busy
+
+pub returns-clause-settled : goal.returns-clause-settled
+returns-clause-settled g c = on-ok c.check_room.result _ c.in_ok-settle_or_send.ensures.settled
+
+pub returns-clause-text : goal.returns-clause-text
+returns-clause-text g c =
+    on-ok c.check_room.result _
+    (text-gone c.args.owner.now.crew.workers c.args.owner.now.display c.settle_or_send.new.owner.display c.in_ok-settle_or_send.ensures.gone)

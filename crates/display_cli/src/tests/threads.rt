@@ -1,0 +1,161 @@
+//! Runs whose workers and watchers do their part beside the owner.
+use crate::tests::{Outcome, run_failing, run_words};
+use std::sync::atomic::{AtomicU64, Ordering};
+use std::test::Fail;
+use std::thread;
+use wrap_workers::{FreeGate, Gate};
+
+/// How often one that is held looks whether it may go on, at most.
+const TURNS: u32 = 10_000_000;
+
+/// Holds whoever does job 1 until it is let go.
+#[derive(Drop)]
+struct Holding {
+    is_let_go: AtomicU64,
+    ran_out: AtomicU64,
+}
+
+impl Holding {
+    fn new() -> Holding {
+        Holding {
+            is_let_go: AtomicU64::new(0),
+            ran_out: AtomicU64::new(0),
+        }
+    }
+
+    fn let_go(&self) {
+        self.is_let_go.store(1, Ordering::SeqCst);
+    }
+
+    fn hold(&self) {
+        for _ in 0..TURNS {
+            if self.is_let_go.load(Ordering::SeqCst) != 0 {
+                return;
+            }
+            thread::yield_now();
+        }
+        self.ran_out.store(1, Ordering::SeqCst);
+    }
+
+    fn has_run_out(&self) -> bool {
+        self.ran_out.load(Ordering::SeqCst) != 0
+    }
+}
+
+/// Holds job 1 until job 2 has passed.
+#[derive(Drop)]
+struct UntilSecondJob(Holding);
+
+impl Gate for UntilSecondJob {
+    fn pass(&self, job: u64) {
+        match job {
+            1 => self.0.hold(),
+            _ => self.0.let_go(),
+        }
+    }
+
+    fn seen(&self, _reader: u32, _version: u64) {}
+}
+
+/// Holds job 1 until a watcher has told of version 1 or a later one.
+#[derive(Drop)]
+struct UntilNextVersion(Holding);
+
+impl Gate for UntilNextVersion {
+    fn pass(&self, job: u64) {
+        if job == 1 {
+            self.0.hold();
+        }
+    }
+
+    fn seen(&self, _reader: u32, version: u64) {
+        if version >= 1 {
+            self.0.let_go();
+        }
+    }
+}
+
+#[test]
+fn two_jobs_are_done_at_once_by_two_workers(rt: HostRuntime) -> Result<(), Fail> {
+    let alloc = rt.alloc();
+    let mut text = Vec::new(alloc);
+    for _ in 0..255u32 {
+        text.extend_from_slice(b"x\n")?;
+    }
+    text.push(b'x')?;
+    let gate = UntilSecondJob(Holding::new());
+    let words = ["a", "b", "--workers", "2"];
+    let outcome = run_words(
+        &rt,
+        alloc,
+        &words,
+        text.as_slice(),
+        br#"{"settle":true}"#,
+        &gate,
+    )?;
+    assert_eq!(rt; outcome.ended.status, 0);
+    assert!(rt; !gate.0.has_run_out());
+    // `Published`, two `Sent`, two `Landed` with a `Published` each, `Line` and the last `Published`.
+    assert_eq!(rt; outcome.ended.history.len(), 9);
+    Ok(())
+}
+
+#[test]
+fn an_edit_is_done_and_seen_before_a_result_comes(rt: HostRuntime) -> Result<(), Fail> {
+    let alloc = rt.alloc();
+    let gate = UntilNextVersion(Holding::new());
+    let words = ["a", "b", "--workers", "1", "--watch", "1"];
+    let script = br#"{"edit":[[0,0,"x"]]}
+{"rows":[0,1]}"#;
+    let outcome = run_words(&rt, alloc, &words, b"abc", script, &gate)?;
+    assert_eq!(rt; outcome.ended.status, 0);
+    assert!(rt; !gate.0.has_run_out());
+    assert!(rt; outcome.out.taken().starts_with(b"0 t|xabc\nwatch 0 "));
+    Ok(())
+}
+
+#[test]
+fn each_watcher_sees_the_last_version(rt: HostRuntime) -> Result<(), Fail> {
+    let alloc = rt.alloc();
+    let words = ["a", "b", "--watch", "2"];
+    let Outcome { ended, out } = run_words(
+        &rt,
+        alloc,
+        &words,
+        b"a\nb\nc",
+        br#"{"rows":[0,1]}"#,
+        &FreeGate,
+    )?;
+    assert_eq!(rt; ended.status, 0);
+    assert_eq!(rt; ended.watched.len(), 2);
+    for watched in &ended.watched {
+        // The job's version is version 1, and the last is version 2.
+        let last = watched.seen.last().map(|seen| (seen.version, seen.rows));
+        assert_eq!(rt; last, Some((2, 3)));
+    }
+    let taken = out.taken();
+    assert!(rt; taken.starts_with(b"0 t|a\nwatch 0 "));
+    assert!(rt; taken.ends_with(b"watch 1 2 3\n"));
+    Ok(())
+}
+
+#[test]
+fn a_watch_line_that_cannot_be_written_ends_the_run(rt: HostRuntime) -> Result<(), Fail> {
+    let alloc = rt.alloc();
+    let words = ["a", "b", "--watch", "1"];
+    let script = br#"{"rows":[0,1]}"#;
+    let Outcome { ended, out } = run_failing(
+        &rt,
+        alloc,
+        &words,
+        b"a",
+        script,
+        &[],
+        &[2],
+        &FreeGate,
+    )?;
+    assert_eq!(rt; ended.status, 4);
+    assert_eq!(rt; ended.watched.len(), 1);
+    assert_eq!(rt; out.taken(), b"0 t|a\n".as_slice());
+    Ok(())
+}
