@@ -4,6 +4,7 @@ pub mod DidEvents
 pub mod Displays
 pub mod EditRefusals
 pub mod EditedDisplays
+pub mod EventChunks
 pub mod FittingBatches
 pub mod HeldSizes
 pub mod Identity

@@ -4,7 +4,7 @@ use Rattle.std.specs.List.{list_all}
 use Rattle.cell_units.specs.Record.{Mark, Record}
 use Rattle.display_sheet.specs.Sheets.{marks_in}
 use Rattle.display_sheet.specs.Shown.{unstamped}
-use Rattle.display_sheet.specs.declared.sheet.Wrapped.{Wrapped}
+use Rattle.display_sheet.specs.declared.wraps.Wrapped.{Wrapped}
 use Rattle.display_sheet.proofs.Sheets.{widths-marks_of}
 use Rattle.display_map.specs.Replay.{is_settled}
 

@@ -1,8 +1,5 @@
 -- What happens to a display, as a list of events tells it.
-use Rattle.std.specs.Prelude.{ℕ, Bool, List, [], map, Option, Some, None}
-use Rattle.std.specs.declared.sync.Arc.{Arc}
-use Rattle.std.specs.declared.vec.Vec.{Vec}
-use Rattle.std.specs.Arc.{arc_value}
+use Rattle.std.specs.Prelude.{ℕ, Bool, List, map}
 use Rattle.cell_units.specs.Operation.{Operation}
 use Rattle.display_sheet.specs.Changes.{operation_of}
 use Rattle.display_map.specs.declared.event.Event as declared
@@ -27,11 +24,6 @@ event_of (events.Published last) = Published last
 
 abbrev pub events_of : List declared.Event → List Event
 events_of events = map event_of events
-
--- the events that are shared, if there are any
-abbrev pub kept_events : {Z : Type 0} → Option (Arc (Vec declared.Event Z) Z) → List Event
-kept_events None = []
-kept_events (Some events) = events_of (arc_value events).items
 
 -- how many events a journal may have
 abbrev pub event_limit : ℕ

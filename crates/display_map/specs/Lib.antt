@@ -1,6 +1,7 @@
 pub mod Displays
 pub mod Events
 pub mod Identity
+pub mod Journals
 pub mod LawfulStates
 pub mod LinePatches
 pub mod Outs

@@ -6,7 +6,7 @@ ghost use Rattle.display_map.specs.Displays.{IsNextRun, NoneWaits};
 
 use cell_line::Run;
 use cell_units::limits::RUN_LIMIT;
-use display_sheet::Wrapped;
+use display_sheet::Wraps;
 
 /// The number of the first line that waits, or how many lines there are where none does. None of the first `from` does.
 fn first_waiting(waits: &[bool], from: usize) -> usize
@@ -71,8 +71,13 @@ pub(crate) fn stop_waiting(waits: &mut Vec<bool>, run: Run)
 }
 
 /// Whether every line stands wrapped at the width.
-pub(crate) fn all_at(wraps: &[Wrapped], width: u32) -> bool
+pub(crate) fn all_at(wraps: &Wraps, width: u32) -> bool
     ensures { result ≡ list_all (λ w. w.mark == width) wraps.now }
 {
-    wraps.iter().all(|wrapped| wrapped.mark == width)
+    for line in 0..wraps.len() {
+        if wraps.get(line).mark != width {
+            return false;
+        }
+    }
+    true
 }

@@ -5,7 +5,7 @@ ghost use Rattle.display_map.specs.Outs.{AreBelow, carried, carried_out, lowered
 ghost use Rattle.display_sheet.specs.Sheets.{marks_in};
 
 use cell_units::NoMemory;
-use display_sheet::{LineSplice, Wrapped};
+use display_sheet::{LineSplice, Wraps};
 use std::alloc::Global;
 use std::marker::Model;
 
@@ -154,12 +154,12 @@ pub(crate) fn copied(alloc: Global, outs: &[Out]) -> Result<Vec<Out>, NoMemory>
 }
 
 /// Which lines stand at another width.
-pub(crate) fn off_width(alloc: Global, wraps: &[Wrapped], width: u32) -> Result<Vec<bool>, NoMemory>
+pub(crate) fn off_width(alloc: Global, wraps: &Wraps, width: u32) -> Result<Vec<bool>, NoMemory>
     ensures { IfOk result (λ flags. flags.items ≡ map (λ w. not (w == width)) (marks_in wraps.now)) }
 {
-    let mut flags = Vec::with_capacity(alloc, wraps.len())?;
-    for wrapped in wraps {
-        flags.push(wrapped.mark != width)?;
+    let mut flags = Vec::with_capacity(alloc, wraps.len() as usize)?;
+    for line in 0..wraps.len() {
+        flags.push(wraps.get(line).mark != width)?;
     }
     Ok(flags)
 }

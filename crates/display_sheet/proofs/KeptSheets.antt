@@ -17,7 +17,7 @@ use Rattle.plain_rows.specs.Plain.{block_of, marks_of}
 use Rattle.plain_rows.specs.Rows.{line_elements, line_of_block}
 use Rattle.plain_rows.proofs.LawfulSources.{order-le}
 use Rattle.plain_rows.proofs.RowsOfLines.{length-elements, width-at}
-use Rattle.display_sheet.specs.declared.sheet.Wrapped.{Wrapped}
+use Rattle.display_sheet.specs.declared.wraps.Wrapped.{Wrapped}
 use Rattle.display_sheet.specs.Sheets.{IsSheet, marks_in}
 use Rattle.display_sheet.specs.Windows.{texts_at}
 use Rattle.display_sheet.proofs.Sheets.{length-marks_of}

@@ -9,7 +9,7 @@ use Rattle.cell_units.specs.Lawful.{IsWidth}
 use Rattle.cell_line.specs.declared.element.Element.{Element}
 use Rattle.cell_line.specs.Wrapping.{cuts_of}
 use Rattle.plain_rows.proofs.SpotLines.{cuts-few}
-use Rattle.display_sheet.specs.declared.sheet.Wrapped.{Wrapped}
+use Rattle.display_sheet.specs.declared.wraps.Wrapped.{Wrapped}
 use Rattle.display_sheet.specs.Landing.{AreCutsAt, AreLanded, FitLines, landed_at, landed_rows, rows_in}
 use Rattle.display_sheet.specs.Sheets.{marks_in, row_counts}
 

@@ -10,7 +10,7 @@ use Rattle.plain_rows.specs.Plain.{marks_of}
 use Rattle.plain_rows.specs.Rows.{line_elements}
 use Rattle.plain_rows.proofs.RowsOfLines.{length-elements}
 use Rattle.plain_rows.proofs.SpotSizes.{elements-count}
-use Rattle.display_sheet.specs.declared.sheet.Wrapped.{Wrapped}
+use Rattle.display_sheet.specs.declared.wraps.Wrapped.{Wrapped}
 use Rattle.display_sheet.specs.Landing.{AreCutsAt, AreLanded, FitLines, landed_at, landed_rows, with_landed_lines}
 use Rattle.display_sheet.specs.Sheets.{IsSheet, marks_in, row_counts}
 use Rattle.display_sheet.proofs.LandedCounts.{counts-landed, fit-cuts, length-landed, widths-landed}

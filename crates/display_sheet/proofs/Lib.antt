@@ -1,4 +1,5 @@
 pub mod Changed
+pub mod Chunks
 pub mod Drafts
 pub mod ElementLines
 pub mod Entries
@@ -22,3 +23,4 @@ pub mod StepRuns
 pub mod StepSplices
 pub mod Unstamped
 pub mod Windows
+pub mod WrappedRows

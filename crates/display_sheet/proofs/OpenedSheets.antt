@@ -10,9 +10,10 @@ use Rattle.plain_rows.specs.FoldedLines.{AreLinesOf}
 use Rattle.plain_rows.specs.Plain.{block_of, fold_of, inlay_of, marks_of}
 use Rattle.plain_rows.specs.Rows.{line_elements}
 use Rattle.display_sheet.specs.declared.sheet.Sheet.TheInside.{Inside}
-use Rattle.display_sheet.specs.declared.sheet.Wrapped.{Wrapped}
+use Rattle.display_sheet.specs.declared.wraps.Wrapped.{Wrapped}
 use Rattle.display_sheet.specs.Sheets.{KeepsSheet, marks_in, record_in, row_counts}
 use Rattle.display_sheet.specs.Shown.{unstamped}
+use Rattle.display_sheet.specs.Wraps.{fresh}
 use Rattle.display_sheet.proofs.ElementLines.{elements_long}
 use Rattle.display_sheet.proofs.Relaid.{lawful-unstamped}
 use Rattle.display_sheet.proofs.Sheets.{one_row, widths}
@@ -39,7 +40,7 @@ module _ (s : Inside) (text : List ℕ) (is : IsText text) (n : ℕ)
     (folds : (arc_value s.folds).items ≡ [])
     (blocks : (arc_value s.blocks).items ≡ [])
     (tab : s.tab ≡ 4) (width : s.width ≡ 80)
-    (wraps : (arc_value s.wraps).items ≡ replicate n (record { mark = 0; rows = 1 }))
+    (wraps : arc_value s.wraps ≡ replicate n fresh)
     (count : n ≡ length (display_lines text [] [])) where
   abbrev first : Record
   first = unstamped (opened text)
@@ -47,8 +48,8 @@ module _ (s : Inside) (text : List ℕ) (is : IsText text) (n : ℕ)
   lines : n ≡ line_count text
   lines = count ∙ sym (opened-lawful text is).marked ∙ length-plain 0 (line_count text)
 
-  marks : marks_in (arc_value s.wraps).items ≡ replicate n 0
-  marks = ap marks_in wraps ∙ map-replicate (λ (w : Wrapped). w.mark) n (record { mark = 0; rows = 1 })
+  marks : marks_in (arc_value s.wraps) ≡ replicate n 0
+  marks = ap marks_in wraps ∙ map-replicate (λ (w : Wrapped). w.mark) n fresh
 
   own : widths (opened text).marks ≡ replicate n 0
   own = plain_widths 0 (line_count text) ∙ ap (λ (k : ℕ). replicate k 0) (sym lines)
@@ -71,7 +72,7 @@ module _ (s : Inside) (text : List ℕ) (is : IsText text) (n : ℕ)
     laid_out = laid;
     rows_are =
         ap (map (λ (w : Wrapped). w.rows)) wraps
-        ∙ map-replicate (λ (w : Wrapped). w.rows) n (record { mark = 0; rows = 1 })
+        ∙ map-replicate (λ (w : Wrapped). w.rows) n fresh
         ∙ sym (one_row (line_elements (record_in s)) n long)
         ∙ ap (row_counts (line_elements (record_in s))) (sym marks);
   } where

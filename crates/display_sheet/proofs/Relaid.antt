@@ -1,5 +1,5 @@
 -- A record that a display keeps, after an operation that touches rows.
-use Rattle.std.proofs.Common.{◌≡◌, ℕ, ◌+◌, ◌-◌, ◌≤◌, zero, suc, List, [], ◌∷◌, ◌++◌, length, map, take, drop, replicate, refl, sym, ap, subst, ◌∙◌, arith}
+use Rattle.std.proofs.Common.{◌≡◌, ℕ, ◌+◌, ◌-◌, ◌<◌, ◌≤◌, zero, suc, List, [], ◌∷◌, ◌++◌, length, map, take, drop, replicate, refl, sym, ap, subst, ◌∙◌, arith}
 use Rattle.std.specs.Arc.{arc_value}
 use Rattle.std.specs.List.{enumerate_from}
 use Rattle.std.proofs.lemmas.List.{append-nil, drop_all, length-map, map-append, take-map, drop-map}
@@ -14,18 +14,20 @@ use Rattle.cell_units.proofs.LawfulOperations.{lawful-operated}
 use Rattle.cell_units.proofs.TouchedRuns.{rows_are_one_run}
 use Rattle.cell_units.proofs.CutLists.{Every}
 use Rattle.cell_units.proofs.FoundEntries.{All-from_Every, Every-from_All}
-use Rattle.plain_rows.specs.FoldedLines.{AreLinesOf}
+use Rattle.plain_rows.specs.FoldedLines.{AreLinesOf, LaidOut}
 use Rattle.plain_rows.specs.Plain.{block_of, fold_of, inlay_of, marks_of}
 use Rattle.plain_rows.specs.Rows.{line_elements}
+use Rattle.plain_rows.proofs.SpotSizes.{few-lines}
 use Rattle.display_sheet.specs.declared.sheet.Draft.{Draft}
 use Rattle.display_sheet.specs.declared.sheet.LineSplice.{LineSplice}
 use Rattle.display_sheet.specs.declared.sheet.Reach.{Reach}
 use Rattle.display_sheet.specs.declared.sheet.Sheet.TheInside.{Inside}
-use Rattle.display_sheet.specs.declared.sheet.Wrapped.{Wrapped}
+use Rattle.display_sheet.specs.declared.wraps.Wrapped.{Wrapped}
 use Rattle.display_sheet.specs.LineSplices.{IsLineSplice, spliced}
 use Rattle.display_sheet.specs.LineStep.{line_step}
 use Rattle.display_sheet.specs.Sheets.{IsDraft, IsOperated, KeepsSheet, draft_source, marks_in, record_in, row_counts}
 use Rattle.display_sheet.specs.Shown.{unstamped}
+use Rattle.display_sheet.specs.Wraps.{fresh}
 use Rattle.display_sheet.proofs.ElementLines.{elements_long}
 use Rattle.display_sheet.proofs.LineSplices.{same_first, spliced-each, spliced-none, spliced-rows}
 use Rattle.display_sheet.proofs.Sheets.{allowed-other, counts-spliced, lawful-stamped, length-marks_of, operated-other, touched-other, unstamped-counted, unstamped-step, widths, widths-marks_of}
@@ -120,12 +122,56 @@ module _ (s : Inside) (keeps : KeepsSheet s) (operation : Operation) (draft : Dr
       let first = same_first operation kept keeps.lawful.entries d.allowed keeps.lawful.marked before.start before.end after.start after.end d.touches d.order.0 d.order.1 d.order_after.0 d.order_after.1 d.tab_is in
       omega (arith, first, (rows_are_one_run (operated operation kept) lawful_after after.start after.end d.order_after.0 d.order_after.1).0)
 
-  pub end_bounds : (line_of_row_start kept before.start ≤ line_of_row_end kept before.end) × (line_of_row_end kept before.end + 1 ≤ length (arc_value s.wraps).items)
+  pub end_bounds : (line_of_row_start kept before.start ≤ line_of_row_end kept before.end) × (line_of_row_end kept before.end + 1 ≤ length (arc_value s.wraps))
   end_bounds =
       let run = rows_are_one_run kept keeps.lawful.entries before.start before.end d.order.0 d.order.1 in
-      let long : length (arc_value s.wraps).items ≡ length (display_lines kept.text kept.inlays kept.folds) =
-      sym (length-map (arc_value s.wraps).items (λ (w : Wrapped). w.mark)) ∙ sym (length-marks_of (marks_in (arc_value s.wraps).items)) ∙ keeps.lawful.marked in
+      let long : length (arc_value s.wraps) ≡ length (display_lines kept.text kept.inlays kept.folds) =
+      sym (length-map (arc_value s.wraps) (λ (w : Wrapped). w.mark)) ∙ sym (length-marks_of (marks_in (arc_value s.wraps))) ∙ keeps.lawful.marked in
       (run.0, omega (arith, run.1, long, length-map (display_lines kept.text kept.inlays kept.folds) pieces_of))
+
+-- the lines that it splices
+module _ (s : Inside) (keeps : KeepsSheet s) (operation : Operation) (draft : Draft) (before after : Reach) (d : IsDraft operation (record_in s) draft before after)
+    (first end count : ℕ)
+    (first_is : first ≡ line_of_row_start (record_in s) before.start)
+    (end_is : end ≡ line_of_row_end (record_in s) before.end + 1)
+    (count_is : count ≡ line_of_row_end (operated operation (record_in s)) after.end + 1 - first) where
+  abbrev before_it : Record
+  before_it = record_in s
+
+  lines_spliced : (P : Record) → unstamped P ≡ before_it → IsLineSplice operation P first end count
+  lines_spliced P e =
+      let Goal : Record → Type 0 = λ q. IsLawful q → IsDraft operation q draft before after → first ≡ line_of_row_start q before.start → end ≡ line_of_row_end q before.end + 1 →
+      count ≡ line_of_row_end (operated operation q) after.end + 1 - first → IsLineSplice operation P first end count in
+      let at : Goal (unstamped P) = λ is dr a b c.
+      let R : ℕ → ℕ → ℕ → Type 0 = λ x y z. IsLineSplice operation P x y z in
+      let base = rows-spliced operation P is draft before after dr in
+      let count_same : line_of_row_end (operated operation (unstamped P)) after.end + 1 - line_of_row_start (unstamped P) before.start ≡ count =
+      ap (λ (n : ℕ). line_of_row_end (operated operation (unstamped P)) after.end + 1 - n) (sym a) ∙ sym c in
+      subst (λ (x : ℕ). R x end count) (sym a)
+      (subst (λ (y : ℕ). R (line_of_row_start (unstamped P) before.start) y count) (sym b)
+      (subst (λ (z : ℕ). R (line_of_row_start (unstamped P) before.start) (line_of_row_end (unstamped P) before.end + 1) z) count_same base)) in
+      subst Goal e at keeps.lawful d first_is end_is count_is
+
+  -- there are few lines after it
+  pub few_after : (laid : LaidOut) → AreLinesOf (draft_source draft) laid → first + count + (length (arc_value s.wraps) - end) < 4294967296
+  few_after laid are =
+      let ws = marks_in (arc_value s.wraps) in
+      let next = line_step operation before_it in
+      let is = lines_spliced before_it (unstamped-counted before_it ws refl refl) in
+      let lawful : IsLawful next = IsLawful-step operation before_it keeps.lawful d.allowed in
+      let short : length next.text ≤ 67108864 = omega (arith, ap (λ (r : Record). length r.text) is.step, ap length d.text_is, are.lawful.text_size) in
+      omega (
+        arith,
+        few-lines next lawful short,
+        lawful.marked,
+        elements_long next,
+        ap (λ (r : Record). length (line_elements r)) is.step,
+        is.long,
+        elements_long before_it,
+        keeps.lawful.marked,
+        length-marks_of ws,
+        length-map (arc_value s.wraps) (λ (w : Wrapped). w.mark),
+      )
 
 -- the sheet after it
 module _ (s s' : Inside) (keeps : KeepsSheet s) (operation : Operation) (draft : Draft) (before after : Reach) (d : IsDraft operation (record_in s) draft before after)
@@ -138,7 +184,7 @@ module _ (s s' : Inside) (keeps : KeepsSheet s) (operation : Operation) (draft :
     (folds_are : (arc_value s'.folds).items ≡ (arc_value draft.folds).items)
     (blocks_are : (arc_value s'.blocks).items ≡ (arc_value draft.blocks).items)
     (tab_is : s'.tab ≡ s.tab) (width_is : s'.width ≡ s.width)
-    (wraps_are : (arc_value s'.wraps).items ≡ spliced first end count (record { mark = 0; rows = 1 }) (arc_value s.wraps).items) where
+    (wraps_are : arc_value s'.wraps ≡ spliced first end count fresh (arc_value s.wraps)) where
   abbrev old : Record
   old = record_in s
 
@@ -146,13 +192,13 @@ module _ (s s' : Inside) (keeps : KeepsSheet s) (operation : Operation) (draft :
   new = record_in s'
 
   abbrev ws : List ℕ
-  ws = marks_in (arc_value s.wraps).items
+  ws = marks_in (arc_value s.wraps)
 
   counted : unstamped old ≡ old
   counted = unstamped-counted old ws refl refl
 
-  marks' : marks_in (arc_value s'.wraps).items ≡ spliced first end count 0 ws
-  marks' = ap marks_in wraps_are ∙ map-spliced (λ (w : Wrapped). w.mark) first end count (record { mark = 0; rows = 1 }) (arc_value s.wraps).items
+  marks' : marks_in (arc_value s'.wraps) ≡ spliced first end count 0 ws
+  marks' = ap marks_in wraps_are ∙ map-spliced (λ (w : Wrapped). w.mark) first end count fresh (arc_value s.wraps)
 
   -- the record that it keeps, by the operation on a record of any stamps
   new_is : (P : Record) → unstamped P ≡ old → new ≡ record (operated operation P) { marks = marks_of (spliced first end count 0 (widths P.marks)); next_stamp = length (spliced first end count 0 (widths P.marks)) }
@@ -178,18 +224,7 @@ module _ (s s' : Inside) (keeps : KeepsSheet s) (operation : Operation) (draft :
       })
 
   splice_of : (P : Record) → unstamped P ≡ old → IsLineSplice operation P first end count
-  splice_of P e =
-      let Goal : Record → Type 0 = λ q. IsLawful q → IsDraft operation q draft before after → first ≡ line_of_row_start q before.start → end ≡ line_of_row_end q before.end + 1 →
-      count ≡ line_of_row_end (operated operation q) after.end + 1 - first → IsLineSplice operation P first end count in
-      let at : Goal (unstamped P) = λ is dr a b c.
-      let R : ℕ → ℕ → ℕ → Type 0 = λ x y z. IsLineSplice operation P x y z in
-      let base = rows-spliced operation P is draft before after dr in
-      let count_same : line_of_row_end (operated operation (unstamped P)) after.end + 1 - line_of_row_start (unstamped P) before.start ≡ count =
-      ap (λ (n : ℕ). line_of_row_end (operated operation (unstamped P)) after.end + 1 - n) (sym a) ∙ sym c in
-      subst (λ (x : ℕ). R x end count) (sym a)
-      (subst (λ (y : ℕ). R (line_of_row_start (unstamped P) before.start) y count) (sym b)
-      (subst (λ (z : ℕ). R (line_of_row_start (unstamped P) before.start) (line_of_row_end (unstamped P) before.end + 1) z) count_same base)) in
-      subst Goal e at keeps.lawful d first_is end_is count_is
+  splice_of = lines_spliced s keeps operation draft before after d first end count first_is end_is count_is
 
   pub operated_is : (splice : LineSplice) → splice.first ≡ first → splice.end ≡ end → splice.count ≡ count → IsOperated operation old new splice
   operated_is splice a b c P e =
@@ -213,7 +248,7 @@ module _ (s s' : Inside) (keeps : KeepsSheet s) (operation : Operation) (draft :
     laid_out = laid;
     rows_are =
         ap (map (λ (w : Wrapped). w.rows)) wraps_are
-        ∙ map-spliced (λ (w : Wrapped). w.rows) first end count (record { mark = 0; rows = 1 }) (arc_value s.wraps).items
+        ∙ map-spliced (λ (w : Wrapped). w.rows) first end count fresh (arc_value s.wraps)
         ∙ ap (spliced first end count 1) keeps.rows_are
         ∙ counts-spliced operation old first end count (splice_of old counted) ws long
         ∙ (λ i. row_counts (elements_same i) (sym marks' i));

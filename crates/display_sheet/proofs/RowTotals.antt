@@ -18,8 +18,9 @@ use Rattle.plain_rows.proofs.RowsInOrder.{rows_upto, rows_upto-more}
 use Rattle.plain_rows.proofs.RowsOfLines.{length-rows_by_line, line_rows-at, rows_by_line-at}
 use Rattle.plain_rows.proofs.SpotBlocks.{block-line, height_at, stood-all, sum_upto}
 use Rattle.plain_rows.proofs.SpotSizes.{rows-few}
-use Rattle.display_sheet.specs.declared.sheet.Wrapped.{Wrapped}
-use Rattle.display_sheet.specs.RowCounts.{rows_of_blocks, rows_of_lines}
+use Rattle.display_sheet.specs.declared.wraps.Wrapped.{Wrapped}
+use Rattle.display_sheet.specs.RowCounts.{rows_of_blocks}
+use Rattle.display_sheet.specs.Wraps.{rows_of_lines}
 use Rattle.display_sheet.specs.Sheets.{IsSheet, marks_in}
 use Rattle.display_sheet.specs.Windows.{texts_at}
 use Rattle.display_sheet.proofs.KeptSheets.{length-kept, rows-kept}

@@ -11,7 +11,7 @@ use Rattle.plain_rows.specs.Rows.{blocks_at, line_of_block, rows_by_line}
 use Rattle.plain_rows.specs.inside.BuiltRows.{block_at, no_block}
 use Rattle.plain_rows.proofs.RowsInOrder.{rows_upto}
 use Rattle.plain_rows.proofs.SpotSizes.{HasRowsUpto, first-fits, upto-more}
-use Rattle.display_sheet.specs.declared.sheet.Wrapped.{Wrapped}
+use Rattle.display_sheet.specs.declared.wraps.Wrapped.{Wrapped}
 use Rattle.display_sheet.specs.Sheets.{IsSheet}
 use Rattle.display_sheet.specs.Windows.{texts_at}
 use Rattle.display_sheet.proofs.RowTotals.{length-texts}

@@ -5,7 +5,7 @@ use Rattle.cell_units.specs.Record.{Record}
 use Rattle.cell_line.specs.declared.element.Element.{Element}
 use Rattle.cell_line.specs.Wrapping.{cuts_of}
 use Rattle.plain_rows.specs.Plain.{marks_of}
-use Rattle.display_sheet.specs.declared.sheet.Wrapped.{Wrapped}
+use Rattle.display_sheet.specs.declared.wraps.Wrapped.{Wrapped}
 use Rattle.display_sheet.specs.Sheets.{marks_in}
 
 -- a list with one number for each line, in which the lines at the places got this one

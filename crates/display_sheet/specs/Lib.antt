@@ -1,4 +1,5 @@
 pub mod Changes
+pub mod Chunks
 pub mod Faults
 pub mod HeldLines
 pub mod Landing
@@ -9,3 +10,4 @@ pub mod RowCounts
 pub mod Sheets
 pub mod Shown
 pub mod Windows
+pub mod Wraps

@@ -1,14 +1,9 @@
--- How many rows lines and blocks have.
+-- How many rows blocks have, and how many stand before lines.
 use Rattle.std.specs.Prelude.{ℕ, ◌≡◌, List, length, map, sum_by}
 use Rattle.cell_units.specs.Record.{Record}
 use Rattle.plain_rows.specs.declared.plain.PlainBlock.{PlainBlock}
 use Rattle.plain_rows.specs.inside.SpotRows.{HasFirstRows}
-use Rattle.display_sheet.specs.declared.sheet.Wrapped.{Wrapped}
 use Rattle.display_sheet.specs.declared.spots.LineCounts.{LineCounts}
-
--- the rows of lines that stand so
-abbrev pub rows_of_lines : List Wrapped → ℕ
-rows_of_lines wraps = sum_by (λ w. w.rows) wraps
 
 abbrev pub rows_of_blocks : List PlainBlock → ℕ
 rows_of_blocks blocks = sum_by (λ b. length b.lines.items) blocks

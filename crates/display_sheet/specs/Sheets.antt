@@ -15,7 +15,7 @@ use Rattle.display_sheet.specs.declared.sheet.Draft.{Draft}
 use Rattle.display_sheet.specs.declared.sheet.LineSplice.{LineSplice}
 use Rattle.display_sheet.specs.declared.sheet.Reach.{Reach}
 use Rattle.display_sheet.specs.declared.sheet.Sheet.TheInside.{Inside}
-use Rattle.display_sheet.specs.declared.sheet.Wrapped.{Wrapped}
+use Rattle.display_sheet.specs.declared.wraps.Wrapped.{Wrapped}
 use Rattle.display_sheet.specs.LineSplices.{IsLineSplice}
 use Rattle.display_sheet.specs.LineStep.{line_step}
 use Rattle.display_sheet.specs.Shown.{unstamped}
@@ -32,8 +32,8 @@ record_in s = record {
   blocks = map block_of (arc_value s.blocks).items;
   tab = s.tab;
   width = s.width;
-  marks = marks_of (marks_in (arc_value s.wraps).items);
-  next_stamp = length (marks_in (arc_value s.wraps).items);
+  marks = marks_of (marks_in (arc_value s.wraps));
+  next_stamp = length (marks_in (arc_value s.wraps));
 }
 
 -- of each line how many rows it has at its width
@@ -47,7 +47,7 @@ pub record IsSheet (r : Record) (wraps : List Wrapped) (laid : LaidOut) : Type 0
   pub rows_are : map (λ w. w.rows) wraps ≡ row_counts (line_elements r) (marks_in wraps)
 
 abbrev pub KeepsSheet : Inside → Type 0
-KeepsSheet s = IsSheet (record_in s) (arc_value s.wraps).items (arc_value s.lines)
+KeepsSheet s = IsSheet (record_in s) (arc_value s.wraps) (arc_value s.lines)
 
 -- what an operation makes of a record, whatever its stamps are: the lines that it splices, and the record after it
 abbrev pub IsOperated : Operation → Record → Record → LineSplice → Type 0

@@ -1,18 +1,10 @@
 //! How many rows a sheet has.
 ghost use Rattle.std.specs.Prelude.{◌≡◌, ◌^◌, ◌<◌, length};
 ghost use Rattle.plain_rows.specs.Rows.{rows_of};
-ghost use Rattle.display_sheet.specs.RowCounts.{rows_of_blocks, rows_of_lines};
+ghost use Rattle.display_sheet.specs.RowCounts.{rows_of_blocks};
 
-use crate::sheet::{Sheet, Wrapped};
+use crate::sheet::Sheet;
 use plain_rows::PlainBlock;
-
-/// How many rows lines have that stand so.
-fn rows_of_lines(wraps: &[Wrapped]) -> u32
-    requires { rows_of_lines wraps.now < 2 ^ 32 }
-    ensures { result ≡ rows_of_lines wraps.now }
-{
-    wraps.iter().map(|wrapped| wrapped.rows).sum()
-}
 
 /// How many rows blocks have.
 fn rows_of_blocks(blocks: &[PlainBlock]) -> u32
@@ -31,6 +23,6 @@ impl Sheet {
     pub fn row_count(&self) -> u32
         ensures { result ≡ length (rows_of self.now) }
     {
-        rows_of_lines(self.wraps.as_slice()) + rows_of_blocks(self.blocks.as_slice())
+        self.wraps.rows() as u32 + rows_of_blocks(self.blocks.as_slice())
     }
 }

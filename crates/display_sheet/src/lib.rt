@@ -25,10 +25,12 @@ pub mod sheet;
 pub mod shown;
 mod spots;
 mod window;
+pub mod wraps;
 
 pub use buffer::Buffer;
 pub use change::{Change, Op, Splice};
 pub use held::Held;
 pub use laws::step_laws;
-pub use sheet::{LineSplice, Sheet, Spliced, Wrapped};
+pub use sheet::{LineSplice, Sheet, Spliced};
 pub use shown::{Kind, MarkRun, Shown};
+pub use wraps::{Wrapped, Wraps};

@@ -1,10 +1,10 @@
 //! Runs of lines that stand wrapped at one width.
-ghost use Rattle.std.specs.Prelude.{◌≡◌, ◌++◌, map, length, IfOk, OnOk};
+ghost use Rattle.std.specs.Prelude.{◌≡◌, ◌++◌, map, IfOk, OnOk};
 ghost use Rattle.display_sheet.specs.Shown.{runs_from};
 ghost use Rattle.display_sheet.specs.Windows.{run_or_none};
 
-use crate::sheet::Wrapped;
 use crate::shown::MarkRun;
+use crate::wraps::Wraps;
 use cell_units::NoMemory;
 use std::alloc::Global;
 
@@ -18,9 +18,8 @@ fn push_run(runs: &mut Vec<MarkRun>, run: MarkRun) -> Result<(), NoMemory>
     Ok(())
 }
 
-/// The maximal runs of lines that stand wrapped at one width. `count` is how many lines there are.
-pub fn mark_runs(alloc: Global, wraps: &[Wrapped], count: u32) -> Result<Vec<MarkRun>, NoMemory>
-    requires { length wraps.now ≡ count }
+/// The maximal runs of lines that stand wrapped at one width.
+pub fn mark_runs(alloc: Global, wraps: &Wraps) -> Result<Vec<MarkRun>, NoMemory>
     ensures { IfOk result (λ runs. runs.items ≡ runs_from 0 (map (λ w. w.mark) wraps.now)) }
 {
     let mut runs = Vec::new(alloc);
@@ -29,8 +28,8 @@ pub fn mark_runs(alloc: Global, wraps: &[Wrapped], count: u32) -> Result<Vec<Mar
         last: 0,
         width: 0,
     };
-    for line in 0..count {
-        let width = wraps[line as usize].mark;
+    for line in 0..wraps.len() {
+        let width = wraps.get(line).mark;
         if width != run.width {
             push_run(&mut runs, run)?;
             run = MarkRun {

@@ -14,21 +14,22 @@ ghost use Rattle.display_sheet.specs.Windows.{HasPassed, texts_at};
 
 use crate::marking::mark_runs;
 use crate::piece_line::PieceLine;
-use crate::sheet::{Sheet, Wrapped};
+use crate::sheet::Sheet;
 use crate::shown::{Kind, MarkRun, Shown};
 use crate::window::Window;
+use crate::wraps::Wraps;
 use crate::{blocks, inlays};
 use cell_units::{NoMemory, Side, Text};
 use plain_rows::{Plain, PlainSource};
 use std::alloc::Global;
 
 /// Of each line the width at which it stands wrapped.
-pub(crate) fn widths(alloc: Global, wraps: &[Wrapped]) -> Result<Vec<u32>, NoMemory>
+pub(crate) fn widths(alloc: Global, wraps: &Wraps) -> Result<Vec<u32>, NoMemory>
     ensures { IfOk result (λ widths. widths.items ≡ map (λ w. w.mark) wraps.now) }
 {
-    let mut widths = Vec::with_capacity(alloc, wraps.len())?;
-    for wrapped in wraps {
-        widths.push(wrapped.mark)?;
+    let mut widths = Vec::with_capacity(alloc, wraps.len() as usize)?;
+    for line in 0..wraps.len() {
+        widths.push(wraps.get(line).mark)?;
     }
     Ok(widths)
 }
@@ -105,7 +106,7 @@ impl Sheet {
         ensures width { result ≡ (slice_index_or self.now.marks line (plain_mark 0)).width }
         ensures lawful { IsWidth result }
     {
-        self.wraps[line as usize].mark
+        self.wraps.get(line).mark
     }
 
     /// The texts of a line's rows, from the row `first` on, as many as there are up to `count`.
@@ -132,7 +133,7 @@ impl Sheet {
         ensures rows { result ≡ length (texts_at self.now line) }
         ensures lawful { IsLawful self.now }
     {
-        self.wraps[line as usize].rows
+        self.wraps.get(line).rows
     }
 
     /// The text rows of a line go past. One that is skipped as a whole isn't cut.
@@ -195,8 +196,7 @@ impl Sheet {
     pub fn marks(&self, alloc: Global) -> Result<Vec<MarkRun>, NoMemory>
         ensures { IfOk result (λ runs. runs.items ≡ mark_runs self.now) }
     {
-        self.lawful();
-        mark_runs(alloc, self.wraps(), self.lines())
+        mark_runs(alloc, self.wraps())
     }
 
     /// The record as plain lists.
@@ -218,7 +218,7 @@ impl Sheet {
             blocks,
             tab: self.tab,
             width: self.width,
-            marks: widths(alloc, self.wraps.as_slice())?,
+            marks: widths(alloc, &self.wraps)?,
         })
     }
 

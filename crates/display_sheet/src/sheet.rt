@@ -1,5 +1,5 @@
 //! A record as a display keeps it: its lists, its display lines laid out, and how each stands wrapped.
-ghost use Rattle.std.specs.Prelude.{◌≡◌, ◌+◌, ◌-◌, ◌^◌, ◌<◌, ◌≤◌, ◌++◌, length, take, drop, map, replicate, IfOk};
+ghost use Rattle.std.specs.Prelude.{◌≡◌, ◌+◌, ◌≤◌, length, map, IfOk};
 ghost use Rattle.std.specs.Arc.{arc_value};
 ghost use Rattle.cell_units.specs.Record.{Record, opened};
 ghost use Rattle.cell_units.specs.Text.{IsText};
@@ -9,11 +9,11 @@ ghost use Rattle.cell_units.specs.LineCounts.{line_of_row_end, line_of_row_start
 ghost use Rattle.cell_units.specs.Lawful.{HasLawfulEntries, IsAllowed, IsLawful, IsWellFormed, source_of};
 ghost use Rattle.plain_rows.specs.FoldedLines.{AreLinesOf};
 ghost use Rattle.plain_rows.specs.Plain.{block_of, fold_of, inlay_of};
-ghost use Rattle.display_sheet.specs.LineSplices.{spliced};
 ghost use Rattle.display_sheet.specs.Sheets.{IsBlockChange, IsDraft, IsDraftOf, IsOperated, draft_source, marks_in};
 ghost use Rattle.display_sheet.specs.Shown.{unstamped};
 
 use crate::buffer::Buffer;
+use crate::wraps::Wraps;
 use cell_units::{Bias, NoMemory};
 use plain_rows::{FoldedLines, PlainBlock, PlainFold, PlainInlay, PlainSource};
 use std::alloc::Global;
@@ -44,15 +44,6 @@ pub(crate) struct Draft {
     pub(crate) blocks: Arc<Vec<PlainBlock>>,
 }
 
-/// How a display line stands.
-#[derive(Clone, Copy, Debug)]
-pub struct Wrapped {
-    /// The width at which it stands wrapped, or 0.
-    pub mark: u32,
-    /// How many rows it has.
-    pub rows: u32,
-}
-
 /// A record, seen as one whose stamps count its lines. All of it is shared with its copies.
 #[derive(Drop)]
 pub struct Sheet {
@@ -63,7 +54,7 @@ pub struct Sheet {
     pub(crate) tab: u32,
     pub(crate) width: u32,
     pub(crate) lines: Arc<FoldedLines>,
-    pub(crate) wraps: Arc<Vec<Wrapped>>,
+    pub(crate) wraps: Arc<Wraps>,
 }
 
 impl Model for Sheet {
@@ -103,42 +94,6 @@ const NO_LINE: LineSplice = LineSplice {
 const OPENING_TAB: u32 = 4;
 
 const OPENING_WIDTH: u32 = 80;
-
-/// How a line that was touched stands.
-const FRESH: Wrapped = Wrapped { mark: 0, rows: 1 };
-
-/// A list with one entry for each line, after a splice of lines.
-fn after_splice<T: Copy>(
-    alloc: Global,
-    kept: &[T],
-    splice: LineSplice,
-    fresh: T,
-) -> Result<Vec<T>, NoMemory>
-    requires order { splice.first ≤ splice.end }
-    requires within { splice.end ≤ length kept.now }
-    ensures { IfOk result (λ list.
-        list.items ≡ spliced splice.first splice.end splice.count fresh kept.now) }
-{
-    let mut list = Vec::with_capacity(alloc, kept.len())?;
-    list.extend_from_slice(&kept[..splice.first as usize])?;
-    for _ in 0..splice.count {
-        list.push(fresh)?;
-    }
-    list.extend_from_slice(&kept[splice.end as usize..])?;
-    Ok(list)
-}
-
-/// Lines that were just opened.
-fn fresh_lines(alloc: Global, count: u32) -> Result<Vec<Wrapped>, NoMemory>
-    ensures { IfOk result (λ lines.
-        lines.items ≡ replicate count (record { mark = 0; rows = 1 })) }
-{
-    let mut lines = Vec::with_capacity(alloc, count as usize)?;
-    for _ in 0..count {
-        lines.push(FRESH)?;
-    }
-    Ok(lines)
-}
 
 /// The display lines of lists.
 fn laid_out(alloc: Global, draft: &Draft) -> Result<FoldedLines, NoMemory>
@@ -186,7 +141,7 @@ impl Sheet {
             blocks: shared(alloc, Vec::new(alloc))?,
         };
         let lines = laid_out(alloc, &draft)?;
-        let wraps = fresh_lines(alloc, lines.lines())?;
+        let wraps = Wraps::fresh(alloc, lines.lines())?;
         Ok(Sheet {
             text: draft.text,
             inlays: draft.inlays,
@@ -240,10 +195,10 @@ impl Sheet {
     }
 
     /// How each display line stands.
-    pub fn wraps(&self) -> &[Wrapped]
+    pub fn wraps(&self) -> &Wraps
         ensures { marks_in result.now ≡ map (λ m. m.width) self.now.marks }
     {
-        self.wraps.as_slice()
+        &self.wraps
     }
 
     /// The record is lawful. It does nothing.
@@ -307,7 +262,7 @@ impl Sheet {
             end: end_line(&self.text, &self.lines, before.end),
             count: end_line(&draft.text, &lines, after.end) - first,
         };
-        let wraps = after_splice(alloc, self.wraps.as_slice(), splice, FRESH)?;
+        let wraps = self.wraps.spliced(alloc, splice)?;
         let sheet = Sheet {
             text: draft.text,
             inlays: draft.inlays,
@@ -381,7 +336,7 @@ impl Sheet {
             end: lines,
             count: lines,
         };
-        let wraps = after_splice(alloc, self.wraps.as_slice(), splice, FRESH)?;
+        let wraps = self.wraps.spliced(alloc, splice)?;
         let sheet = Sheet {
             text: Arc::try_clone(&self.text)?,
             inlays: Arc::try_clone(&self.inlays)?,

@@ -53,7 +53,7 @@ impl Sheet {
         let stands = self.block_lines(alloc)?;
         let above = self.block_rows(alloc, &stands, Side::Above)?;
         let below = self.block_rows(alloc, &stands, Side::Below)?;
-        let mut rows = Vec::with_capacity(alloc, self.wraps.len())?;
+        let mut rows = Vec::with_capacity(alloc, self.wraps.len() as usize)?;
         let mut row = 0;
         for line in 0..self.lines() {
             row += above[line as usize];

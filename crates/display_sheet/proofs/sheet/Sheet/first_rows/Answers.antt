@@ -8,8 +8,8 @@ use Rattle.display_sheet.specs.Sheets.{IsSheet, KeepsSheet, record_in}
 use Rattle.display_sheet.proofs.SpotCounts.{rows-counted, rows-fit}
 use Rattle.display_sheet.proofs.sheet.Sheet.first_rows.Goals as goal
 
-seen : (v : Inside) (r : Record) → record_in v ≡ r → KeepsSheet v → IsSheet r (arc_value v.wraps).items (arc_value v.lines)
-seen v r is keeps = subst (λ (r : Record). IsSheet r (arc_value v.wraps).items (arc_value v.lines)) is keeps
+seen : (v : Inside) (r : Record) → record_in v ≡ r → KeepsSheet v → IsSheet r (arc_value v.wraps) (arc_value v.lines)
+seen v r is keeps = subst (λ (r : Record). IsSheet r (arc_value v.wraps) (arc_value v.lines)) is keeps
 
 pub overflow_add-row : goal.overflow_add-row
 overflow_add-row c =
@@ -21,7 +21,7 @@ overflow_add-row c =
     omega (
       arith,
       c.loop-line.invariant.0,
-      rows-fit r (arc_value v.wraps).items (arc_value v.lines) is line lt,
+      rows-fit r (arc_value v.wraps) (arc_value v.lines) is line lt,
       c.in_ok-above.ensures.each line lt,
       get_or_read c.in_ok-above.above.items line _ (omega (arith, lt, c.in_ok-above.ensures.count)) c.index.ensures 0,
     )
@@ -36,7 +36,7 @@ overflow_add-row-in-loop-line c =
     omega (
       arith,
       c.loop-line.invariant.0,
-      rows-fit r (arc_value v.wraps).items (arc_value v.lines) is line lt,
+      rows-fit r (arc_value v.wraps) (arc_value v.lines) is line lt,
       c.in_ok-above.ensures.each line lt,
       get_or_read c.in_ok-above.above.items line _ (omega (arith, lt, c.in_ok-above.ensures.count)) c.index.ensures 0,
       c.line_row_count-row.ensures.rows,
@@ -52,7 +52,7 @@ overflow_add-row-in-loop-line-2 c =
     omega (
       arith,
       c.loop-line.invariant.0,
-      rows-fit r (arc_value v.wraps).items (arc_value v.lines) is line lt,
+      rows-fit r (arc_value v.wraps) (arc_value v.lines) is line lt,
       c.in_ok-above.ensures.each line lt,
       get_or_read c.in_ok-above.above.items line _ (omega (arith, lt, c.in_ok-above.ensures.count)) c.index.ensures 0,
       c.line_row_count-row.ensures.rows,
@@ -71,4 +71,4 @@ loop-line-preserved c =
     let below = get_or_read c.in_ok-below.below.items line _ (omega (arith, lt, c.in_ok-below.ensures.count)) c.index-in-loop-line.ensures 0 ∙ c.in_ok-below.ensures.each line lt in
     let row : ℕ = c.loop-line.row + c.index.result.now + c.line_row_count-row.result + c.index-in-loop-line.result.now in
     subst (λ (rows : List ℕ). HasRowsUpto r (line + 1) rows row) (sym c.in_ok-push.ensures.items)
-    (rows-counted r (arc_value v.wraps).items (arc_value v.lines) is line lt c.loop-line.rows.items c.loop-line.row c.index.result.now c.line_row_count-row.result c.index-in-loop-line.result.now c.loop-line.invariant above c.line_row_count-row.ensures.rows below)
+    (rows-counted r (arc_value v.wraps) (arc_value v.lines) is line lt c.loop-line.rows.items c.loop-line.row c.index.result.now c.line_row_count-row.result c.index-in-loop-line.result.now c.loop-line.invariant above c.line_row_count-row.ensures.rows below)

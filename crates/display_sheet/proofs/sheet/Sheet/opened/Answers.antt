@@ -8,6 +8,7 @@ use Rattle.plain_rows.specs.FoldedLines.{AreLinesOf, LaidOut}
 use Rattle.plain_rows.specs.Plain.{fold_of, inlay_of}
 use Rattle.display_sheet.specs.declared.sheet.Sheet.TheInside.{Inside}
 use Rattle.display_sheet.specs.Sheets.{record_in}
+use Rattle.display_sheet.specs.Wraps.{fresh}
 use Rattle.display_sheet.proofs.OpenedSheets.{keeps-opened, opened_is}
 use Rattle.display_sheet.proofs.sheet.Sheet.opened.Goals as goal
 
@@ -45,8 +46,8 @@ module _ (c : goal.In_ok-new-2) where
       ∙ length-map (display_lines text (record_in s).inlays (record_in s).folds) pieces_of
       ∙ (λ i. length (display_lines text (map inlay_of (inlays i)) (map fold_of (folds i))))
 
-  wraps : (arc_value s.wraps).items ≡ replicate c.lines-2.result (record { mark = 0; rows = 1 })
-  wraps = ap (λ v. v.items) c.in_ok-new-2.ensures.ok ∙ c.in_ok-wraps.ensures
+  wraps : arc_value s.wraps ≡ replicate c.lines-2.result fresh
+  wraps = c.in_ok-new-2.ensures.ok ∙ c.in_ok-wraps.ensures
 
   kept : AreLinesOf (source_of (record_in s)) (arc_value s.lines)
   kept = subst (λ (l : LaidOut). AreLinesOf (source_of (record_in s)) l) (sym c.in_ok-new.ensures.ok) laid

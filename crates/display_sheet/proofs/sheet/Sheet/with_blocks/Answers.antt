@@ -36,13 +36,13 @@ module _ (c : goal.In_ok-try_clone-5) (op : Operation) (h : IsBlockChange op c.a
   is : IsOperated op (record_in s) (record_in s') none
   is =
       blocks-operated s s' c.self.invariant c.in_ok-try_clone.ensures (ap (λ v. v.items) c.in_ok-try_clone-2.ensures) (ap (λ v. v.items) c.in_ok-try_clone-3.ensures) c.in_ok-try_clone-4.ensures
-      op change refl refl (ap (λ v. v.items) c.in_ok-try_clone-5.ensures) none refl refl refl
+      op change refl refl c.in_ok-try_clone-5.ensures none refl refl refl
 
 pub invariant_of-sheet : goal.invariant_of-sheet
 invariant_of-sheet c =
     let op = c.requires.0 in
     keeps-operated (s c op c.requires.1) (s' c op c.requires.1) c.self.invariant c.in_ok-try_clone.ensures (ap (λ v. v.items) c.in_ok-try_clone-2.ensures) (ap (λ v. v.items) c.in_ok-try_clone-3.ensures) c.in_ok-try_clone-4.ensures
-    op (change c op c.requires.1).allowed none (is c op c.requires.1) (ap (λ v. v.items) c.in_ok-try_clone-5.ensures)
+    op (change c op c.requires.1).allowed none (is c op c.requires.1) c.in_ok-try_clone-5.ensures
 
 pub returns : goal.returns
 returns c op h = subst (λ (r : Record). IsOperated op r (record_in (s' c op h)) none) c.self.view_is (is c op h)

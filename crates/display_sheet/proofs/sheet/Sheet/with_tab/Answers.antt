@@ -9,20 +9,29 @@ use Rattle.cell_units.specs.Lawful.{source_of}
 use Rattle.plain_rows.specs.FoldedLines.{AreLinesOf, LaidOut}
 use Rattle.display_sheet.specs.declared.sheet.LineSplice.{LineSplice}
 use Rattle.display_sheet.specs.declared.sheet.Sheet.TheInside.{Inside}
-use Rattle.display_sheet.specs.declared.sheet.Wrapped.{Wrapped}
+use Rattle.display_sheet.specs.declared.wraps.Wrapped.{Wrapped}
 use Rattle.display_sheet.specs.LineSplices.{spliced}
 use Rattle.display_sheet.specs.Sheets.{IsOperated, marks_in, record_in}
+use Rattle.display_sheet.specs.Wraps.{fresh}
 use Rattle.display_sheet.proofs.Changed.{keeps-operated, tab-operated}
 use Rattle.display_sheet.proofs.Sheets.{length-marks_of}
 use Rattle.display_sheet.proofs.sheet.Sheet.with_tab.Goals as goal
 
-pub after_splice-requires-clause-within : goal.after_splice-requires-clause-within
-after_splice-requires-clause-within c =
+pub spliced-requires-clause-within : goal.spliced-requires-clause-within
+spliced-requires-clause-within c =
     let r = record_in c.self.inside in
     let lines : c.lines-lines.result ≡ length (display_lines r.text r.inlays r.folds) =
     c.lines-lines.ensures (source_of r) (subst (λ (l : LaidOut). AreLinesOf (source_of r) l) (sym c.deref.ensures) c.self.invariant.laid_out) ∙ length-map (display_lines r.text r.inlays r.folds) pieces_of in
-    let ws = marks_in (arc_value c.self.inside.wraps).items in
-    omega (arith, lines, ap length (c.as_slice.ensures.value ∙ ap (λ v. v.items) c.deref-2.ensures), c.self.invariant.lawful.marked, length-marks_of ws, length-map (arc_value c.self.inside.wraps).items (λ (w : Wrapped). w.mark))
+    let ws = marks_in (arc_value c.self.inside.wraps) in
+    omega (arith, lines, ap length c.deref-2.ensures, c.self.invariant.lawful.marked, length-marks_of ws, length-map (arc_value c.self.inside.wraps) (λ (w : Wrapped). w.mark))
+
+pub spliced-requires-clause-few : goal.spliced-requires-clause-few
+spliced-requires-clause-few c =
+    let r = record_in c.self.inside in
+    let lines : c.lines-lines.result ≡ length (display_lines r.text r.inlays r.folds) =
+    c.lines-lines.ensures (source_of r) (subst (λ (l : LaidOut). AreLinesOf (source_of r) l) (sym c.deref.ensures) c.self.invariant.laid_out) ∙ length-map (display_lines r.text r.inlays r.folds) pieces_of in
+    let ws = marks_in (arc_value c.self.inside.wraps) in
+    omega (arith, c.lines-lines.type_inv, lines, ap length c.deref-2.ensures, c.self.invariant.lawful.marked, length-marks_of ws, length-map (arc_value c.self.inside.wraps) (λ (w : Wrapped). w.mark))
 
 module _ (c : goal.In_ok-new) where
   abbrev s : Inside
@@ -46,11 +55,11 @@ module _ (c : goal.In_ok-new) where
   lines : c.lines-lines.result ≡ length (display_lines (record_in s).text (record_in s).inlays (record_in s).folds)
   lines = c.lines-lines.ensures (source_of (record_in s)) (subst (λ (l : LaidOut). AreLinesOf (source_of (record_in s)) l) (sym c.deref.ensures) c.self.invariant.laid_out) ∙ length-map (display_lines (record_in s).text (record_in s).inlays (record_in s).folds) pieces_of
 
-  wraps : (arc_value s'.wraps).items ≡ spliced 0 c.lines-lines.result c.lines-lines.result (record { mark = 0; rows = 1 }) (arc_value s.wraps).items
+  wraps : arc_value s'.wraps ≡ spliced 0 c.lines-lines.result c.lines-lines.result fresh (arc_value s.wraps)
   wraps =
-      ap (λ v. v.items) c.in_ok-new.ensures.ok
+      c.in_ok-new.ensures.ok
       ∙ c.in_ok-wraps.ensures
-      ∙ ap (spliced 0 c.lines-lines.result c.lines-lines.result (record { mark = 0; rows = 1 })) (c.as_slice.ensures.value ∙ ap (λ v. v.items) c.deref-2.ensures)
+      ∙ ap (spliced 0 c.lines-lines.result c.lines-lines.result fresh) c.deref-2.ensures
 
   is : IsOperated (SetTab c.args.tab) (record_in s) (record_in s') splice
   is =

@@ -29,12 +29,12 @@ module _ (c : goal.In_ok-try_clone-6) where
   is : IsOperated (SetWidth c.args.cells) (record_in s) (record_in s') none
   is =
       width-operated s s' c.self.invariant c.in_ok-try_clone.ensures (ap (λ v. v.items) c.in_ok-try_clone-2.ensures) (ap (λ v. v.items) c.in_ok-try_clone-3.ensures) c.in_ok-try_clone-5.ensures
-      c.args.cells c.requires (ap (λ v. v.items) c.in_ok-try_clone-4.ensures) refl refl (ap (λ v. v.items) c.in_ok-try_clone-6.ensures) none refl refl refl
+      c.args.cells c.requires (ap (λ v. v.items) c.in_ok-try_clone-4.ensures) refl refl c.in_ok-try_clone-6.ensures none refl refl refl
 
 pub invariant_of-sheet : goal.invariant_of-sheet
 invariant_of-sheet c =
     keeps-operated (s c) (s' c) c.self.invariant c.in_ok-try_clone.ensures (ap (λ v. v.items) c.in_ok-try_clone-2.ensures) (ap (λ v. v.items) c.in_ok-try_clone-3.ensures) c.in_ok-try_clone-5.ensures
-    (SetWidth c.args.cells) c.requires none (is c) (ap (λ v. v.items) c.in_ok-try_clone-6.ensures)
+    (SetWidth c.args.cells) c.requires none (is c) c.in_ok-try_clone-6.ensures
 
 pub returns : goal.returns
 returns c = subst (λ (r : Record). IsOperated (SetWidth c.args.cells) r (record_in (s' c)) none) c.self.view_is (is c)

@@ -7,6 +7,6 @@ use Rattle.display_sheet.proofs.sheet.Sheet.wraps.Goals as goal
 
 pub returns : goal.returns
 returns c =
-    ap marks_in (c.as_slice.ensures.value ∙ ap (λ v. v.items) c.deref.ensures)
-    ∙ sym (widths-marks_of (marks_in (arc_value c.self.inside.wraps).items))
+    ap marks_in c.deref.ensures
+    ∙ sym (widths-marks_of (marks_in (arc_value c.self.inside.wraps)))
     ∙ ap (λ (r : Record). widths r.marks) c.self.view_is
