@@ -1,0 +1,85 @@
+-- Marks as inlays.
+use Rattle.std.proofs.Common.{◌≡◌, ℕ, ◌+◌, ◌==◌, ◌||◌, not, min, Bool, true, false, cond, List, [], ◌∷◌, ◌++◌, length, map, filter, take, drop, refl, ap, sym, subst, ◌∙◌, inl, inr, arith}
+use Rattle.std.specs.List.{list_any}
+use Rattle.std.proofs.lemmas.Bool.{cases_lt}
+use Rattle.std.proofs.lemmas.List.{drop-map, drop_all, take-map, take_all}
+use Rattle.cell_units.specs.declared.place.Shift.{Shift}
+use Rattle.cell_units.specs.Lawful.{AreInlays, HasRoom, IsInlayOf}
+use Rattle.cell_units.specs.Record.{inlay_le}
+use Rattle.cell_units.specs.Sorting.{insert_by, sort_by}
+use Rattle.cell_units.specs.Operation.{move_inlay, moved_inlays, without_inlay}
+use Rattle.cell_units.proofs.Entries.{entries-added, entries-kept}
+use Rattle.cell_units.proofs.EntryOrders.{inlay_total, inlay_trans}
+use Rattle.mark_tree.specs.declared.mark.Mark.{Mark}
+use Rattle.mark_tree.specs.Marks.{has_id, lacks_id, mark_le, move_mark, moved_marks}
+use Rattle.inlay_map.specs.Splices.{inlay_of}
+
+pub insert-inlay : (m : Mark (List ℕ)) (ms : List (Mark (List ℕ))) → map inlay_of (insert_by mark_le m ms) ≡ insert_by inlay_le (inlay_of m) (map inlay_of ms)
+insert-inlay m [] = refl
+insert-inlay m (n ∷ ns) = go (mark_le m n) (insert-inlay m ns) where
+  go : (b : Bool) → map inlay_of (insert_by mark_le m ns) ≡ insert_by inlay_le (inlay_of m) (map inlay_of ns)
+      → map inlay_of (cond b (m ∷ n ∷ ns) (n ∷ insert_by mark_le m ns)) ≡ cond b (inlay_of m ∷ inlay_of n ∷ map inlay_of ns) (inlay_of n ∷ insert_by inlay_le (inlay_of m) (map inlay_of ns))
+  go true r = refl
+  go false r = ap (λ l. inlay_of n ∷ l) r
+
+pub sort-inlays : (ms : List (Mark (List ℕ))) → map inlay_of (sort_by mark_le ms) ≡ sort_by inlay_le (map inlay_of ms)
+sort-inlays [] = refl
+sort-inlays (m ∷ ms) = insert-inlay m (sort_by mark_le ms) ∙ ap (insert_by inlay_le (inlay_of m)) (sort-inlays ms)
+
+pub moved-marks : (s : Shift) (ms : List (Mark (List ℕ))) → map inlay_of (moved_marks s ms) ≡ moved_inlays s.start s.end s.count (map inlay_of ms)
+moved-marks s ms = sort-inlays (map (move_mark s) ms) ∙ ap (sort_by inlay_le) (each ms) where
+  each : (ns : List (Mark (List ℕ))) → map inlay_of (map (move_mark s) ns) ≡ map (move_inlay s.start s.end s.count) (map inlay_of ns)
+  each [] = refl
+  each (n ∷ ns) = ap (λ l. move_inlay s.start s.end s.count (inlay_of n) ∷ l) (each ns)
+
+pub without-mark : (id : ℕ) (ms : List (Mark (List ℕ))) → map inlay_of (filter (lacks_id id) ms) ≡ without_inlay id (map inlay_of ms)
+without-mark id [] = refl
+without-mark id (m ∷ ms) = go (not (m.id == id)) (without-mark id ms) where
+  go : (b : Bool) → map inlay_of (filter (lacks_id id) ms) ≡ without_inlay id (map inlay_of ms)
+      → map inlay_of (cond b (m ∷ filter (lacks_id id) ms) (filter (lacks_id id) ms)) ≡ cond b (inlay_of m ∷ without_inlay id (map inlay_of ms)) (without_inlay id (map inlay_of ms))
+  go true r = ap (λ l. inlay_of m ∷ l) r
+  go false r = r
+
+pub has-inlay : (id : ℕ) (ms : List (Mark (List ℕ))) → list_any (has_id id) ms ≡ list_any (λ i. i.id == id) (map inlay_of ms)
+has-inlay id [] = refl
+has-inlay id (m ∷ ms) = ap (λ b. (m.id == id) || b) (has-inlay id ms)
+
+-- ---- one mark more or less, by its index
+
+map-both : (xs ys : List (Mark (List ℕ))) → map inlay_of (xs ++ ys) ≡ map inlay_of xs ++ map inlay_of ys
+map-both [] ys = refl
+map-both (x ∷ xs) ys = ap (λ l. inlay_of x ∷ l) (map-both xs ys)
+
+pub put-at : (ms new : List (Mark (List ℕ))) (at : ℕ) (m : Mark (List ℕ)) → new ≡ take at ms ++ m ∷ drop at ms → map inlay_of new ≡ take at (map inlay_of ms) ++ inlay_of m ∷ drop at (map inlay_of ms)
+put-at ms new at m e =
+    ap (map inlay_of) e
+    ∙ map-both (take at ms) (m ∷ drop at ms)
+    ∙ (λ i. sym (take-map inlay_of at ms) i ++ inlay_of m ∷ sym (drop-map inlay_of at ms) i)
+
+pub taken-at : (ms new : List (Mark (List ℕ))) (at : ℕ) → new ≡ take at ms ++ drop (at + 1) ms → map inlay_of new ≡ take at (map inlay_of ms) ++ drop (at + 1) (map inlay_of ms)
+taken-at ms new at e =
+    ap (map inlay_of) e
+    ∙ map-both (take at ms) (drop (at + 1) ms)
+    ∙ (λ i. sym (take-map inlay_of at ms) i ++ sym (drop-map inlay_of (at + 1) ms) i)
+
+-- a place behind all is the end
+pub at-most-end : (ms : List (Mark (List ℕ))) (at : ℕ) (m : Mark (List ℕ)) → take at ms ++ m ∷ drop at ms ≡ take (min at (length ms)) ms ++ m ∷ drop (min at (length ms)) ms
+at-most-end ms at m = elim (cases_lt (length ms) at) [
+  | inr le ↦ let same : at ≡ min at (length ms) = omega (arith, le) in (λ i. take (same i) ms ++ m ∷ drop (same i) ms)
+  | inl lt ↦
+      let same : length ms ≡ min at (length ms) = omega (arith, lt) in
+      let front : take at ms ≡ take (length ms) ms = take_all at ms (omega (arith, lt)) ∙ sym (take_all (length ms) ms (omega arith)) in
+      let rest : drop at ms ≡ drop (length ms) ms = drop_all at ms (omega (arith, lt)) ∙ sym (drop_all (length ms) ms (omega arith)) in
+      (λ i. front i ++ m ∷ rest i) ∙ (λ i. take (same i) ms ++ m ∷ drop (same i) ms)
+]
+
+-- ---- what fits a text goes on to do so
+
+pub added-are : (text : List ℕ) (m : Mark (List ℕ)) (ms : List (Mark (List ℕ))) → AreInlays text (map inlay_of ms) → IsInlayOf text (inlay_of m) → HasRoom (λ i. i.id) m.id (map inlay_of ms)
+    → AreInlays text (map inlay_of (insert_by mark_le m ms))
+added-are text m ms are fits room =
+    subst (AreInlays text) (sym (insert-inlay m ms)) (entries-added inlay_le inlay_total inlay_trans (λ i. i.id) (IsInlayOf text) (inlay_of m) (map inlay_of ms) are fits room)
+
+pub taken-are : (text : List ℕ) (id : ℕ) (ms : List (Mark (List ℕ))) → AreInlays text (map inlay_of ms) → AreInlays text (map inlay_of (filter (lacks_id id) ms))
+taken-are text id ms are =
+    subst (AreInlays text) (sym (without-mark id ms)) (entries-kept inlay_le inlay_total inlay_trans (λ i. i.id) (IsInlayOf text) (λ i. not (i.id == id)) (map inlay_of ms) are)

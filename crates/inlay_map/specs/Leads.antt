@@ -1,0 +1,76 @@
+-- What a replacement leads from, and what to.
+use Rattle.std.specs.Prelude.{◌≡◌, ℕ, ◌+◌, ◌-◌, ◌≤◌, List, map, flat_map, take, drop, length, Option, Some, None}
+use Rattle.cell_units.specs.declared.place.Shift.{Shift}
+use Rattle.cell_units.specs.declared.place.Bias.TheVariants.{Left, Right}
+use Rattle.cell_units.specs.Anchor.{move}
+use Rattle.cell_units.specs.Inlaid.{Token, Byte, InlayByte, Hidden, bytes_of}
+use Rattle.cell_units.specs.Folded.{folded_to}
+use Rattle.cell_units.specs.Layers.{Source, place_of}
+
+-- a replacement by its numbers: `count` places stand where those from `start` to `end` stood
+pub record Reach : Type 0 where
+  pub start : ℕ
+  pub end : ℕ
+  pub count : ℕ
+
+abbrev pub reach_of : Shift → Reach
+reach_of s = record { start = s.start; end = s.end; count = s.count }
+
+-- The replacement's places lie within both lists. What stands before it is the same in both, and so is what stands behind
+-- it, moved.
+pub record Leads {X : Type 0} (moved : X → X) (old new : List X) (s : Reach) : Type 0 where
+  pub within : s.end ≤ length old
+  pub reaches : s.start + s.count ≤ length new
+  pub before : take s.start new ≡ take s.start old
+  pub behind : drop (s.start + s.count) new ≡ map moved (drop s.end old)
+
+-- none leads from a list to an equal one
+abbrev pub LeadsIfAny : {X : Type 0} → (X → X) → List X → List X → Option Reach → Type 0
+LeadsIfAny moved old new None = new ≡ old
+LeadsIfAny moved old new (Some s) = Leads moved old new s
+
+-- what stands behind a replacement stays as it was
+abbrev pub unmoved : {X : Type 0} → X → X
+unmoved x = x
+
+-- ---- layers
+
+-- the offset of a byte behind a replacement of the text, or before it
+abbrev pub offset_after : Option Reach → ℕ → ℕ
+offset_after None o = o
+offset_after (Some s) o = move o Right s.start s.end s.count
+
+-- the token with its offset moved
+abbrev pub token_after : Option Reach → Token → Token
+token_after s (Byte o b) = Byte (offset_after s o) b
+token_after s (InlayByte o id b) = InlayByte (offset_after s o) id b
+token_after s (Hidden o) = Hidden (offset_after s o)
+
+-- a token once for each of its places
+abbrev pub token_places : Token → List Token
+token_places t = map (λ b. t) (bytes_of t)
+
+-- what stands at each place of a layer's text
+abbrev pub layer_places : Source → List Token
+layer_places source = flat_map token_places (folded_to source.text source.inlays source.folds (length source.text) Right)
+
+-- the replacement of a layer's text leads from what it was to what it is, after that of the buffer's text
+abbrev pub LayerLeads : Option Reach → Source → Source → Option Reach → Type 0
+LayerLeads shift old new answer = LeadsIfAny (token_after shift) (layer_places old) (layer_places new) answer
+
+-- the places from the left one of an offset to the right one of another, in whose stead `count` bytes stand
+abbrev pub shown_shift : Source → ℕ → ℕ → ℕ → Reach
+shown_shift source start end count = record { start = place_of source start Left; end = place_of source end Right; count = count }
+
+-- how many bytes are shown from the left place of an offset to the right one of another
+abbrev pub shown_between : Source → ℕ → ℕ → ℕ
+shown_between source start end = place_of source end Right - place_of source start Left
+
+-- What a replacement of the text replaces of what is shown: also the inlays at both its ends.
+abbrev pub inlaid_shift : Source → Source → Reach → Reach
+inlaid_shift before after s =
+    shown_shift before s.start s.end (shown_between after s.start (s.start + s.count))
+
+-- What an inlay at the offset replaces that is added or removed: all inlays at that offset.
+abbrev pub inlay_shift : Source → Source → ℕ → Reach
+inlay_shift before after offset = shown_shift before offset offset (shown_between after offset offset)

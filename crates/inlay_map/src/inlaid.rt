@@ -1,0 +1,419 @@
+//! A text with inlays, and the splices that belong to them.
+ghost use Rattle.std.specs.Prelude.{◌≡◌, ◌==◌, ◌+◌, ◌-◌, ◌*◌, ◌<◌, ◌≤◌, ◌↔◌, IsTrue, Some, length, take, drop, slice_get, nat_le, true, IfOk, OnErr, OnOk};
+ghost use Rattle.std.specs.List.{list_any, position_or_len};
+ghost use Rattle.cell_units.specs.Lawful.{HasRoom, IsInlayOf};
+ghost use Rattle.cell_units.specs.Layers.{inlay_source, plain_source};
+ghost use Rattle.cell_units.specs.Operation.{without_inlay};
+ghost use Rattle.cell_units.specs.BufferLines.{line_end, line_start};
+ghost use Rattle.cell_units.specs.Record.{Inlay, inlay_le, line_count};
+ghost use Rattle.cell_units.specs.Sorting.{insert_by};
+ghost use Rattle.splice_tree.specs.Splices.{with_first_gap};
+ghost use Rattle.inlay_map.specs.declared.amount.Amount.{Amount};
+ghost use Rattle.cell_units.specs.Text.{IsBoundary, clean, row_end, row_of, row_start};
+ghost use Rattle.cell_units.specs.declared.limits.TheConstants.{INLAY_LIMIT};
+ghost use Rattle.sum_tree.specs.Bounds.{Searches, TakesAtMost, way};
+ghost use Rattle.text_rope.specs.Bounds.{TakesOnText, ways};
+ghost use Rattle.mark_tree.specs.Bounds.{SearchesAndTakes, changing, moving};
+ghost use Rattle.inlay_map.specs.Amounts.{amount_between, amount_of};
+ghost use Rattle.inlay_map.specs.Bounds.{Resplices, TakesInlaid, measuring, met, resplicing};
+ghost use Rattle.inlay_map.specs.Kept.{IsInlaid};
+ghost use Rattle.inlay_map.specs.Leads.{reach_of};
+ghost use Rattle.inlay_map.specs.Maps.{StandAfter, source_after};
+ghost use Rattle.inlay_map.specs.Splices.{AreSameButForGap, IsPut, IsTaken, base_at, inlay_of, splices_of};
+
+use crate::amount::{Amount, feeds_in};
+use crate::inlay_text::InlayText;
+use cell_units::{Layer, NoMemory, Shift, Steps, Text};
+use mark_tree::{Mark, MarkTree};
+use splice_tree::{Splice, SpliceTree};
+use std::alloc::Global;
+use std::marker::Model;
+use sum_core::{NoLoad, Summary};
+use text_rope::Rope;
+
+/// A text with inlays that fit it. Contracts see it as that source, which has no folds.
+#[derive(Drop)]
+pub(crate) struct Inlaid {
+    pub(crate) rope: Rope,
+    pub(crate) marks: MarkTree<InlayText>,
+}
+
+impl Model for Inlaid {
+    ghost use Rattle.std.specs.Prelude.{map};
+    ghost use Rattle.cell_units.specs.Lawful.{AreInlays};
+    ghost use Rattle.cell_units.specs.Layers.{Source, inlay_source};
+    ghost use Rattle.inlay_map.specs.Splices.{inlay_of};
+
+    ghost Value = { Source };
+
+    ghost view = { λ s. inlay_source s.rope (map inlay_of s.marks) };
+
+    ghost invariant = { λ s. AreInlays s.rope (map inlay_of s.marks) };
+}
+
+impl Inlaid {
+    /// A text without inlays. It takes no memory.
+    pub(crate) fn plain(alloc: Global, rope: Rope) -> Inlaid
+        ensures { result ≡ plain_source rope }
+    {
+        let marks = MarkTree::new(alloc);
+        Inlaid { rope, marks }
+    }
+
+    /// An equal text with equal inlays.
+    pub(crate) fn share(&self) -> Result<Inlaid, NoMemory>
+        ensures { IfOk result (λ s. s ≡ self.now) }
+    {
+        let rope = self.rope.share()?;
+        let marks = self.marks.share()?;
+        Ok(Inlaid { rope, marks })
+    }
+
+    /// The same inlays over an equal text.
+    pub(crate) fn over(&self, rope: Rope) -> Result<Inlaid, NoMemory>
+        requires { rope ≡ self.now.text }
+        ensures { IfOk result (λ s. s ≡ inlay_source rope self.now.inlays) }
+    {
+        Ok(Inlaid {
+            rope,
+            marks: self.marks.share()?,
+        })
+    }
+
+    /// The number of bytes of the text, which has no carriage return. The inlays fit it, and there are no folds.
+    pub(crate) fn len(&self) -> u32
+        ensures value { result ≡ length self.now.text }
+        ensures lawful { IsInlaid self.now }
+    {
+        self.rope.len()
+    }
+
+    /// The offset behind which the inlay of an index stands: that of the one before it, or 0.
+    fn base_of(&self, at: u32, steps: &mut Steps) -> u32
+        requires { at ≤ length self.now.inlays }
+        ensures base { result ≡ base_at 0 self.now.inlays at }
+        ensures within { result ≤ length self.now.text }
+        ensures counted { steps.old ≤ steps.new }
+        ensures steps { TakesAtMost way (length self.now.inlays) steps.old steps.new }
+    {
+        if at == 0 {
+            return 0;
+        }
+        match self.marks.get(at - 1, steps) {
+            Some((offset, _, _, _)) => offset,
+            None => 0,
+        }
+    }
+
+    /// How much text there is from one offset to a later one.
+    fn amount(&self, start: u32, end: u32, steps: &mut Steps) -> Amount
+        requires order { start ≤ end }
+        requires within { end ≤ length self.now.text }
+        ensures amount { result ≡ amount_between self.now.text start end }
+        ensures counted { steps.old ≤ steps.new }
+        ensures steps { TakesOnText (ways 8) self.now.text steps.old steps.new }
+    {
+        let first = self.rope.point_of(start, steps).row;
+        let last = self.rope.point_of(end, steps).row;
+        Amount {
+            bytes: end - start,
+            feeds: last - first,
+        }
+    }
+
+    /// The number of rows of the text.
+    pub(crate) fn line_count(&self) -> u32
+        ensures { result ≡ line_count self.now.text }
+    {
+        self.rope.line_count()
+    }
+
+    /// The row of an offset.
+    pub(crate) fn row(&self, offset: u32, steps: &mut Steps) -> u32
+        requires { offset ≤ length self.now.text }
+        ensures row { result ≡ row_of self.now.text offset }
+        ensures counted { steps.old ≤ steps.new }
+    {
+        self.rope.point_of(offset, steps).row
+    }
+
+    /// The first offset of a row.
+    pub(crate) fn row_start(&self, row: u32) -> u32
+        requires { row < line_count self.now.text }
+        ensures { result ≡ line_start self.now.text row }
+    {
+        Layer::line_start(&self.rope, row)
+    }
+
+    /// The first offset of a row, and the row's end.
+    pub(crate) fn row_range(&self, row: u32) -> (u32, u32)
+        requires { row < line_count self.now.text }
+        ensures { result ≡ (line_start self.now.text row, line_end self.now.text row) }
+    {
+        Layer::row_range(&self.rope, row)
+    }
+
+    /// The same of the row of a boundary.
+    pub(crate) fn row_ends(&self, offset: u32) -> (u32, u32)
+        requires { IsBoundary self.now.text offset }
+        ensures { result ≡ (row_start self.now.text offset, row_end self.now.text offset) }
+    {
+        Layer::row_ends(&self.rope, offset)
+    }
+
+    /// Whether the offset is a boundary of the text.
+    pub(crate) fn is_boundary(&self, offset: u32, steps: &mut Steps) -> bool
+        ensures test { IsTrue result ↔ IsBoundary self.now.text offset }
+        ensures counted { steps.old ≤ steps.new }
+        ensures steps { TakesOnText (ways 2) self.now.text steps.old steps.new }
+    {
+        self.rope.is_boundary(offset, steps)
+    }
+
+    /// The text from one boundary to another, which isn't before the first.
+    pub(crate) fn slice(
+        &self,
+        alloc: Global,
+        start: u32,
+        end: u32,
+        steps: &mut Steps,
+    ) -> Result<Text, NoMemory>
+        requires start { IsBoundary self.now.text start }
+        requires end { IsBoundary self.now.text end }
+        requires order { start ≤ end }
+        ensures text { IfOk result (λ t. t ≡ take (end - start) (drop start self.now.text)) }
+        ensures counted { steps.old ≤ steps.new }
+    {
+        self.rope.slice(alloc, start, end, steps)
+    }
+
+    /// How much text there is behind this much.
+    pub(crate) fn behind(&self, before: Amount) -> Amount
+        requires within { before.bytes ≤ length self.now.text }
+        requires before { before ≡ amount_between self.now.text 0 before.bytes }
+        ensures { result ≡ amount_between self.now.text before.bytes (length self.now.text) }
+    {
+        Amount {
+            bytes: self.rope.len() - before.bytes,
+            feeds: self.rope.line_count() - 1 - before.feeds,
+        }
+    }
+}
+
+impl Inlaid {
+    /// The splice that belongs to the inlay of an index.
+    fn splice_at(&self, at: u32, steps: &mut Steps) -> Splice<Amount, NoLoad>
+        requires { at < length self.now.inlays }
+        ensures splice { slice_get (splices_of self.now) at ≡ Some result }
+        ensures counted { steps.old ≤ steps.new }
+        ensures steps { TakesInlaid measuring self.now steps.old steps.new }
+    {
+        // What the text and its inlays have is within their limits.
+        let _len = self.len();
+        let base = self.base_of(at, steps);
+        match self.marks.get(at, steps) {
+            None => unreachable!(),
+            Some((offset, _, _, text)) => Splice::new(
+                self.amount(base, offset, steps),
+                Amount::zero(),
+                amount_shown(text),
+                NoLoad,
+            ),
+        }
+    }
+
+    /// The splices of the inlays from one index to another.
+    fn splices_in(
+        &self,
+        alloc: Global,
+        from: u32,
+        to: u32,
+        steps: &mut Steps,
+    ) -> Result<Vec<Splice<Amount, NoLoad>>, NoMemory>
+        requires order { from ≤ to }
+        requires within { to ≤ length self.now.inlays }
+        ensures ok { IfOk result (λ v.
+            v.items ≡ take (to - from) (drop from (splices_of self.now))) }
+        ensures counted { steps.old ≤ steps.new }
+        ensures steps { TakesInlaid (λ h. (to - from) * measuring h) self.now steps.old steps.new }
+    {
+        let mut splices = Vec::with_capacity(alloc, (to - from) as usize)?;
+        for at in from..to {
+            splices.push(self.splice_at(at, steps))?;
+        }
+        Ok(splices)
+    }
+
+    /// The gap before the inlay of an index, and nothing where there is none.
+    fn gap_at(&self, at: u32, steps: &mut Steps) -> Amount
+        requires { at ≤ length self.now.inlays }
+        ensures gap { let rest = drop at (splices_of self.now) in
+            with_first_gap result rest ≡ rest }
+        ensures counted { steps.old ≤ steps.new }
+        ensures steps { TakesInlaid measuring self.now steps.old steps.new }
+    {
+        if at < self.marks.len() {
+            self.splice_at(at, steps).gap()
+        } else {
+            Amount::zero()
+        }
+    }
+
+    /// All splices, from those that belonged to other inlays: `run.count` inlays have come in the place of those from index
+    /// `run.start` to `run.end`, and no others have come or gone.
+    pub(crate) fn respliced(
+        &self,
+        alloc: Global,
+        old: &SpliceTree<Amount, NoLoad>,
+        run: Shift,
+        steps: &mut Steps,
+    ) -> Result<SpliceTree<Amount, NoLoad>, NoMemory>
+        requires within { run.end ≤ length old.now }
+        requires reaches { run.start + run.count ≤ length self.now.inlays }
+        requires front { take run.start old.now ≡ take run.start (splices_of self.now) }
+        requires rest { let last = run.start + run.count in
+            AreSameButForGap (drop run.end old.now) (drop last (splices_of self.now)) }
+        ensures ok { IfOk result (λ t. t ≡ splices_of self.now) }
+        ensures counted { steps.old ≤ steps.new }
+        ensures steps { let m = length old.now in
+            Resplices (resplicing run.count) m self.now steps.old steps.new }
+    {
+        // The inlays fit the text, so that their splices are within their limits.
+        let _len = self.len();
+        let last = run.start + run.count;
+        let fresh = self.splices_in(alloc, run.start, last, steps)?;
+        let gap = self.gap_at(last, steps);
+        let mut splices = old.share()?;
+        splices.replace(alloc, run.start, run.end, fresh, gap, steps)?;
+        Ok(splices)
+    }
+}
+
+impl Inlaid {
+    /// The index of the first inlay at an offset or behind it, and how many there are where none is.
+    pub(crate) fn index_from(&self, offset: u32, steps: &mut Steps) -> u32
+        ensures index { result ≡ position_or_len (λ i. nat_le offset i.offset) self.now.inlays }
+        ensures counted { steps.old ≤ steps.new }
+        ensures steps { TakesAtMost way (length self.now.inlays) steps.old steps.new }
+    {
+        match self.marks.at_or_after(offset, steps) {
+            Some(at) => at,
+            None => self.marks.len(),
+        }
+    }
+
+    /// What the inlay of an index shows.
+    pub(crate) fn shown(&self, at: u32, steps: &mut Steps) -> &str
+        requires { at < length self.now.inlays }
+        ensures text { (i : Inlay) → slice_get self.now.inlays at ≡ Some i →
+            result.now ≡ clean i.text }
+        ensures counted { steps.old ≤ steps.new }
+    {
+        match self.marks.get(at, steps) {
+            Some((_, _, _, text)) => text.shown(),
+            None => unreachable!(),
+        }
+    }
+
+    /// Takes the inlay of an id off the text, and answers its index and its offset.
+    pub(crate) fn take(
+        &mut self,
+        alloc: Global,
+        id: u32,
+        steps: &mut Steps,
+    ) -> Result<(u32, u32), NoMemory>
+        requires { list_any (λ i. i.id == id) self.old.inlays ≡ true }
+        ensures ok { let inlays = without_inlay id self.old.inlays in
+            OnOk result (self.new ≡ inlay_source self.old.text inlays) }
+        ensures taken { IfOk result (λ r. IsTaken id self.old.inlays self.new.inlays r.0 r.1) }
+        ensures err { OnErr result (self.new ≡ self.old) }
+        ensures counted { steps.old ≤ steps.new }
+        ensures steps { SearchesAndTakes changing (length self.old.inlays) steps.old steps.new }
+    {
+        // The number of marks is a u32.
+        let _count = self.marks.len();
+        match self.marks.remove(alloc, id, steps) {
+            Ok((at, mark)) => Ok((at, mark.offset)),
+            // A mark has this id, so there was no memory.
+            Err(_) => Err(NoMemory),
+        }
+    }
+}
+
+/// How much an inlay shows.
+fn amount_shown(text: &InlayText) -> Amount
+    requires { length text.now ≤ INLAY_LIMIT }
+    ensures { result ≡ amount_of (clean text.now) }
+{
+    let shown = text.shown();
+    Amount {
+        bytes: shown.len() as u32,
+        feeds: feeds_in(shown.as_bytes()),
+    }
+}
+
+impl Inlaid {
+    /// The number of inlays.
+    pub(crate) fn count(&self) -> u32
+        ensures { result ≡ length self.now.inlays }
+    {
+        self.marks.len()
+    }
+
+    /// Whether there is an inlay of this id.
+    pub(crate) fn has_id(&self, id: u32, steps: &mut Steps) -> bool
+        ensures value { result ≡ list_any (λ i. i.id == id) self.now.inlays }
+        ensures counted { steps.old ≤ steps.new }
+        ensures steps { Searches (length self.now.inlays) steps.old steps.new }
+    {
+        self.marks.contains(id, steps)
+    }
+
+    /// The inlays over the text that a replacement has made, moved as that does.
+    pub(crate) fn moved(
+        &self,
+        alloc: Global,
+        rope: Rope,
+        shift: Shift,
+        steps: &mut Steps,
+    ) -> Result<Inlaid, NoMemory>
+        requires within { shift.start + shift.count ≤ length rope }
+        requires boundaries { StandAfter rope (Some (reach_of shift)) self.now.inlays }
+        ensures ok { IfOk result (λ s. s ≡ source_after rope (Some (reach_of shift)) self.now) }
+        ensures counted { steps.old ≤ steps.new }
+        ensures steps { let inlays = self.now.inlays in
+            TakesAtMost (moving (met (reach_of shift) inlays)) (length inlays) steps.old steps.new }
+    {
+        // The texts before and after are within their limit, and so is each inlay's place.
+        let _len = self.len();
+        let _after = rope.len();
+        let mut marks = self.marks.share()?;
+        marks.apply(alloc, shift, steps)?;
+        Ok(Inlaid { rope, marks })
+    }
+
+    /// Adds an inlay, and answers its index.
+    pub(crate) fn add(
+        &mut self,
+        alloc: Global,
+        mark: Mark<InlayText>,
+        steps: &mut Steps,
+    ) -> Result<u32, NoMemory>
+        requires fits { IsInlayOf self.old.text (inlay_of mark) }
+        requires room { HasRoom (λ i. i.id) mark.id self.old.inlays }
+        ensures ok { let inlays = insert_by inlay_le (inlay_of mark) self.old.inlays in
+            OnOk result (self.new ≡ inlay_source self.old.text inlays) }
+        ensures put { IfOk result (λ at. IsPut (inlay_of mark) self.old.inlays self.new.inlays at) }
+        ensures err { OnErr result (self.new ≡ self.old) }
+        ensures counted { steps.old ≤ steps.new }
+        ensures steps { SearchesAndTakes changing (length self.old.inlays + 1) steps.old steps.new }
+    {
+        let count = self.marks.len();
+        match self.marks.insert(alloc, mark, steps) {
+            // A place behind all marks is the end of their list.
+            Ok(at) => Ok(at.min(count)),
+            // No mark has this id, so there was no memory.
+            Err(_) => Err(NoMemory),
+        }
+    }
+}

@@ -1,0 +1,269 @@
+//! The map: inlays that are added, removed and moved, and what changed since the last snapshot.
+ghost use Rattle.std.specs.Prelude.{◌≡◌, ◌+◌, ◌≤◌, None, Some, length, option_map, IfErr, IfOk, OnErr, OnOk};
+ghost use Rattle.std.specs.List.{Contains};
+ghost use Rattle.std.specs.Option.{ForSome};
+ghost use Rattle.cell_units.specs.Layers.{inlay_source};
+ghost use Rattle.cell_units.specs.Record.{Inlay};
+ghost use Rattle.sum_tree.specs.Bounds.{ChangesAtMost};
+ghost use Rattle.text_rope.specs.Bounds.{ways};
+ghost use Rattle.inlay_map.specs.Bounds.{SearchesInlaid, TakesInlaid, changing, met, met_by, syncing};
+ghost use Rattle.inlay_map.specs.Leads.{Leads, LeadsIfAny, reach_of, unmoved};
+ghost use Rattle.inlay_map.specs.Maps.{CoverFits, DifferAt, IsOwed, IsSynced, StandAfter, add_refusal, added, answer_of, covering, inlay_with, remove_refusal, removed, source_after, state_of, synced, with_inlays, with_pending};
+
+use crate::inlay_text::InlayText;
+use crate::snapshot::InlaySnapshot;
+use cell_units::{Bias, Fault, NoMemory, Refusal, Shift, Steps};
+use mark_tree::Mark;
+use std::alloc::Global;
+use std::marker::Model;
+use text_rope::Rope;
+
+/// A text with inlays, as it is now and as it was last shown.
+#[derive(Drop)]
+pub struct InlayMap {
+    current: InlaySnapshot,
+    shown: InlaySnapshot,
+    pending: Option<Shift>,
+}
+
+impl Model for InlayMap {
+    ghost use Rattle.std.specs.Prelude.{option_map};
+    ghost use Rattle.inlay_map.specs.Leads.{reach_of};
+    ghost use Rattle.inlay_map.specs.Maps.{InlayState};
+    ghost use Rattle.inlay_map.specs.Kept.{IsKept};
+
+    ghost Value = { InlayState };
+
+    ghost view = { λ m.
+        record { current = m.current; shown = m.shown; pending = option_map reach_of m.pending } };
+
+    ghost invariant = { λ m. IsKept m.current m.shown (option_map reach_of m.pending) };
+}
+
+impl InlayMap {
+    /// The text without inlays, which counts as shown. The only refusal is one holder too many of the text.
+    pub fn new(alloc: Global, rope: Rope, steps: &mut Steps) -> Result<InlayMap, NoMemory>
+        ensures ok { IfOk result (λ m. m ≡ state_of rope) }
+        ensures steps { steps.new ≡ steps.old }
+    {
+        // Nothing is opened or made.
+        let _steps = steps;
+        let current = InlaySnapshot::plain(alloc, rope);
+        let shown = current.share()?;
+        Ok(InlayMap {
+            current,
+            shown,
+            pending: None,
+        })
+    }
+
+    /// An equal map, and no later change of either changes the other.
+    pub fn share(&self) -> Result<InlayMap, NoMemory>
+        ensures { IfOk result (λ m. m ≡ self.now) }
+    {
+        let current = self.current.share()?;
+        let shown = self.shown.share()?;
+        Ok(InlayMap {
+            current,
+            shown,
+            pending: self.pending,
+        })
+    }
+
+    /// Adds an inlay: a text that is shown at an offset of the buffer. At an insertion of text there it stays (Left) or goes
+    /// behind (Right). In this order `IdInUse` where its id is there, `BadRange` where the offset is past the text's end or
+    /// inside a character, `BadText` where the inlay's text is empty, and `TooLong` where that has more than `INLAY_LIMIT`
+    /// bytes or `ENTRY_LIMIT` inlays are there.
+    pub fn insert(
+        &mut self,
+        alloc: Global,
+        id: u32,
+        offset: u32,
+        bias: Bias,
+        text: &str,
+        steps: &mut Steps,
+    ) -> Result<(), Fault>
+        // What is there after it.
+        ensures ok { OnOk result (self.new ≡ added (inlay_with id offset bias text.now) self.old) }
+        ensures accepted { OnOk result (add_refusal self.old.current id offset text.now ≡ None) }
+
+        // Refusals are judged before any memory is taken.
+        ensures refused { IfErr result (IsOwed (add_refusal self.old.current id offset text.now)) }
+        ensures err { OnErr result (self.new ≡ self.old) }
+        ensures counted { steps.old ≤ steps.new }
+        ensures steps { let s = self.old.current in
+            SearchesInlaid changing s.text (length s.inlays + 1) steps.old steps.new }
+    {
+        if let Some(refusal) = self.current.refusal_to_add(id, offset, text, steps) {
+            return Err(Fault::Refused(refusal));
+        }
+        // The text is UTF-8.
+        let _len = self.current.text_len();
+        let mark = Mark {
+            offset,
+            bias,
+            id,
+            load: InlayText::new(alloc, text)?,
+        };
+        let next = self.current.added(alloc, mark, steps)?;
+        self.turn_to(next, offset, steps);
+        Ok(())
+    }
+
+    /// Takes the inlay of this id off the text. `UnknownId` where there is none.
+    pub fn remove(&mut self, alloc: Global, id: u32, steps: &mut Steps) -> Result<(), Fault>
+        // What is there after it.
+        ensures ok { (i : Inlay) → Contains self.old.current.inlays i → i.id ≡ id →
+            OnOk result (self.new ≡ removed i self.old) }
+        ensures accepted { OnOk result (remove_refusal self.old.current id ≡ None) }
+
+        // The refusal is judged before any memory is taken.
+        ensures refused { IfErr result (IsOwed (remove_refusal self.old.current id)) }
+        ensures err { OnErr result (self.new ≡ self.old) }
+        ensures counted { steps.old ≤ steps.new }
+        ensures steps { let s = self.old.current in
+            SearchesInlaid changing s.text (length s.inlays) steps.old steps.new }
+    {
+        // The inlays stand within the text, no two with one id.
+        let _len = self.current.text_len();
+        if !self.current.has_id(id, steps) {
+            return Err(Fault::Refused(Refusal::UnknownId));
+        }
+        let (next, offset) = self.current.removed(alloc, id, steps)?;
+        self.turn_to(next, offset, steps);
+        Ok(())
+    }
+
+    /// Takes the text as it is now, with the replacement that led to it since the last call, if there was one, and moves the
+    /// inlays. It answers the new snapshot, and the one replacement of what is shown that leads from the last snapshot to
+    /// it, or none where nothing changed.
+    pub fn sync(
+        &mut self,
+        alloc: Global,
+        rope: Rope,
+        shift: Option<Shift>,
+        steps: &mut Steps,
+    ) -> Result<(InlaySnapshot, Option<Shift>), NoMemory>
+        requires leads { LeadsIfAny unmoved self.old.current.text rope (option_map reach_of shift) }
+        requires boundaries { StandAfter rope (option_map reach_of shift) self.old.current.inlays }
+        ensures synced { let replaced = option_map reach_of shift in
+            IfOk result (λ r. IsSynced rope replaced self.old r.0 (option_map reach_of r.1)) }
+        ensures ok { OnOk result (self.new ≡ synced rope (option_map reach_of shift) self.old) }
+        ensures err { OnErr result (self.new ≡ self.old) }
+        ensures counted { steps.old ≤ steps.new }
+        ensures steps { let inlays = self.old.current.inlays in
+            let k = met_by (option_map reach_of shift) inlays in
+            TakesInlaid (syncing k) (inlay_source rope inlays) steps.old steps.new }
+    {
+        // The text has its inlays within it, and there are no folds.
+        let _len = self.current.text_len();
+        let (next, answer) = self.after(alloc, rope, shift, steps)?;
+        let shown = next.share()?;
+        let answered = next.share()?;
+        self.shown = shown;
+        self.current = next;
+        self.pending = None;
+        Ok((answered, answer))
+    }
+
+    /// What is there after the replacement of the text, if there was one, and what leads from the last snapshot to it.
+    fn after(
+        &self,
+        alloc: Global,
+        rope: Rope,
+        shift: Option<Shift>,
+        steps: &mut Steps,
+    ) -> Result<(InlaySnapshot, Option<Shift>), NoMemory>
+        requires leads { LeadsIfAny unmoved self.now.current.text rope (option_map reach_of shift) }
+        requires boundaries { StandAfter rope (option_map reach_of shift) self.now.current.inlays }
+        ensures snapshot { let replaced = option_map reach_of shift in
+            IfOk result (λ r. r.0 ≡ source_after rope replaced self.now.current) }
+        ensures answer { let replaced = option_map reach_of shift in
+            IfOk result (λ r. option_map reach_of r.1 ≡ answer_of rope replaced self.now) }
+        ensures counted { steps.old ≤ steps.new }
+        ensures steps { let inlays = self.now.current.inlays in
+            let k = met_by (option_map reach_of shift) inlays in
+            TakesInlaid (syncing k) (inlay_source rope inlays) steps.old steps.new }
+    {
+        match shift {
+            None => Ok((self.current.over(rope)?, self.pending)),
+            Some(shift) => {
+                let (next, answer) = self.moved(alloc, rope, shift, steps)?;
+                Ok((next, Some(answer)))
+            }
+        }
+    }
+
+    /// The same after a replacement.
+    fn moved(
+        &self,
+        alloc: Global,
+        rope: Rope,
+        shift: Shift,
+        steps: &mut Steps,
+    ) -> Result<(InlaySnapshot, Shift), NoMemory>
+        requires leads { Leads unmoved self.now.current.text rope (reach_of shift) }
+        requires boundaries { StandAfter rope (Some (reach_of shift)) self.now.current.inlays }
+        ensures snapshot { let replaced = Some (reach_of shift) in
+            IfOk result (λ r. r.0 ≡ source_after rope replaced self.now.current) }
+        ensures answer { let replaced = Some (reach_of shift) in
+            IfOk result (λ r. Some (reach_of r.1) ≡ answer_of rope replaced self.now) }
+        ensures counted { steps.old ≤ steps.new }
+        ensures steps { let inlays = self.now.current.inlays in
+            let k = met (reach_of shift) inlays in
+            TakesInlaid (syncing k) (inlay_source rope inlays) steps.old steps.new }
+    {
+        // What is shown is within its limits, before and after.
+        let _current = self.current.text_len();
+        let _shown = self.shown.text_len();
+        let next = self.current.moved(alloc, rope, shift, steps)?;
+        let _next = next.text_len();
+        let moved = self.current.shift_over(&next, shift, steps);
+        let answer = with_pending(self.pending, moved);
+        Ok((next, answer))
+    }
+
+    /// Shows other inlays from now on, which differ from those before at one offset.
+    fn turn_to(&mut self, next: InlaySnapshot, offset: u32, steps: &mut Steps)
+        requires text { next.text ≡ self.old.current.text }
+        requires within { offset ≤ length next.text }
+        requires differ { DifferAt offset next.inlays self.old.current.inlays }
+        ensures now { self.new ≡ with_inlays next.inlays offset self.old }
+        ensures counted { steps.old ≤ steps.new }
+        ensures steps { let before = self.old.current in
+            ChangesAtMost (ways 3) (length before.inlays) (length next.inlays) steps.old steps.new }
+    {
+        // What is shown is within its limits, before and after.
+        let _current = self.current.text_len();
+        let _next = next.text_len();
+        let _shown = self.shown.text_len();
+        let shift = self.current.shift_to(&next, offset, steps);
+        self.pending = Some(with_pending(self.pending, shift));
+        self.current = next;
+    }
+}
+
+/// The replacement that covers both, of which the second replaces what the first has left; the second alone where there is
+/// no first.
+fn with_pending(first: Option<Shift>, second: Shift) -> Shift
+    requires { ForSome first (λ f. CoverFits (reach_of f) (reach_of second)) }
+    ensures { let both = with_pending (option_map reach_of first) (Some (reach_of second)) in
+        Some (reach_of result) ≡ both }
+{
+    match first {
+        None => second,
+        Some(first) => covering(first, second),
+    }
+}
+
+/// The replacement that covers both.
+fn covering(first: Shift, second: Shift) -> Shift
+    requires { CoverFits (reach_of first) (reach_of second) }
+    ensures { reach_of result ≡ covering (reach_of first) (reach_of second) }
+{
+    let start = first.start.min(second.start);
+    let replaced = first.start + first.count;
+    let end = replaced.max(second.end);
+    let count = second.start + second.count + (end - second.end) - start;
+    Shift::new(start, end - replaced + first.end, count)
+}

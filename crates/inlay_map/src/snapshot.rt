@@ -1,0 +1,246 @@
+//! What an inlay map shows at one moment.
+ghost use Rattle.std.specs.Prelude.{◌≡◌, ◌==◌, ◌+◌, ◌≤◌, Some, length, true, IfOk};
+ghost use Rattle.std.specs.List.{Contains, list_any};
+ghost use Rattle.cell_units.specs.declared.place.Bias.TheVariants.{Left};
+ghost use Rattle.cell_units.specs.Lawful.{HasRoom, IsInlayOf};
+ghost use Rattle.cell_units.specs.Layers.{inlay_source, place_of, plain_source};
+ghost use Rattle.cell_units.specs.Operation.{without_inlay};
+ghost use Rattle.cell_units.specs.Record.{Inlay, inlay_le};
+ghost use Rattle.cell_units.specs.Sorting.{insert_by};
+ghost use Rattle.sum_tree.specs.Bounds.{ChangesAtMost, Searches, TakesAtMost, way};
+ghost use Rattle.text_rope.specs.Bounds.{ways};
+ghost use Rattle.inlay_map.specs.Bounds.{SearchesOnce, TakesInlaid, met, putting, relaying};
+ghost use Rattle.inlay_map.specs.Leads.{Leads, inlaid_shift, inlay_shift, reach_of, unmoved};
+ghost use Rattle.inlay_map.specs.Kept.{IsInlaid};
+ghost use Rattle.inlay_map.specs.Maps.{StandAfter, add_refusal, source_after};
+ghost use Rattle.inlay_map.specs.Splices.{inlay_of};
+
+use crate::amount::{Amount, ByBytes};
+use crate::inlaid::Inlaid;
+use crate::inlay_text::InlayText;
+use cell_units::limits::{ENTRY_LIMIT, INLAY_LIMIT};
+use cell_units::{Bias, NoMemory, Refusal, Shift, Steps};
+use mark_tree::Mark;
+use splice_tree::SpliceTree;
+use std::alloc::Global;
+use std::marker::Model;
+use sum_core::NoLoad;
+use text_rope::Rope;
+
+/// A text with inlays. Contracts see it as that source, which has no folds.
+#[derive(Drop)]
+pub struct InlaySnapshot {
+    pub(crate) inlaid: Inlaid,
+    pub(crate) splices: SpliceTree<Amount, NoLoad>,
+}
+
+impl Model for InlaySnapshot {
+    ghost use Rattle.std.specs.Prelude.{◌≡◌};
+    ghost use Rattle.cell_units.specs.Layers.{Source};
+    ghost use Rattle.inlay_map.specs.Splices.{splices_from};
+
+    ghost Value = { Source };
+
+    ghost view = { λ s. s.inlaid };
+
+    ghost invariant = { λ s. s.splices ≡ splices_from s.inlaid.text 0 s.inlaid.inlays };
+}
+
+impl InlaySnapshot {
+    /// A text without inlays. It takes no memory.
+    pub(crate) fn plain(alloc: Global, rope: Rope) -> InlaySnapshot
+        ensures { result ≡ plain_source rope }
+    {
+        let inlaid = Inlaid::plain(alloc, rope);
+        let splices = SpliceTree::new(alloc);
+        InlaySnapshot { inlaid, splices }
+    }
+
+    /// An equal snapshot, which no later change of a map reaches.
+    pub fn share(&self) -> Result<InlaySnapshot, NoMemory>
+        ensures { IfOk result (λ s. s ≡ self.now) }
+    {
+        let inlaid = self.inlaid.share()?;
+        let splices = self.splices.share()?;
+        Ok(InlaySnapshot { inlaid, splices })
+    }
+
+    /// The number of bytes of the text, which has no carriage return. The inlays fit it, and there are no folds.
+    pub(crate) fn text_len(&self) -> u32
+        ensures value { result ≡ length self.now.text }
+        ensures lawful { IsInlaid self.now }
+    {
+        self.inlaid.len()
+    }
+
+    /// Whether there is an inlay of this id.
+    pub(crate) fn has_id(&self, id: u32, steps: &mut Steps) -> bool
+        ensures value { result ≡ list_any (λ i. i.id == id) self.now.inlays }
+        ensures counted { steps.old ≤ steps.new }
+        ensures steps { Searches (length self.now.inlays) steps.old steps.new }
+    {
+        self.inlaid.has_id(id, steps)
+    }
+
+    /// Why an inlay isn't added, if it isn't.
+    pub(crate) fn refusal_to_add(
+        &self,
+        id: u32,
+        offset: u32,
+        text: &str,
+        steps: &mut Steps,
+    ) -> Option<Refusal>
+        ensures refusal { result ≡ add_refusal self.now id offset text.now }
+        ensures counted { steps.old ≤ steps.new }
+        ensures steps { let s = self.now in
+            SearchesOnce (ways 3) s.text (length s.inlays) steps.old steps.new }
+    {
+        // The text is UTF-8.
+        let _len = self.inlaid.len();
+        if self.inlaid.has_id(id, steps) {
+            return Some(Refusal::IdInUse);
+        }
+        if !self.inlaid.is_boundary(offset, steps) {
+            return Some(Refusal::BadRange);
+        }
+        if text.len() == 0 {
+            return Some(Refusal::BadText);
+        }
+        if text.len() > INLAY_LIMIT {
+            return Some(Refusal::TooLong);
+        }
+        let count = self.inlaid.count() as usize;
+        if count >= ENTRY_LIMIT {
+            return Some(Refusal::TooLong);
+        }
+        None
+    }
+
+    /// Where an offset stands in what is shown: before the inlays at it (Left) or behind them (Right).
+    pub(crate) fn place(&self, offset: u32, bias: Bias, steps: &mut Steps) -> u32
+        requires { offset ≤ length self.now.text }
+        ensures place { result ≡ place_of self.now offset bias }
+        ensures counted { steps.old ≤ steps.new }
+        ensures steps { TakesAtMost way (length self.now.inlays) steps.old steps.new }
+    {
+        // The text and the inlays are within their limits, so each place is a u32.
+        let _len = self.inlaid.len();
+        self.splices.to_upper::<ByBytes>(offset, bias, steps)
+    }
+
+    /// The same with one inlay more.
+    pub(crate) fn added(
+        &self,
+        alloc: Global,
+        mark: Mark<InlayText>,
+        steps: &mut Steps,
+    ) -> Result<InlaySnapshot, NoMemory>
+        requires fits { IsInlayOf self.now.text (inlay_of mark) }
+        requires room { HasRoom (λ i. i.id) mark.id self.now.inlays }
+        ensures ok { let inlays = insert_by inlay_le (inlay_of mark) self.now.inlays in
+            IfOk result (λ s. s ≡ inlay_source self.now.text inlays) }
+        ensures counted { steps.old ≤ steps.new }
+        ensures steps { let s = self.now in
+            SearchesOnce putting s.text (length s.inlays + 1) steps.old steps.new }
+    {
+        let mut inlaid = self.inlaid.share()?;
+        let at = inlaid.add(alloc, mark, steps)?;
+        let splices = inlaid.respliced(alloc, &self.splices, Shift::new(at, at, 1), steps)?;
+        Ok(InlaySnapshot { inlaid, splices })
+    }
+
+    /// What an inlay replaces of what is shown that was added at the offset, or removed there: all inlays at it.
+    pub(crate) fn shift_to(&self, next: &InlaySnapshot, offset: u32, steps: &mut Steps) -> Shift
+        requires text { next.now.text ≡ self.now.text }
+        requires within { offset ≤ length self.now.text }
+        requires before { place_of next.now offset Left ≡ place_of self.now offset Left }
+        ensures shift { reach_of result ≡ inlay_shift self.now next.now offset }
+        ensures counted { steps.old ≤ steps.new }
+        ensures steps { let was = length self.now.inlays in let is = length next.now.inlays in
+            ChangesAtMost (ways 3) was is steps.old steps.new }
+    {
+        let start = self.place(offset, Bias::Left, steps);
+        let end = self.place(offset, Bias::Right, steps);
+        let last = next.place(offset, Bias::Right, steps);
+        Shift::new(start, end, last - start)
+    }
+
+    /// The same without the inlay of an id, and the offset at which that stood.
+    pub(crate) fn removed(
+        &self,
+        alloc: Global,
+        id: u32,
+        steps: &mut Steps,
+    ) -> Result<(InlaySnapshot, u32), NoMemory>
+        requires { list_any (λ i. i.id == id) self.now.inlays ≡ true }
+        ensures ok { let inlays = without_inlay id self.now.inlays in
+            IfOk result (λ r. r.0 ≡ inlay_source self.now.text inlays) }
+        ensures offset { IfOk result (λ r.
+            (i : Inlay) → Contains self.now.inlays i → i.id ≡ id → i.offset ≡ r.1) }
+        ensures counted { steps.old ≤ steps.new }
+        ensures steps { let s = self.now in
+            SearchesOnce putting s.text (length s.inlays) steps.old steps.new }
+    {
+        // No two inlays have one id.
+        let _len = self.text_len();
+        let mut inlaid = self.inlaid.share()?;
+        let (at, offset) = inlaid.take(alloc, id, steps)?;
+        let splices = inlaid.respliced(alloc, &self.splices, Shift::new(at, at + 1, 0), steps)?;
+        Ok((InlaySnapshot { inlaid, splices }, offset))
+    }
+
+    /// The inlays over the text that a replacement has made, moved as that does.
+    pub(crate) fn moved(
+        &self,
+        alloc: Global,
+        rope: Rope,
+        shift: Shift,
+        steps: &mut Steps,
+    ) -> Result<InlaySnapshot, NoMemory>
+        requires leads { Leads unmoved self.now.text rope (reach_of shift) }
+        requires boundaries { StandAfter rope (Some (reach_of shift)) self.now.inlays }
+        ensures ok { IfOk result (λ s. s ≡ source_after rope (Some (reach_of shift)) self.now) }
+        ensures counted { steps.old ≤ steps.new }
+        ensures steps { let inlays = self.now.inlays in
+            let k = met (reach_of shift) inlays in
+            TakesInlaid (relaying k) (inlay_source rope inlays) steps.old steps.new }
+    {
+        // The text is within its limit.
+        let _len = self.inlaid.len();
+        let first = self.inlaid.index_from(shift.start, steps);
+        let last = self.inlaid.index_from(shift.end + 1, steps);
+        let inlaid = self.inlaid.moved(alloc, rope, shift, steps)?;
+        let run = Shift::new(first, last, last - first);
+        let splices = inlaid.respliced(alloc, &self.splices, run, steps)?;
+        Ok(InlaySnapshot { inlaid, splices })
+    }
+
+    /// The same inlays over an equal text.
+    pub(crate) fn over(&self, rope: Rope) -> Result<InlaySnapshot, NoMemory>
+        requires { rope ≡ self.now.text }
+        ensures { IfOk result (λ s. s ≡ inlay_source rope self.now.inlays) }
+    {
+        let inlaid = self.inlaid.over(rope)?;
+        let splices = self.splices.share()?;
+        Ok(InlaySnapshot { inlaid, splices })
+    }
+
+    /// What a replacement of the text replaces of what is shown: also the inlays at both its ends.
+    pub(crate) fn shift_over(&self, next: &InlaySnapshot, shift: Shift, steps: &mut Steps) -> Shift
+        requires within { shift.end ≤ length self.now.text }
+        requires reaches { shift.start + shift.count ≤ length next.now.text }
+        requires before { let start = shift.start in
+            place_of next.now start Left ≡ place_of self.now start Left }
+        ensures shift { reach_of result ≡ inlaid_shift self.now next.now (reach_of shift) }
+        ensures counted { steps.old ≤ steps.new }
+        ensures steps { let was = length self.now.inlays in let is = length next.now.inlays in
+            ChangesAtMost (ways 3) was is steps.old steps.new }
+    {
+        // The text is within its limit, and so is the end of what is put into it.
+        let _len = next.inlaid.len();
+        let start = self.place(shift.start, Bias::Left, steps);
+        let end = self.place(shift.end, Bias::Right, steps);
+        let last = next.place(shift.start + shift.count, Bias::Right, steps);
+        Shift::new(start, end, last - start)
+    }
+}
