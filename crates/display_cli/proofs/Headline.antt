@@ -1,6 +1,6 @@
 -- What a run is by its note, and which notes are owed.
-use Rattle.std.proofs.Common.{◌≡◌, ℕ, ◌<◌, ◌≤◌, ◌⊎◌, inl, inr, Bool, true, false, List, [], ◌∷◌, ◌++◌, length, Result, Ok, Err, Option, Some, None, refl, sym, ap, ◌∙◌, subst, arith, append_assoc}
-use Rattle.std.specs.Prelude.{◌↔◌, IfSome, OnOk, OnErr}
+use Rattle.std.proofs.Common.{◌≡◌, ℕ, ◌<◌, ◌≤◌, ◌⊎◌, inl, inr, false, List, [], ◌∷◌, ◌++◌, length, Result, Ok, Err, Option, Some, None, refl, sym, ap, ◌∙◌, subst, arith, append_assoc}
+use Rattle.std.specs.Prelude.{IfSome, OnOk, OnErr}
 use Rattle.std.specs.Str.{IsUtf8}
 use Rattle.std.specs.Str.Lossy.{utf8_valid_len}
 use Rattle.display_map.specs.Events.{Event, Published}
@@ -23,7 +23,7 @@ use Rattle.display_cli.specs.Notes.{note_line}
 use Rattle.display_cli.specs.Outside.{Faults, InputState, SinkState, HasRisen, AreTold, Takes, TakesFront}
 use Rattle.display_cli.specs.Entries.{numbered_lines}
 use Rattle.display_cli.specs.Output.{no_lines, output}
-use Rattle.display_cli.specs.Ended.{Run, Course, IsFinished, IsStopped, IsRefused, HasRead, given, text_of, script_of, HasText, IsNotUtf8At, IsEndedAs, ReadsInOrder, IsTextUnfailed, IsScriptUnfailed, IsOwed, IsComplete, IsRun, Says, course_of}
+use Rattle.display_cli.specs.Ended.{Run, Course, IsStopped, IsRefused, HasRead, given, text_of, script_of, HasText, IsNotUtf8At, IsEndedAs, ReadsInOrder, IsTextUnfailed, IsScriptUnfailed, IsOwed, IsComplete, IsRun, Says, course_of}
 use Rattle.display_cli.specs.inside.Going.{at}
 use Rattle.display_cli.specs.inside.Opening.{IsOpenedOn, IsTextRefused, IsScript, IsScriptRefused, HasWatched, IsNoteOf, HasRun, note_of}
 use Rattle.display_cli.specs.inside.Reading.{ReadsName}

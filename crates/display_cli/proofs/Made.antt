@@ -1,11 +1,10 @@
 -- A run whose text and script are made: its answers go nowhere, and their summary is written.
-use Rattle.std.proofs.Common.{◌≡◌, ℕ, ◌+◌, ◌<◌, ◌≤◌, inl, inr, List, [], ◌∷◌, ◌++◌, length, Option, Some, None, Result, Ok, Err, refl, sym, ap, ◌∙◌, subst, arith}
+use Rattle.std.proofs.Common.{◌≡◌, ℕ, ◌<◌, inl, inr, List, [], ◌∷◌, ◌++◌, length, Option, Some, None, Result, Ok, Err, refl, sym, ap, ◌∙◌, subst, arith}
 use Rattle.std.specs.Prelude.{IfSome, OnOk}
 use Rattle.std.specs.Result.{IsErrAnd}
 use Rattle.std.proofs.lemmas.List.Elements.{All-nil}
 use Rattle.cell_units.specs.declared.limits.TheConstants.{TEXT_LIMIT}
 use Rattle.board_watch.specs.Watching.{AreRising}
-use Rattle.display_map.specs.Events.{Event, Published}
 use Rattle.display_map.specs.Replay.{History, present_of}
 use Rattle.display_owner.specs.declared.owner.Owner.{Owner}
 use Rattle.command_words.specs.declared.plan.Plan.{Plan}
@@ -19,7 +18,7 @@ use Rattle.display_cli.specs.declared.tally.Tally.{Tally}
 use Rattle.display_cli.specs.Entries.{Entry}
 use Rattle.display_cli.specs.Legal.{history_of}
 use Rattle.display_cli.specs.Outside.{Faults, InputState, SinkState, AreTold, Takes, TakesFront, nowhere}
-use Rattle.display_cli.specs.Output.{answered, answers_from, no_lines, output, printed, reported, summary_at, summary_line, tally_of}
+use Rattle.display_cli.specs.Output.{answered, answers_from, no_lines, output, printed, reported, summary_at, summary_line}
 use Rattle.display_cli.specs.Ended.{Run, Course, IsEndedAs, IsNotUtf8At, IsRefused, IsStopped, given, script_of, text_of}
 use Rattle.display_cli.specs.inside.Going.{IsCut, IsGoing, IsPlayed, IsWhy, HasEnded, Stage, at}
 use Rattle.display_cli.specs.inside.Left.{HasLeft, HasLeftBy}

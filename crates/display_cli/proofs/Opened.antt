@@ -1,11 +1,11 @@
 -- A run whose owner was opened, from its opening to its last watch line.
-use Rattle.std.proofs.Common.{◌≡◌, ℕ, zero, suc, ◌+◌, ◌<◌, ◌≤◌, Bool, true, false, All, List, [], ◌∷◌, ◌++◌, length, map, Option, Some, None, Result, Ok, Err, refl, sym, ap, ◌∙◌, subst, arith}
+use Rattle.std.proofs.Common.{◌≡◌, ℕ, ◌<◌, ◌≤◌, All, List, [], ◌∷◌, length, map, Option, Some, None, Result, Ok, Err, refl, sym, ap, ◌∙◌, subst, arith}
 use Rattle.std.specs.Prelude.{IfSome, OnOk, replicate}
 use Rattle.std.proofs.lemmas.List.{length-map, length-replicate}
 use Rattle.std.proofs.lemmas.List.Elements.{All-nil, All-cons, All-head, All-tail, All-map, All-replicate}
 use Rattle.logbook.specs.Pages.{Book}
-use Rattle.display_map.specs.Events.{Event, Published, event_limit}
-use Rattle.display_map.specs.Replay.{History, appended, versions_of}
+use Rattle.display_map.specs.Events.{Event, event_limit}
+use Rattle.display_map.specs.Replay.{History, versions_of}
 use Rattle.version_board.specs.Known.{Known}
 use Rattle.display_owner.specs.declared.owner.Owner.{Owner}
 use Rattle.display_owner.specs.declared.opening.Opened.{Opened}
@@ -23,7 +23,7 @@ use Rattle.display_cli.specs.Output.{no_lines}
 use Rattle.display_cli.specs.Ended.{Course}
 use Rattle.display_cli.specs.inside.Going.{IsReady, IsGoing, HasEnded, PlaysAll, at}
 use Rattle.display_cli.specs.inside.Left.{AreBoards, HasLeft, HasLeftBy, board_of}
-use Rattle.display_cli.specs.inside.Opening.{EndsWatch, HasRun, HasWatched, IsNoteOf}
+use Rattle.display_cli.specs.inside.Opening.{EndsWatch, HasRun, IsNoteOf}
 use Rattle.display_cli.proofs.Played.{going-fresh, published-fresh, room-fresh}
 use Rattle.display_cli.proofs.Headline.{run-watched}
 

@@ -1,6 +1,6 @@
 -- A run from its first version to its last.
 use Rattle.std.proofs.Common.{◌≡◌, ℕ, zero, suc, ◌+◌, ◌<◌, ◌≤◌, Bool, true, false, not, cond, List, [], ◌∷◌, ◌++◌, map, length, take, drop, get_or, Some, None, Result, Ok, Err, refl, sym, ap, ◌∙◌, subst, arith, length-append}
-use Rattle.std.specs.Prelude.{◌||◌, ◌==◌, nat_lt}
+use Rattle.std.specs.Prelude.{◌==◌, nat_lt}
 use Rattle.std.specs.Result.{IsErrAnd}
 use Rattle.std.specs.List.{enumerate_from, filter, position, position_or_len, prefix_len}
 use Rattle.std.proofs.lemmas.Bool.{ltb-false, eqb-true}
@@ -15,7 +15,6 @@ use Rattle.display_owner.specs.Beside.{outstanding}
 use Rattle.edit_script.specs.declared.asked.Form.{Form}
 use Rattle.edit_script.specs.Verdict.{is_blank}
 use Rattle.display_cli.specs.declared.stop.Stop.{Stop}
-use Rattle.display_cli.specs.declared.stop.Stop.TheVariants as stops
 use Rattle.display_cli.specs.Entries.{Entry, Bytes, script_lines}
 use Rattle.display_cli.specs.Outside.{SinkState, Takes}
 use Rattle.display_cli.specs.declared.tally.Tally.{Tally}

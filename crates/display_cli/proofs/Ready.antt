@@ -5,7 +5,7 @@ use Rattle.std.proofs.lemmas.List.Sums.{sum_by-append}
 use Rattle.cell_units.specs.Record.{Record}
 use Rattle.display_map.specs.Events.{Event}
 use Rattle.display_map.specs.Events.{Sent, Landed, Published}
-use Rattle.display_map.specs.Replay.{History, State, SentJob, happens, replayed, state_of, present_of, landed_on, job_numbered, versions_of, is_published, appended}
+use Rattle.display_map.specs.Replay.{History, State, SentJob, replayed, state_of, present_of, landed_on, job_numbered, versions_of, is_published, appended}
 use Rattle.display_owner.specs.declared.owner.Owner.{Owner}
 use Rattle.display_owner.specs.Beside.{Step, Sends, Lands, events_of, behind, behind_all, HasGone}
 use Rattle.display_owner.specs.Owned.{IsOwned}

@@ -1,6 +1,6 @@
 -- How a run ends behind its last version: what its watchers saw is written.
-use Rattle.std.proofs.Common.{◌≡◌, ℕ, ◌+◌, ◌<◌, ◌≤◌, Bool, true, All, List, [], ◌∷◌, ◌++◌, length, map, drop, get_or, Result, Ok, Err, refl, sym, ap, ◌∙◌, subst, append_assoc, arith}
-use Rattle.std.specs.Prelude.{◌↔◌, Option, None, Some, IfSome, IfOk, OnOk}
+use Rattle.std.proofs.Common.{◌≡◌, ℕ, ◌+◌, ◌<◌, ◌≤◌, true, All, List, [], ◌∷◌, ◌++◌, length, map, drop, get_or, Result, Ok, Err, refl, sym, ap, ◌∙◌, subst, append_assoc, arith}
+use Rattle.std.specs.Prelude.{Option, None, Some, IfSome, IfOk, OnOk}
 use Rattle.std.specs.declared.alloc.Global.{Global}
 use Rattle.std.specs.declared.vec.Vec.{Vec}
 use Rattle.std.specs.List.{last_or}
@@ -8,7 +8,7 @@ use Rattle.std.proofs.lemmas.List.{append-nil, drop_more}
 use Rattle.std.proofs.lemmas.List.Elements.{All-map, All-nil, All-weaker}
 use Rattle.std.proofs.lemmas.Grind.{flat_map-append}
 use Rattle.cell_units.specs.Text.{line_feed}
-use Rattle.display_map.specs.Events.{Event, Published, event_limit}
+use Rattle.display_map.specs.Events.{Event, Published}
 use Rattle.display_map.specs.Replay.{History, ends, is_last}
 use Rattle.version_board.specs.Known.{Known}
 use Rattle.board_watch.specs.declared.seen.Seen.{Seen}
@@ -20,11 +20,11 @@ use Rattle.display_cli.specs.Legal.{history_of}
 use Rattle.display_cli.specs.Outside.{SinkState, Takes, TakesFront}
 use Rattle.display_cli.specs.declared.tally.Tally.{Tally}
 use Rattle.display_cli.specs.Output.{printed, output, reported, watch_line, watch_lines}
-use Rattle.display_cli.specs.Ended.{Course, HaveWatched, HaveWatchedSome, IsStopped, IsFinished}
-use Rattle.display_cli.specs.inside.Going.{Stage, at, IsPlayed, IsCut, IsWhy, HasEnded}
+use Rattle.display_cli.specs.Ended.{Course, HaveWatchedSome, IsStopped}
+use Rattle.display_cli.specs.inside.Going.{at, IsPlayed, IsCut, IsWhy, HasEnded}
 use Rattle.display_cli.specs.inside.Opening.{EndsWatch, HasWatched, SeeLast, seen_by}
 use Rattle.display_cli.specs.inside.Reading.{IsUnwritten}
-use Rattle.display_cli.proofs.Fronts.{AreWritten, takes-more, takes-same, takes-none, front-all, front-behind, risen-behind, unwritten-behind, written-more, written-stopped}
+use Rattle.display_cli.proofs.Fronts.{AreWritten, takes-more, takes-none, front-all, front-behind, risen-behind, unwritten-behind, written-more, written-stopped}
 
 -- ---- lines
 

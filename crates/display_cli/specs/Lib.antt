@@ -1,5 +1,6 @@
 -- What the crate promises
 pub mod Outside
+pub mod Telling
 pub mod Entries
 pub mod Legal
 pub mod Output

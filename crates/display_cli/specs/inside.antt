@@ -7,4 +7,3 @@ pub mod Left
 pub mod Opening
 pub mod Named
 pub mod Calls
-pub mod Telling

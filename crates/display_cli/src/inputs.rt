@@ -3,7 +3,7 @@ ghost use Rattle.std.specs.Prelude.{◌≡◌, ◌<◌, ◌≤◌, ◌⊎◌, tr
 ghost use Rattle.std.specs.Option.{option_copied};
 ghost use Rattle.display_cli.specs.inside.Calls.{is_failing, one_more};
 ghost use Rattle.display_cli.specs.inside.Named.{IsMost, bytes_named, bytes_or_none, faults_in, map_state, told_by};
-ghost use Rattle.display_cli.specs.inside.Telling.{reads_told};
+ghost use Rattle.display_cli.specs.Telling.{reads_told};
 ghost use Rattle.display_cli.specs.Outside.{Faults, HasPartRisen, IsGiven, Reads, count_of, no_faults};
 
 use crate::calls::Calls;

@@ -2,7 +2,7 @@
 ghost use Rattle.std.specs.Prelude.{◌≡◌, ◌++◌, ◌<◌, ◌≤◌, false, [], Some, Ok, length, take, IfOk, OnOk, OnErr};
 ghost use Rattle.display_cli.specs.inside.Calls.{is_failing, one_more};
 ghost use Rattle.display_cli.specs.inside.Named.{list_state};
-ghost use Rattle.display_cli.specs.inside.Telling.{bytes_told};
+ghost use Rattle.display_cli.specs.Telling.{bytes_told};
 ghost use Rattle.display_cli.specs.Outside.{SinkState, Takes, Refuses, nowhere};
 
 use crate::calls::Calls;

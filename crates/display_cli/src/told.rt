@@ -1,6 +1,6 @@
 //! What is told to contracts and stored nowhere: bytes, and the reads that were made.
 ghost use Rattle.std.specs.Prelude.{◌≡◌, [], ◌∷◌, ◌++◌};
-ghost use Rattle.display_cli.specs.inside.Telling.{bytes_told, reads_told};
+ghost use Rattle.display_cli.specs.Telling.{bytes_told, reads_told};
 
 use crate::outside::Part;
 use std::snapshot::Snapshot;

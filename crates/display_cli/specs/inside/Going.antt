@@ -27,7 +27,7 @@ use Rattle.display_cli.specs.declared.stop.Stop.TheVariants as stops
 use Rattle.display_cli.specs.declared.tally.Outcome.{Outcome}
 use Rattle.display_cli.specs.declared.tally.Tally.{Tally}
 use Rattle.display_cli.specs.Outside.{SinkState, HasRisen, Takes}
-use Rattle.display_cli.specs.Entries.{Entry, Bytes, judged, asked_by, asked_by_command, script_lines, numbered_lines}
+use Rattle.display_cli.specs.Entries.{Entry, Bytes, judged, asked_by, asked_by_command, numbered_lines}
 use Rattle.display_cli.specs.Legal.{IsLegal, IsLegalSoFar, IsChanging, IsChanged, lines_in, is_landed, is_end, needs_settled}
 use Rattle.display_cli.specs.Output.{answered, no_lines, reported, tally_of}
 use Rattle.display_cli.specs.Ended.{Course, IsStopped, IsFull}

@@ -7,7 +7,7 @@ use Rattle.display_cli.specs.declared.inputs.FaultCounts.{FaultCounts}
 use Rattle.display_cli.specs.declared.inputs.MapInputs.{MapInputs}
 use Rattle.display_cli.specs.declared.sinks.ListSink.{ListSink}
 use Rattle.display_cli.specs.Outside.{Faults, InputState, SinkState}
-use Rattle.display_cli.specs.inside.Telling.{reads_told}
+use Rattle.display_cli.specs.Telling.{reads_told}
 
 -- the bytes of a name, if the list has it
 abbrev pub bytes_named : List NamedBytes → List ℕ → Option (List ℕ)

@@ -1,10 +1,9 @@
 -- The journal grew, so there was an operation, and its version is published.
-use Rattle.std.proofs.Common.{◌≡◌, inl, inr, map, sym, ap, ◌∙◌, refl}
+use Rattle.std.proofs.Common.{inl, inr, ◌∙◌}
 use Rattle.display_sheet.specs.Changes.{ops_of}
-use Rattle.display_map.specs.Events.{Did, event_limit}
-use Rattle.display_cli.specs.inside.Going.{IsWithinChange, changed}
+use Rattle.display_map.specs.Events.{event_limit}
+use Rattle.display_cli.specs.inside.Going.{IsWithinChange}
 use Rattle.display_cli.proofs.Lines.{changed-more}
-use Rattle.display_cli.proofs.Ready.{ready-more, ready-same}
 use Rattle.display_cli.proofs.Results.{on-err}
 use Rattle.display_cli.proofs.runner.apply_change.Goals as goal
 

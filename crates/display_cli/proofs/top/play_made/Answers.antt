@@ -1,7 +1,7 @@
 -- The answers went nowhere, and then the summary was written.
 use Rattle.std.proofs.Common.{◌≡◌, vec_len}
 use Rattle.display_cli.proofs.Made.{left-made, on-ok-same}
-use Rattle.display_cli.specs.inside.Telling.{bytes_told}
+use Rattle.display_cli.specs.Telling.{bytes_told}
 use Rattle.display_cli.proofs.top.play_made.Goals as goal
 
 pub returns-clause-left : goal.returns-clause-left

@@ -1,7 +1,6 @@
 -- The watchers of an opened owner look at the board of its readers.
 use Rattle.std.proofs.Common.{◌≡◌, length, map, arith}
 use Rattle.version_board.specs.Known.{Known}
-use Rattle.board_watch.specs.Watching.{Watching}
 use Rattle.display_cli.specs.inside.Left.{board_of, boards_of}
 use Rattle.display_cli.proofs.Opened.{are-boards, team-count, watchers-boards}
 use Rattle.display_cli.proofs.Results.{on-ok}

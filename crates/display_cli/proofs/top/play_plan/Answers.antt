@@ -1,5 +1,5 @@
 -- A plan has a make, or it has none.
-use Rattle.std.proofs.Common.{◌≡◌, ℕ, Option, subst, sym}
+use Rattle.std.proofs.Common.{ℕ, Option, subst, sym}
 use Rattle.display_cli.specs.inside.Left.{HasLeftBy}
 use Rattle.display_cli.proofs.top.play_plan.Goals as goal
 

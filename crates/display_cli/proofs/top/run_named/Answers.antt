@@ -1,6 +1,5 @@
 -- A plan of names ends where its text or its script isn't read, or with the run of its script.
 use Rattle.std.proofs.Common.{ℕ, List, Option, map, refl, sym, subst, ap, ◌∙◌}
-use Rattle.display_map.specs.Replay.{History}
 use Rattle.command_words.specs.declared.plan.Plan.{Plan}
 use Rattle.display_cli.specs.declared.ended.Note.{Note}
 use Rattle.display_cli.specs.Outside.{InputState}

@@ -1,12 +1,12 @@
 -- The line is recorded, and then its answer is written or its refusal.
-use Rattle.std.proofs.Common.{◌≡◌, ◌≤◌, ℕ, Bool, true, false, Option, Some, None, length, refl, sym, ap, ◌∙◌, subst, true≢false, arith}
+use Rattle.std.proofs.Common.{◌≡◌, ◌≤◌, true, Option, Some, None, length, refl, sym, ap, ◌∙◌, subst, true≢false, arith}
 use Rattle.cell_units.specs.declared.fault.Refusal.{Refusal}
 use Rattle.display_map.specs.Replay.{History, present_of, versions_of, is_settled}
 use Rattle.display_owner.specs.declared.owner.Owner.{Owner}
 use Rattle.edit_script.specs.declared.asked.Query.{Query}
 use Rattle.edit_script.specs.Commands.{Ask}
 use Rattle.edit_script.specs.Printed.{query_lines}
-use Rattle.edit_script.specs.Verdict.{Verdict, Refused, Accepted, refused_or, query_refusal, query_wants_settled}
+use Rattle.edit_script.specs.Verdict.{Refused, Accepted, refused_or, query_refusal, query_wants_settled}
 use Rattle.display_cli.specs.Entries.{judged}
 use Rattle.display_cli.specs.Legal.{needs_settled}
 use Rattle.display_cli.specs.inside.Going.{IsAbreast, MayHandle, at}

@@ -1,8 +1,6 @@
 -- What the line is read as has its verdict, on the display as it is when the line is recorded.
-use Rattle.std.proofs.Common.{◌≡◌, ◌∙◌, ◌∷◌, sym, ap}
+use Rattle.std.proofs.Common.{◌∙◌, ◌∷◌, sym}
 use Rattle.display_map.specs.Replay.{present_of}
-use Rattle.edit_script.specs.Commands.{Ask, Settle}
-use Rattle.edit_script.specs.Verdict.{Accepted, refused_or, query_refusal}
 use Rattle.display_cli.specs.Entries.{Bytes}
 use Rattle.display_cli.specs.inside.Going.{at, stage}
 use Rattle.display_cli.proofs.Handled.{handled-err, verdict-change, verdict-query, verdict-settle, asked-change, handles-unread}

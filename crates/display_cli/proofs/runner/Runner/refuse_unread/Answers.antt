@@ -1,5 +1,4 @@
 -- The line is refused for its fault, or there was no memory before it was recorded.
-use Rattle.std.proofs.Common.{refl}
 use Rattle.display_cli.specs.inside.Going.{at, stage}
 use Rattle.display_cli.proofs.Handled.{not-begun, unread-refused, unread-short}
 use Rattle.display_cli.proofs.runner.Runner.refuse_unread.Goals as goal

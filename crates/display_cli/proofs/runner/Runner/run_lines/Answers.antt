@@ -3,7 +3,6 @@ use Rattle.std.proofs.Common.{◌+◌, ◌∙◌, ℕ, List, subst, sym, refl, a
 use Rattle.edit_script.specs.declared.asked.Form.{Form}
 use Rattle.display_cli.specs.declared.tally.Tally.{Tally}
 use Rattle.display_cli.specs.Entries.{script_lines}
-use Rattle.display_cli.specs.Output.{no_lines}
 use Rattle.display_cli.specs.inside.Going.{IsGoing, numbered_from, stage}
 use Rattle.display_cli.proofs.Played.{none-lines, lines-err}
 use Rattle.display_cli.proofs.runner.Runner.run_lines.Goals as goal

@@ -1,5 +1,5 @@
 -- The lines behind the head are the entries of the script.
-use Rattle.std.proofs.Common.{◌≡◌, List, ℕ, None, subst, sym, arith}
+use Rattle.std.proofs.Common.{List, ℕ, None, subst, sym, arith}
 use Rattle.display_cli.specs.declared.stop.Stop.{Stop}
 use Rattle.display_cli.specs.declared.stop.Stop.TheVariants as stops
 use Rattle.display_cli.specs.Entries.{Entry, numbered_lines}

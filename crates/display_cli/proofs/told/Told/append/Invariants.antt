@@ -1,5 +1,5 @@
 use Rattle.std.proofs.Common.{◌≡◌, ◌++◌, take}
-use Rattle.display_cli.specs.inside.Telling.{bytes_told}
+use Rattle.display_cli.specs.Telling.{bytes_told}
 use Rattle.display_cli.proofs.told.Told.append.Given as goal
 
 abbrev pub invariant-loop-byte : goal.invariant-loop-byte

@@ -1,5 +1,5 @@
 //! Scripts of the second form, and lines that look like its header.
-use crate::tests::{Session, expect, run_of};
+use crate::runs::{Session, expect, run_of};
 use display_map::{Event, Journal};
 use std::test::Fail;
 

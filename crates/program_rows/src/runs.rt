@@ -1,22 +1,6 @@
-//! Runs whose output is known, and the edges that no contract sees through.
-mod changing;
-mod examples;
-mod faults;
-mod headers;
-mod made;
-mod outside;
-mod refusals;
-mod rows;
-mod schedules;
-mod source;
-mod spots;
-mod threads;
-
-use crate::ended::Ended;
-use crate::inputs::{MapInputs, NamedBytes};
-use crate::sinks::ListSink;
-use crate::top::run;
+//! What the tests run, and with which inputs and sinks.
 use cell_units::{NoMemory, Text};
+use display_cli::{Ended, ListSink, MapInputs, NamedBytes, run};
 use std::alloc::Global;
 use std::process::Abort;
 use std::sync::Wait;
@@ -25,21 +9,21 @@ use wrap_workers::{FreeGate, Gate};
 
 /// The end of a run, and what was written.
 #[derive(Drop)]
-struct Outcome {
-    ended: Ended,
-    out: ListSink,
+pub(crate) struct Outcome {
+    pub(crate) ended: Ended,
+    pub(crate) out: ListSink,
 }
 
 /// A script on a text, what it writes, and what that shows.
 #[derive(Clone, Copy)]
-struct Session<'a> {
-    shows: &'a str,
-    text: &'a str,
-    script: &'a str,
-    written: &'a str,
+pub(crate) struct Session<'a> {
+    pub(crate) shows: &'a str,
+    pub(crate) text: &'a str,
+    pub(crate) script: &'a str,
+    pub(crate) written: &'a str,
 }
 
-fn strings(alloc: Global, words: &[&str]) -> Result<Vec<String>, NoMemory> {
+pub(crate) fn strings(alloc: Global, words: &[&str]) -> Result<Vec<String>, NoMemory> {
     let mut strings = Vec::new(alloc);
     for word in words {
         strings.push(String::from_str(alloc, word)?)?;
@@ -47,7 +31,7 @@ fn strings(alloc: Global, words: &[&str]) -> Result<Vec<String>, NoMemory> {
     Ok(strings)
 }
 
-fn file(alloc: Global, name: &str, bytes: &[u8]) -> Result<NamedBytes, NoMemory> {
+pub(crate) fn file(alloc: Global, name: &str, bytes: &[u8]) -> Result<NamedBytes, NoMemory> {
     Ok(NamedBytes {
         name: Text::from_str(alloc, name)?,
         bytes: Vec::from_slice(alloc, bytes)?,
@@ -55,7 +39,7 @@ fn file(alloc: Global, name: &str, bytes: &[u8]) -> Result<NamedBytes, NoMemory>
 }
 
 /// Inputs with the text `a` and the script `b`, of which the reads of some numbers fail.
-fn inputs_of(
+pub(crate) fn inputs_of(
     alloc: Global,
     text: &[u8],
     script: &[u8],
@@ -68,7 +52,7 @@ fn inputs_of(
 }
 
 /// Runs the words on the text `a` and the script `b`, where the reads and writes of some numbers fail.
-fn run_failing<R: Threads + Wait + Sync, G: Gate + Sync>(
+pub(crate) fn run_failing<R: Threads + Wait + Sync, G: Gate + Sync>(
     rt: &R,
     alloc: Global,
     words: &[&str],
@@ -86,7 +70,7 @@ fn run_failing<R: Threads + Wait + Sync, G: Gate + Sync>(
 }
 
 /// Runs the words on the text `a` and the script `b`.
-fn run_words<R: Threads + Wait + Sync, G: Gate + Sync>(
+pub(crate) fn run_words<R: Threads + Wait + Sync, G: Gate + Sync>(
     rt: &R,
     alloc: Global,
     words: &[&str],
@@ -98,7 +82,7 @@ fn run_words<R: Threads + Wait + Sync, G: Gate + Sync>(
 }
 
 /// Runs the script `b` on the text `a`, where the reads and writes of some numbers fail.
-fn run_of<R: Threads + Wait + Sync>(
+pub(crate) fn run_of<R: Threads + Wait + Sync>(
     rt: &R,
     alloc: Global,
     text: &[u8],
@@ -120,7 +104,7 @@ fn run_of<R: Threads + Wait + Sync>(
 }
 
 /// Runs each session with 1, 2 and 8 workers, and compares what is written, and whether a line is refused.
-fn expect<R: Abort + Threads + Wait + Sync>(
+pub(crate) fn expect<R: Abort + Threads + Wait + Sync>(
     rt: &R,
     alloc: Global,
     sessions: &[Session],

@@ -1,39 +1,14 @@
 //! The program `displaymap`: it runs a script on a text and prints the rows that the script asks for.
 //!
-//! `run` carries the headline theorem, and `program` ties the exit status and what is said to it. `main` gives `program`
-//! the real files, the standard output and standard error.
+//! All that it does is `program` of `display_cli`: `main` gives that the words, the real files, the standard output and
+//! standard error, and hands its status to the system.
 #![tactic(auto)]
 
-mod beside;
-mod calls;
-mod ended;
-mod inputs;
-mod limits;
-mod outside;
-mod read;
-mod runner;
-mod say;
-mod script;
-mod settling;
-mod sinks;
-mod stop;
-mod summary;
-mod tally;
-mod told;
-mod top;
-mod watch;
-mod write;
-
-use crate::inputs::FileInputs;
-use crate::sinks::StreamSink;
-use crate::top::{give_up, program};
+use display_cli::{FileInputs, StreamSink, give_up, program};
 use std::env::Env;
 use std::process::ExitCode;
 use std::{env, io};
 use wrap_workers::FreeGate;
-
-#[cfg(test)]
-mod tests;
 
 /// The words behind the program's name.
 fn given_words(rt: &(impl Env + AllocGlobal)) -> io::Result<Vec<String>> {

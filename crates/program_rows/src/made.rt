@@ -1,5 +1,5 @@
 //! Runs whose text and script are made from a number.
-use crate::tests::{Outcome, run_words};
+use crate::runs::{Outcome, run_words};
 use cell_units::NoMemory;
 use std::alloc::Global;
 use std::process::Abort;

@@ -1,5 +1,5 @@
 //! The rows that texts are shown as.
-use crate::tests::{Session, expect};
+use crate::runs::{Session, expect};
 use std::test::Fail;
 
 #[test]

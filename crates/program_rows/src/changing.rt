@@ -1,16 +1,11 @@
 //! A text or a script that changes while it is read.
 ghost use Rattle.std.specs.Prelude.{◌≡◌, ◌≤◌, length, IfOk};
-ghost use Rattle.display_cli.specs.inside.Telling.{reads_told};
+ghost use Rattle.display_cli.specs.Telling.{reads_told};
 ghost use Rattle.display_cli.specs.Outside.{HasPartRisen};
 
-use crate::ended::Note;
-use crate::inputs::MapInputs;
-use crate::outside::{Failed, Inputs, Part};
-use crate::sinks::ListSink;
-use crate::tests::{Outcome, file, strings};
-use crate::told::ReadsTold;
-use crate::top::run;
+use crate::runs::{Outcome, file, strings};
 use cell_units::NoMemory;
+use display_cli::{Failed, Inputs, ListSink, MapInputs, Note, Part, ReadsTold, run};
 use std::alloc::Global;
 use std::sync::Wait;
 use std::test::Fail;

@@ -2,11 +2,9 @@
 //! written is a front of the output, and each run ends.
 ghost use Rattle.std.specs.Prelude.{◌≡◌};
 
-use crate::ended::Note;
-use crate::outside::{Failed, Sink};
-use crate::tests::{Outcome, inputs_of, run_failing, strings};
-use crate::top::run;
+use crate::runs::{Outcome, inputs_of, run_failing, strings};
 use cell_units::NoMemory;
+use display_cli::{Failed, Note, Sink, run};
 use std::alloc::Global;
 use std::sync::Wait;
 use std::test::Fail;

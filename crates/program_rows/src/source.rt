@@ -1,6 +1,6 @@
 //! A source of four hundred lines beside any number of workers.
-use crate::tests::Session;
-use crate::tests::schedules::assert_run;
+use crate::runs::Session;
+use crate::schedules::assert_run;
 use cell_units::NoMemory;
 use std::alloc::Global;
 use std::test::Fail;

@@ -1,5 +1,5 @@
 //! Runs whose workers and watchers do their part beside the owner.
-use crate::tests::{Outcome, run_failing, run_words};
+use crate::runs::{Outcome, run_failing, run_words};
 use std::sync::atomic::{AtomicU64, Ordering};
 use std::test::Fail;
 use std::thread;

@@ -1,5 +1,5 @@
 //! Where offsets are shown, and which offsets spots show.
-use crate::tests::{Session, expect};
+use crate::runs::{Session, expect};
 use std::test::Fail;
 
 #[test]

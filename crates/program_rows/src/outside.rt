@@ -1,11 +1,10 @@
 //! What is read, what is written, and faults of both.
-use crate::ended::Note;
-use crate::inputs::{FileInputs, MapInputs, SureInputs};
-use crate::outside::{Inputs, Part, Sink};
-use crate::sinks::{ListSink, StreamSink, SureSink};
-use crate::tests::{file, inputs_of, run_of, strings};
-use crate::top::{program, run};
+use crate::runs::{file, inputs_of, run_of, strings};
 use cell_units::NoMemory;
+use display_cli::{
+    FileInputs, Inputs, ListSink, MapInputs, Note, Part, Sink, StreamSink, SureInputs, SureSink,
+    program, run,
+};
 use std::alloc::Global;
 use std::fs;
 use std::io::{Error, ErrorKind, Write};

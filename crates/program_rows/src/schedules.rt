@@ -1,9 +1,9 @@
 //! Runs beside workers and watchers: what they answer is the same for any number of them, and under schedules that a seed
 //! chooses.
-use crate::ended::Ended;
-use crate::tests::{Outcome, Session, run_words};
+use crate::runs::{Outcome, Session, run_words};
 use board_watch::Watched;
 use cell_units::NoMemory;
+use display_cli::Ended;
 use display_map::{Event, Journal};
 use std::alloc::Global;
 use std::process::Abort;
@@ -14,7 +14,7 @@ use std::thread::Threads;
 use wrap_workers::{FreeGate, Gate};
 
 /// How many schedules are tried, each by a run. More find more, and take longer.
-const SEEDS: u64 = 100;
+const SEEDS: u64 = 500;
 
 /// How often one that is held looks whether others have passed, at most. It doesn't yield: beside other work that can take
 /// long.

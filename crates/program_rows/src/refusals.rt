@@ -1,5 +1,5 @@
 //! Lines that are refused.
-use crate::tests::{Session, expect, run_of};
+use crate::runs::{Session, expect, run_of};
 use std::test::Fail;
 
 #[test]

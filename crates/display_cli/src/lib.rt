@@ -1,0 +1,35 @@
+//! The program `displaymap` as calls: a script is run on a text, and what it asks for is written.
+//!
+//! `run` carries the headline theorem: what was written is the output of a legal history. `program` ties the exit status and
+//! what is said on standard error to it, and `give_up` says that there was no memory for the words.
+//!
+//! The outside comes as `Inputs` and `Sink`: over memory (`MapInputs`, `ListSink`, and `SureInputs` and `SureSink`, which never
+//! fail), and over files and streams (`FileInputs`, `StreamSink`). Who writes inputs of his own tells its reads by `ReadsTold`.
+#![tactic(auto)]
+
+mod beside;
+mod calls;
+mod ended;
+mod inputs;
+pub mod limits;
+mod outside;
+mod read;
+mod runner;
+mod say;
+mod script;
+mod settling;
+mod sinks;
+mod stop;
+mod summary;
+mod tally;
+mod told;
+mod top;
+mod watch;
+mod write;
+
+pub use ended::{Ended, Note};
+pub use inputs::{FileInputs, MapInputs, NamedBytes, SureInputs};
+pub use outside::{Failed, Inputs, Part, Sink};
+pub use sinks::{ListSink, StreamSink, SureSink};
+pub use told::ReadsTold;
+pub use top::{give_up, program, run};
