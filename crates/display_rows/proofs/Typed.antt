@@ -76,3 +76,7 @@ is-lawful r e = subst IsLawful (sym e) typed-lawful
 pub behind-name : (r : Record) → r ≡ typed → IsBoundary r.text 5
 unfolding encode
 behind-name r e = let P : Record → Type 0 = λ r. IsBoundary r.text 5 in subst P (sym e) (omega arith, (codes "let x", (refl, refl)))
+
+pub at-end : (r : Record) → r ≡ typed → IsBoundary r.text 9
+unfolding encode
+at-end r e = let P : Record → Type 0 = λ r. IsBoundary r.text 9 in subst P (sym e) (omega arith, (codes "let x = 1", (refl, refl)))

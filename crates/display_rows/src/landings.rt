@@ -16,7 +16,12 @@ use std::test::Fail;
 use wrap_workers::Job;
 
 /// A display of a text at a width.
-fn opened_at(rt: &impl Abort, alloc: Global, text: &str, cells: u32) -> Result<Display, Fail> {
+pub(crate) fn opened_at(
+    rt: &impl Abort,
+    alloc: Global,
+    text: &str,
+    cells: u32,
+) -> Result<Display, Fail> {
     let mut display = Display::start(alloc, text.as_bytes(), &mut Steps::new())?;
     operate(rt, alloc, &mut display, Op::Width { cells })?;
     Ok(display)

@@ -5,6 +5,8 @@
 #[cfg(test)]
 mod answers;
 #[cfg(test)]
+mod callers;
+#[cfg(test)]
 mod displays;
 #[cfg(test)]
 mod landings;

@@ -11,7 +11,7 @@ use std::process::Abort;
 use std::test::Fail;
 
 /// The text `let x = 1` with `: i32` behind its name, wrapped.
-fn typed(alloc: Global) -> Result<Plain, NoMemory>
+pub(crate) fn typed(alloc: Global) -> Result<Plain, NoMemory>
     ensures { IfOk result (λ plain. record_of plain ≡
         folded_record (codes "let x = 1") (inlay 5 Right 1 (codes ": i32") ∷ []) []) }
 {

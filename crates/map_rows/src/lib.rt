@@ -1,6 +1,9 @@
-//! Worked rows of the crates below the maps: what each call answers on values that are known. There is nothing here but tests.
+//! Worked rows of the crates below the maps: what each call answers on values that are known. There is nothing here but
+//! tests.
 #![tactic(auto)]
 
+#[cfg(test)]
+mod callers;
 #[cfg(test)]
 mod marks;
 #[cfg(test)]

@@ -9,7 +9,7 @@ use edit_patch::{Edit, Patch};
 use std::alloc::Global;
 use std::test::Fail;
 
-fn edit(old_start: u32, old_end: u32, new_start: u32, new_end: u32) -> Edit
+pub(crate) fn edit(old_start: u32, old_end: u32, new_start: u32, new_end: u32) -> Edit
     ensures { result ≡ edit_of old_start old_end new_start new_end }
 {
     Edit {
@@ -21,22 +21,11 @@ fn edit(old_start: u32, old_end: u32, new_start: u32, new_end: u32) -> Edit
 }
 
 /// The patch of one edit.
-fn one(alloc: Global, edit: Edit) -> Result<Patch, Fail>
+pub(crate) fn one(alloc: Global, edit: Edit) -> Result<Patch, Fail>
     ensures { IfOk result (λ p. p ≡ edit ∷ []) }
 {
     let patch = Patch::of(vec![in alloc; edit]?)?;
     Ok(patch)
-}
-
-#[test]
-fn composes_across_an_edge(rt: HostRuntime) -> Result<(), Fail> {
-    let replaces = one(rt.alloc(), edit(2, 4, 2, 5))?;
-    let deletes = one(rt.alloc(), edit(3, 6, 3, 3))?;
-    let both = replaces.compose(rt.alloc(), &deletes)?;
-    assert_eq!(rt; both.edits(), [edit(2, 5, 2, 3)].as_slice());
-    let back = both.invert(rt.alloc())?;
-    assert_eq!(rt; back.edits(), [edit(2, 3, 2, 5)].as_slice());
-    Ok(())
 }
 
 #[test]

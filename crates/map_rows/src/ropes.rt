@@ -6,7 +6,7 @@ use std::test::Fail;
 use text_rope::Rope;
 
 /// Whether the range is one and has this text.
-fn shows(
+pub(crate) fn shows(
     alloc: Global,
     rope: &Rope,
     start: u32,
@@ -76,21 +76,6 @@ fn replaces_a_feed(rt: HostRuntime) -> Result<(), Fail> {
         Ok(_) => assert!(rt; false, "there is no such range"),
         Err(fault) => assert_eq!(rt; fault, Fault::Refused(Refusal::BadRange)),
     }
-    Ok(())
-}
-
-/// A shared text is equal, and neither sees the other's later changes.
-#[test]
-fn shares_a_text(rt: HostRuntime) -> Result<(), Fail> {
-    let alloc = rt.alloc();
-    let mut steps = Steps::new();
-    let mut rope = Rope::from_bytes(alloc, b"abc\r\nd", &mut steps)?;
-    let mut copy = rope.share()?;
-    assert!(rt; shows(alloc, &copy, 0, 5, "abc\nd", &mut steps)?);
-    rope.replace(alloc, 0, 3, "x", &mut steps)?;
-    copy.replace(alloc, 4, 5, "y", &mut steps)?;
-    assert!(rt; shows(alloc, &rope, 0, 3, "x\nd", &mut steps)?);
-    assert!(rt; shows(alloc, &copy, 0, 5, "abc\ny", &mut steps)?);
     Ok(())
 }
 
