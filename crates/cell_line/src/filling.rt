@@ -1,9 +1,9 @@
 //! Rows filled with the elements of a line, one after another.
-ghost use Rattle.std.specs.Prelude.{◌≡◌, ◌⊎◌, ℕ, ◌+◌, ◌^◌, ◌<◌, ◌≤◌, ◌++◌, ◌||◌, not, nat_lt, length, true, List, None, IfOk, OnOk};
+ghost use Rattle.std.specs.Prelude.{◌≡◌, ◌⊎◌, ℕ, ◌+◌, ◌^◌, ◌<◌, ◌≤◌, ◌||◌, not, nat_lt, length, true, List, None, IfOk, OnOk};
 ghost use Rattle.cell_line.specs.declared.element.Element.{Element};
 ghost use Rattle.cell_line.specs.declared.mark.Mark.{Mark};
 ghost use Rattle.cell_line.specs.Wrapping.{next_start_of};
-ghost use Rattle.cell_line.specs.inside.Filling.{letters_room_at, may_end_at, overflows_at, parts_at, starts_after, starts_left, IsAsked, IsMarkAt, IsOpen, IsTurned};
+ghost use Rattle.cell_line.specs.inside.Filling.{letters_room_at, may_end_at, overflows_at, parts_at, AreNoted, AreNotedSoFar, IsAsked, IsMarkAt, IsOpen, IsTurned};
 
 use crate::mark::Mark;
 use crate::wrapping::Cuts;
@@ -40,7 +40,9 @@ impl Row {
     #[inline]
     pub(crate) fn asked(self, lead: u32, at: u32, parts: bool, mark: Mark) -> Row
         ensures start { result.start ≡ self.start }
-        ensures asked { (es : List Element) (room : ℕ) → IsMarkAt es lead at mark → IsOpen es room at self → (self.start < at → parts ≡ parts_at es at) → IsAsked es room at result }
+        ensures asked { (es : List Element) (room : ℕ) →
+            IsMarkAt es lead at mark → IsOpen es room at self →
+            (self.start < at → parts ≡ parts_at es at) → IsAsked es room at result }
         ensures cells { (result.cells ≡ self.cells) × (result.since ≤ self.since) }
     {
         if self.start < at && may_end(lead, at, parts, mark) {
@@ -59,7 +61,12 @@ impl Row {
     pub(crate) fn with(self, mark: Mark) -> Row
         requires cells { self.cells + mark.cells < 2 ^ 32 }
         requires since { self.since + mark.cells < 2 ^ 32 }
-        ensures { result ≡ record { start = self.start; cells = self.cells + mark.cells; well = self.well; since = self.since + mark.cells } }
+        ensures { result ≡ record {
+          start = self.start;
+          cells = self.cells + mark.cells;
+          well = self.well;
+          since = self.since + mark.cells;
+        } }
     {
         Row {
             start: self.start,
@@ -104,7 +111,10 @@ impl Row {
     /// Where the row after this one begins, which the element at the place overflows.
     pub(crate) fn end(self, at: u32) -> u32
         requires { at + 1 < 2 ^ 32 }
-        ensures { (es : List Element) (room lead : ℕ) (mark : Mark) → IsMarkAt es lead at mark → IsAsked es room at self → overflows_at room lead at self.cells mark ≡ true → result ≡ next_start_of es room self.start }
+        ensures { (es : List Element) (room lead : ℕ) (mark : Mark) →
+            IsMarkAt es lead at mark → IsAsked es room at self →
+            overflows_at room lead at self.cells mark ≡ true →
+            result ≡ next_start_of es room self.start }
     {
         match self.well {
             Some(well) => well,
@@ -134,7 +144,9 @@ pub(crate) fn overflows(room: u32, lead: u32, at: u32, cells: u32, mark: Mark) -
 #[inline]
 pub(crate) fn begin(starts: &mut Cuts, start: u32, at: u32) -> Result<(), NoMemory>
     requires { start ≤ at }
-    ensures { (es : List Element) (room : ℕ) (all : List ℕ) → at < length es → starts.old.items ++ starts_left es room start at ≡ all → OnOk result (starts.new.items ++ starts_after es room start ≡ all) }
+    ensures { (es : List Element) (room : ℕ) (all : List ℕ) →
+        at < length es → AreNotedSoFar es room start at all starts.old.items →
+        OnOk result (AreNoted es room start all starts.new.items) }
 {
     if start == at {
         starts.push(at)?;
@@ -144,8 +156,14 @@ pub(crate) fn begin(starts: &mut Cuts, start: u32, at: u32) -> Result<(), NoMemo
 
 /// The row from where this one may last end, if it may.
 fn from_well(starts: &mut Cuts, row: Row) -> Result<Row, NoMemory>
-    ensures turned { (es : List Element) (room lead at : ℕ) (mark : Mark) (all : List ℕ) → IsMarkAt es lead at mark → IsAsked es room at row → overflows_at room lead at row.cells mark ≡ true → starts.old.items ++ starts_after es room row.start ≡ all → IfOk result (λ next. IsTurned es room at next × (starts.new.items ++ starts_after es room next.start ≡ all)) }
-    ensures cells { IfOk result (λ next. ((next.cells ≡ row.cells) ⊎ (next.cells ≡ row.since)) × (next.since ≡ row.since)) }
+    ensures turned { (es : List Element) (room lead at : ℕ) (mark : Mark) (all : List ℕ) →
+        IsMarkAt es lead at mark → IsAsked es room at row →
+        overflows_at room lead at row.cells mark ≡ true →
+        AreNoted es room row.start all starts.old.items →
+        IfOk result (λ next. IsTurned es room at next
+        × AreNoted es room next.start all starts.new.items) }
+    ensures cells { IfOk result (λ next.
+        ((next.cells ≡ row.cells) ⊎ (next.cells ≡ row.since)) × (next.since ≡ row.since)) }
 {
     let Some(well) = row.well else {
         return Ok(row);
@@ -162,7 +180,13 @@ fn from_well(starts: &mut Cuts, row: Row) -> Result<Row, NoMemory>
 /// The row from the place, if the element there overflows this one.
 fn from_place(starts: &mut Cuts, row: Row, room: u32, at: u32, mark: Mark) -> Result<Row, NoMemory>
     requires { row.cells + mark.cells < 2 ^ 32 }
-    ensures turned { (es : List Element) (lead : ℕ) (all : List ℕ) → IsMarkAt es lead at mark → IsTurned es room at row → (not mark.blank || nat_lt at lead) ≡ true → starts.old.items ++ starts_after es room row.start ≡ all → IfOk result (λ next. IsTurned es room at next × ((next.cells + mark.cells ≤ room) ⊎ (next.start ≡ at)) × (starts.new.items ++ starts_after es room next.start ≡ all)) }
+    ensures turned { (es : List Element) (lead : ℕ) (all : List ℕ) →
+        IsMarkAt es lead at mark → IsTurned es room at row →
+        (not mark.blank || nat_lt at lead) ≡ true →
+        AreNoted es room row.start all starts.old.items →
+        IfOk result (λ next. IsTurned es room at next
+        × ((next.cells + mark.cells ≤ room) ⊎ (next.start ≡ at))
+        × AreNoted es room next.start all starts.new.items) }
     ensures cells { IfOk result (λ next. (next.cells ≤ row.cells) × (next.since ≤ row.since)) }
 {
     if row.start < at && room < row.cells + mark.cells {
@@ -185,7 +209,11 @@ pub(crate) fn fill(
     requires cells { row.cells + mark.cells < 2 ^ 32 }
     requires since { row.since + mark.cells < 2 ^ 32 }
     requires at { at + 1 < 2 ^ 32 }
-    ensures { (es : List Element) (all : List ℕ) → IsMarkAt es lead at mark → IsAsked es room at row → starts.old.items ++ starts_after es room row.start ≡ all → IfOk result (λ next. IsOpen es room (at + 1) next × (starts.new.items ++ starts_left es room next.start (at + 1) ≡ all)) }
+    ensures { (es : List Element) (all : List ℕ) →
+        IsMarkAt es lead at mark → IsAsked es room at row →
+        AreNoted es room row.start all starts.old.items →
+        IfOk result (λ next. IsOpen es room (at + 1) next
+        × AreNotedSoFar es room next.start (at + 1) all starts.new.items) }
 {
     if !overflows(room, lead, at, row.cells, mark) {
         return Ok(row.with(mark));

@@ -1,10 +1,10 @@
 -- The rule of the queue of results: each job that is out has one right to send its result, or its result is in the queue.
-use Rattle.std.specs.Prelude.{◌≡◌, ℕ, ◌+◌, ◌≤◌, ◌==◌, true, false, List, [], ◌∷◌, Contains, if◌then◌else◌}
+use Rattle.std.specs.Prelude.{◌≡◌, ℕ, ◌+◌, ◌≤◌, ◌==◌, true, false, List, [], ◌∷◌, ◌++◌, Contains, if◌then◌else◌}
 use mathlib.Core.Option.{some}
 use lib.ListN.{get_elem?}
 use Rattle.wrap_workers.specs.declared.job.Finished.{Finished}
 use Rattle.wrap_workers.specs.declared.results.Hand.{Hand}
-use Rattle.wrap_workers.specs.Jobs.{JobParts}
+use Rattle.wrap_workers.specs.Jobs.{JobParts, front, without}
 use Rattle.wrap_workers.specs.Finishes.{job_of}
 
 -- the weights of the jobs' numbers, added up
@@ -54,6 +54,26 @@ AreOwed out results hands =
 -- the crew's pass, which knows the serial of its next right, the jobs that are out and the rights that came back to it
 abbrev pub crew_hand : {N : Type 0} → ℕ → List (JobParts N) → List (JobParts N) → Hand N
 crew_hand serial out rights = record { crew = true; serial = serial; out = out; rights = rights }
+
+-- the crew's pass after it handed a job out
+abbrev pub after_hired : {N : Type 0} → Hand N → JobParts N → Hand N
+after_hired hand job = crew_hand (hand.serial + 1) (hand.out ++ job ∷ []) hand.rights
+
+-- after the job of its last right went out again
+abbrev pub after_lent : {N : Type 0} → Hand N → Hand N
+after_lent hand = crew_hand (hand.serial + 1) hand.out (front hand.rights)
+
+-- after a job came back with its right
+abbrev pub after_returned : {N : Type 0} → Hand N → JobParts N → Hand N
+after_returned hand job = crew_hand hand.serial hand.out (hand.rights ++ job ∷ [])
+
+-- after it did the job of its last right itself
+abbrev pub after_retired : {N : Type 0} → Hand N → JobParts N → Hand N
+after_retired hand job = crew_hand hand.serial (without job.number hand.out) (front hand.rights)
+
+-- after it took the result of a job
+abbrev pub after_result : {N : Type 0} → Hand N → JobParts N → Hand N
+after_result hand job = crew_hand hand.serial (without job.number hand.out) hand.rights
 
 -- rights to send the results of these jobs
 abbrev pub right_to : {N : Type 0} → ℕ → List (JobParts N) → Hand N

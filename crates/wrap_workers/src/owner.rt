@@ -78,7 +78,8 @@ impl<N: Lines> Crew<N> {
         requires { IsFree job.number self.old.out }
         ensures full { IsErr result ↔ (length self.old.out ≡ 2 * self.old.workers) }
         ensures ok { OnOk result (self.new.out ≡ self.old.out ++ job ∷ []) }
-        ensures kept { OnOk result ((self.new.kept ≡ self.old.kept) ⊎ (self.new.kept ≡ self.old.kept ++ job ∷ [])) }
+        ensures kept { OnOk result ((self.new.kept ≡ self.old.kept)
+            ⊎ (self.new.kept ≡ self.old.kept ++ job ∷ [])) }
         ensures err { IfErr result (λ back. (back ≡ job) × (self.new ≡ self.old)) }
         ensures workers { self.new.workers ≡ self.old.workers }
     {
@@ -113,7 +114,8 @@ impl<N: Lines> Crew<N> {
     /// comes only where the crew's own place is empty, and the queue of tasks was at a moment of the call.
     pub fn help<R: Wait, G: Gate>(&mut self, rt: &R, alloc: Global, gate: &G) -> Option<Finished<N>>
         ensures some { IfSome result (λ finished. IsTakenOff (job_of finished) self.old.out self.new.out) }
-        ensures kept { IfSome result (λ finished. ((self.old.kept ≡ []) × (self.new.kept ≡ [])) ⊎ (self.old.kept ≡ self.new.kept ++ job_of finished ∷ [])) }
+        ensures kept { IfSome result (λ finished. ((self.old.kept ≡ []) × (self.new.kept ≡ []))
+            ⊎ (self.old.kept ≡ self.new.kept ++ job_of finished ∷ [])) }
         ensures none { IfNone result ((self.new ≡ self.old) × (self.new.kept ≡ [])) }
         ensures empty { IfNone result (Held 0 (λ tasks. WerePosted {N = N} tasks)) }
         ensures workers { self.new.workers ≡ self.old.workers }

@@ -3,12 +3,12 @@ ghost use Rattle.std.specs.Prelude.{◌≡◌, ◌+◌, ◌≤◌, true, false, 
 ghost use Rattle.crossbeam_channel.specs.Claims.{view, IsSeatAt};
 ghost use Rattle.crossbeam_channel.specs.Ends.{sends_on, receives_on};
 ghost use Rattle.crossbeam_channel.specs.Fifo.{Held};
-ghost use Rattle.wrap_workers.specs.Jobs.{front, without};
 ghost use Rattle.wrap_workers.specs.Finishes.{job_of};
-ghost use Rattle.wrap_workers.specs.Owed.{ContainsEach, WereOwed, crew_hand, right_of, spent, times};
+ghost use Rattle.wrap_workers.specs.Owed.{ContainsEach, WereOwed, after_hired, after_lent, after_result, after_retired, after_returned, right_of, spent, times};
 ghost use Rattle.wrap_workers.specs.Errands.{IsRightTo, Right};
-ghost use Rattle.wrap_workers.specs.Posted.{IsErrand, IsHome, IsNext, IsTaskAt, WerePosted, after_put, after_taken, crew_post, serial_of};
+ghost use Rattle.wrap_workers.specs.Posted.{IsErrand, IsHome, IsNext, IsTaskAt, WerePosted, after_put, after_taken, serial_of};
 ghost use Rattle.wrap_workers.specs.Crewed.{IsLast};
+ghost use Rattle.wrap_workers.specs.declared.tasks.Task.TheVariants.{Do};
 
 use crate::gate::Gate;
 use crate::job::{Finished, Job};
@@ -33,8 +33,9 @@ fn cut_right<N: Lines, W: Names<Job<N>>>(
     requires channel { IsSeatAt (sends_on rights.now) hand.old }
     requires crew { (view hand.old).crew ≡ true }
     requires new { times job.now.number (view hand.old).out ≡ 0 }
-    ensures channel { IsSeatAt (sends_on rights.now) hand.new × IsSeatAt (sends_on rights.now) result }
-    ensures hand { view hand.new ≡ crew_hand ((view hand.old).serial + 1) ((view hand.old).out ++ job.now ∷ []) (view hand.old).rights }
+    ensures channel { IsSeatAt (sends_on rights.now) hand.new
+        × IsSeatAt (sends_on rights.now) result }
+    ensures hand { view hand.new ≡ after_hired (view hand.old) job.now }
     ensures right { view result ≡ right_of (view hand.old).serial job.now }
 {
     rights.another::<Hires<N, W>>(hand)
@@ -45,8 +46,9 @@ pub(crate) fn hire<N: Lines>(rights: &Rights<N>, hand: &mut Right<N>, job: Job<N
     requires channel { IsSeatAt (sends_on rights.now) hand.old }
     requires crew { (view hand.old).crew ≡ true }
     requires new { times job.number (view hand.old).out ≡ 0 }
-    ensures channel { IsSeatAt (sends_on rights.now) hand.new × IsSeatAt (sends_on rights.now) result.right }
-    ensures hand { view hand.new ≡ crew_hand ((view hand.old).serial + 1) ((view hand.old).out ++ job ∷ []) (view hand.old).rights }
+    ensures channel { IsSeatAt (sends_on rights.now) hand.new
+        × IsSeatAt (sends_on rights.now) result.right }
+    ensures hand { view hand.new ≡ after_hired (view hand.old) job }
     ensures errand { (result.job ≡ job) × (serial_of result ≡ (view hand.old).serial) }
 {
     let right = cut_right::<N, Brand>(rights, hand, &job);
@@ -58,8 +60,9 @@ pub(crate) fn lend<N: Lines>(rights: &Rights<N>, hand: &mut Right<N>, job: Job<N
     requires channel { IsSeatAt (sends_on rights.now) hand.old }
     requires crew { (view hand.old).crew ≡ true }
     requires last { IsLast (view hand.old).rights job }
-    ensures channel { IsSeatAt (sends_on rights.now) hand.new × IsSeatAt (sends_on rights.now) result.right }
-    ensures hand { view hand.new ≡ crew_hand ((view hand.old).serial + 1) (view hand.old).out (front (view hand.old).rights) }
+    ensures channel { IsSeatAt (sends_on rights.now) hand.new
+        × IsSeatAt (sends_on rights.now) result.right }
+    ensures hand { view hand.new ≡ after_lent (view hand.old) }
     ensures errand { (result.job ≡ job) × (serial_of result ≡ (view hand.old).serial) }
 {
     let right = rights.another::<Lends>(hand);
@@ -72,10 +75,11 @@ pub(crate) fn take_back<N: Lines>(
     hand: &mut Right<N>,
     errand: Errand<N>,
 ) -> Job<N>
-    requires channel { IsSeatAt (sends_on rights.now) hand.old × IsSeatAt (sends_on rights.now) errand.right }
+    requires channel { IsSeatAt (sends_on rights.now) hand.old
+        × IsSeatAt (sends_on rights.now) errand.right }
     requires crew { (view hand.old).crew ≡ true }
     ensures channel { IsSeatAt (sends_on rights.now) hand.new }
-    ensures hand { view hand.new ≡ crew_hand (view hand.old).serial (view hand.old).out ((view hand.old).rights ++ errand.job ∷ []) }
+    ensures hand { view hand.new ≡ after_returned (view hand.old) errand.job }
     ensures room { length ((view hand.old).rights ++ errand.job ∷ []) ≤ length (view hand.old).out }
     ensures job { result ≡ errand.job }
 {
@@ -91,7 +95,7 @@ pub(crate) fn retire<N: Lines>(rights: &Rights<N>, hand: &mut Right<N>, job: &Jo
     requires crew { (view hand.old).crew ≡ true }
     requires last { IsLast (view hand.old).rights job.now }
     ensures channel { IsSeatAt (sends_on rights.now) hand.new }
-    ensures hand { view hand.new ≡ crew_hand (view hand.old).serial (without job.now.number (view hand.old).out) (front (view hand.old).rights) }
+    ensures hand { view hand.new ≡ after_retired (view hand.old) job.now }
     ensures out { Contains (view hand.old).out job.now }
 {
     rights.learn_as::<Counts>(hand);
@@ -110,7 +114,7 @@ pub(crate) fn do_here<N: Lines, G: Gate>(
     requires crew { (view hand.old).crew ≡ true }
     requires last { IsLast (view hand.old).rights job }
     ensures channel { IsSeatAt (sends_on rights.now) hand.new }
-    ensures hand { view hand.new ≡ crew_hand (view hand.old).serial (without job.number (view hand.old).out) (front (view hand.old).rights) }
+    ensures hand { view hand.new ≡ after_retired (view hand.old) job }
     ensures out { Contains (view hand.old).out job }
     ensures job { job_of result ≡ job }
 {
@@ -130,8 +134,10 @@ pub(crate) fn take<N: Lines, R: Wait>(
     requires channel { IsSeatAt (receives_on results.now) hand.old }
     requires crew { (view hand.old).crew ≡ true }
     ensures channel { IsSeatAt (receives_on results.now) hand.new }
-    ensures some { IfSome result (λ x. (view hand.new ≡ crew_hand (view hand.old).serial (without (job_of x).number (view hand.old).out) (view hand.old).rights) × Contains (view hand.old).out (job_of x)) }
-    ensures none { IfNone result ((view hand.new ≡ view hand.old) × Held 0 (λ items. WereOwed (view hand.old).out items)) }
+    ensures some { IfSome result (λ x. (view hand.new ≡ after_result (view hand.old) (job_of x))
+        × Contains (view hand.old).out (job_of x)) }
+    ensures none { IfNone result ((view hand.new ≡ view hand.old)
+        × Held 0 (λ items. WereOwed (view hand.old).out items)) }
 {
     results.try_recv_as::<Takes, R>(rt, hand).ok()
 }
@@ -145,7 +151,7 @@ pub(crate) fn wait<N: Lines, R: Wait>(
     requires channel { IsSeatAt (receives_on results.now) hand.old }
     requires crew { (view hand.old).crew ≡ true }
     ensures channel { IsSeatAt (receives_on results.now) hand.new }
-    ensures hand { view hand.new ≡ crew_hand (view hand.old).serial (without (job_of result).number (view hand.old).out) (view hand.old).rights }
+    ensures hand { view hand.new ≡ after_result (view hand.old) (job_of result) }
     ensures out { Contains (view hand.old).out (job_of result) }
 {
     for _ in rt.forever() {
@@ -182,7 +188,8 @@ fn put<N: Lines, R: Wait>(
     requires home { IsTaskAt (view place.old).home task }
     requires next { IsNext (view place.old).next task }
     ensures channel { IsSeatAt (sends_on tasks.now) place.new }
-    ensures rule { MatchOption result (view place.new ≡ after_put (view place.old) task) (λ back. (back ≡ task) × (view place.new ≡ view place.old)) }
+    ensures rule { MatchOption result (view place.new ≡ after_put (view place.old) task)
+        (λ back. (back ≡ task) × (view place.new ≡ view place.old)) }
 {
     match tasks.send_as::<Puts, R>(rt, place, task) {
         Ok(()) => None,
@@ -203,7 +210,8 @@ pub(crate) fn put_errand<N: Lines, R: Wait>(
     requires home { IsHome (view place.old).home errand.right }
     requires next { (view place.old).next ≤ serial_of errand }
     ensures channel { IsSeatAt (sends_on tasks.now) place.new }
-    ensures rule { MatchOption result (view place.new ≡ crew_post (view place.old).home (serial_of errand + 1) (view place.old).stopped) (λ back. (back ≡ errand) × (view place.new ≡ view place.old)) }
+    ensures rule { MatchOption result (view place.new ≡ after_put (view place.old) (Do errand))
+        (λ back. (back ≡ errand) × (view place.new ≡ view place.old)) }
 {
     match put(rt, tasks, place, Task::Do(errand)) {
         None => None,
@@ -234,8 +242,10 @@ pub(crate) fn next<N: Lines, R: Wait>(
     requires worker { (view place.old).crew ≡ false }
     requires known { (r : Right N) × ((view place.old).home ≡ Some r) }
     ensures channel { IsSeatAt (receives_on tasks.now) place.new }
-    ensures some { IfSome result (λ task. (view place.new ≡ after_taken (view place.old) task) × IsTaskAt (view place.old).home task) }
-    ensures none { IfNone result ((view place.new ≡ view place.old) × Held 0 (λ items. WerePosted {N = N} items)) }
+    ensures some { IfSome result (λ task. (view place.new ≡ after_taken (view place.old) task)
+        × IsTaskAt (view place.old).home task) }
+    ensures none { IfNone result ((view place.new ≡ view place.old)
+        × Held 0 (λ items. WerePosted {N = N} items)) }
 {
     tasks.recv_as::<Serves, R>(rt, place).ok()
 }

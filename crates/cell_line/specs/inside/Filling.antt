@@ -1,5 +1,5 @@
 -- What is known of a row while it is filled, element by element.
-use Rattle.std.specs.Prelude.{◌≡◌, ◌⊎◌, ℕ, ◌+◌, ◌-◌, ◌<◌, ◌≤◌, ◌||◌, ◌&&◌, not, Bool, true, List, Option, None, length, nat_le, nat_lt, slice_range, unwrap_or, if◌then◌else◌}
+use Rattle.std.specs.Prelude.{◌≡◌, ◌⊎◌, ℕ, ◌+◌, ◌-◌, ◌<◌, ◌≤◌, ◌++◌, ◌||◌, ◌&&◌, not, Bool, true, List, Option, None, length, nat_le, nat_lt, slice_range, unwrap_or, if◌then◌else◌}
 use Rattle.cell_line.specs.declared.element.Element.{Element}
 use Rattle.cell_line.specs.declared.filling.Row.{Row}
 use Rattle.cell_line.specs.declared.mark.Mark.{Mark}
@@ -63,3 +63,11 @@ starts_after es room start = row_starts es room (length es) (next_start_of es ro
 abbrev pub starts_left : List Element → ℕ → ℕ → ℕ → List ℕ
 starts_left es room start at =
     if nat_lt start at then starts_after es room start else row_starts es room (length es) start
+
+-- the noted starts, with those of the rows after that from `start`, are all
+abbrev pub AreNoted : List Element → ℕ → ℕ → List ℕ → List ℕ → Type 0
+AreNoted es room start all noted = noted ++ starts_after es room start ≡ all
+
+-- the noted starts, with those that are left while the row from `start` is filled up to `at`, are all
+abbrev pub AreNotedSoFar : List Element → ℕ → ℕ → ℕ → List ℕ → List ℕ → Type 0
+AreNotedSoFar es room start at all noted = noted ++ starts_left es room start at ≡ all
