@@ -1,18 +1,21 @@
 -- Marks as inlays.
-use Rattle.std.proofs.Common.{◌≡◌, ℕ, ◌+◌, ◌==◌, ◌||◌, not, min, Bool, true, false, cond, List, [], ◌∷◌, ◌++◌, length, map, filter, take, drop, refl, ap, sym, subst, ◌∙◌, inl, inr, arith}
-use Rattle.std.specs.List.{list_any}
+use Rattle.std.proofs.Common.{◌≡◌, ℕ, ◌+◌, ◌<◌, ◌==◌, ◌||◌, not, min, nat_lt, Bool, true, false, cond, List, [], ◌∷◌, ◌++◌, length, map, take, drop, position, Some, None, refl, ap, sym, subst, ◌∙◌, inl, inr, arith}
+use Rattle.std.specs.List.{list_any, position_or_len}
 use Rattle.std.proofs.lemmas.Bool.{cases_lt}
-use Rattle.std.proofs.lemmas.List.{drop-map, drop_all, take-map, take_all}
+use Rattle.std.proofs.lemmas.Bool.Decides.{nat_tests}
+use Rattle.std.proofs.lemmas.List.{drop-map, drop_all, length-map, take-map, take_all}
+use Rattle.std.proofs.lemmas.Option.{get_or_from_slice_get, slice_get_cases}
 use Rattle.cell_units.specs.declared.place.Shift.{Shift}
 use Rattle.cell_units.specs.Lawful.{AreInlays, HasRoom, IsInlayOf}
-use Rattle.cell_units.specs.Record.{inlay_le}
+use Rattle.cell_units.specs.Record.{Inlay, inlay_le}
 use Rattle.cell_units.specs.Sorting.{insert_by, sort_by}
-use Rattle.cell_units.specs.Operation.{move_inlay, moved_inlays, without_inlay}
+use Rattle.cell_units.specs.Operation.{move_inlay, moved_inlays}
 use Rattle.cell_units.proofs.Entries.{entries-added, entries-kept}
 use Rattle.cell_units.proofs.EntryOrders.{inlay_total, inlay_trans}
 use Rattle.mark_tree.specs.declared.mark.Mark.{Mark}
-use Rattle.mark_tree.specs.Marks.{has_id, lacks_id, mark_le, move_mark, moved_marks}
-use Rattle.inlay_map.specs.Splices.{inlay_of}
+use Rattle.mark_tree.specs.Marks.{has_id, mark_le, move_mark, moved_marks}
+use Rattle.mark_tree.proofs.Changing.{filter-one}
+use Rattle.inlay_map.specs.Splices.{inlay_of, without_at}
 
 pub insert-inlay : (m : Mark (List ℕ)) (ms : List (Mark (List ℕ))) → map inlay_of (insert_by mark_le m ms) ≡ insert_by inlay_le (inlay_of m) (map inlay_of ms)
 insert-inlay m [] = refl
@@ -32,17 +35,15 @@ moved-marks s ms = sort-inlays (map (move_mark s) ms) ∙ ap (sort_by inlay_le) 
   each [] = refl
   each (n ∷ ns) = ap (λ l. move_inlay s.start s.end s.count (inlay_of n) ∷ l) (each ns)
 
-pub without-mark : (id : ℕ) (ms : List (Mark (List ℕ))) → map inlay_of (filter (lacks_id id) ms) ≡ without_inlay id (map inlay_of ms)
-without-mark id [] = refl
-without-mark id (m ∷ ms) = go (not (m.id == id)) (without-mark id ms) where
-  go : (b : Bool) → map inlay_of (filter (lacks_id id) ms) ≡ without_inlay id (map inlay_of ms)
-      → map inlay_of (cond b (m ∷ filter (lacks_id id) ms) (filter (lacks_id id) ms)) ≡ cond b (inlay_of m ∷ without_inlay id (map inlay_of ms)) (without_inlay id (map inlay_of ms))
-  go true r = ap (λ l. inlay_of m ∷ l) r
-  go false r = r
-
 pub has-inlay : (id : ℕ) (ms : List (Mark (List ℕ))) → list_any (has_id id) ms ≡ list_any (λ i. i.id == id) (map inlay_of ms)
 has-inlay id [] = refl
 has-inlay id (m ∷ ms) = ap (λ b. (m.id == id) || b) (has-inlay id ms)
+
+pub position-inlay : (id : ℕ) (ms : List (Mark (List ℕ))) → position (has_id id) ms ≡ position (λ i. i.id == id) (map inlay_of ms)
+position-inlay id ms = λ i. cond (nat_lt (go ms i) (sym (length-map ms inlay_of) i)) (Some (go ms i)) None where
+  go : (ns : List (Mark (List ℕ))) → position_or_len (has_id id) ns ≡ position_or_len (λ i. i.id == id) (map inlay_of ns)
+  go [] = refl
+  go (n ∷ ns) = ap (λ k. cond (not (n.id == id)) (1 + k) 0) (go ns)
 
 -- ---- one mark more or less, by its index
 
@@ -80,6 +81,12 @@ pub added-are : (text : List ℕ) (m : Mark (List ℕ)) (ms : List (Mark (List �
 added-are text m ms are fits room =
     subst (AreInlays text) (sym (insert-inlay m ms)) (entries-added inlay_le inlay_total inlay_trans (λ i. i.id) (IsInlayOf text) (inlay_of m) (map inlay_of ms) are fits room)
 
-pub taken-are : (text : List ℕ) (id : ℕ) (ms : List (Mark (List ℕ))) → AreInlays text (map inlay_of ms) → AreInlays text (map inlay_of (filter (lacks_id id) ms))
-taken-are text id ms are =
-    subst (AreInlays text) (sym (without-mark id ms)) (entries-kept inlay_le inlay_total inlay_trans (λ i. i.id) (IsInlayOf text) (λ i. not (i.id == id)) (map inlay_of ms) are)
+pub taken-are : (text : List ℕ) (at : ℕ) (is : List Inlay) → at < length is → AreInlays text is → AreInlays text (without_at at is)
+taken-are text at is lt are = elim (slice_get_cases is at).1 [
+  | inl here ↦
+      let id = here.0.id in
+      let same : (n : ℕ) → (n == n) ≡ true = (λ n. grind (arith, nat_tests)) in
+      let one = filter-one (λ (i : Inlay). i.id == id) is at lt (λ d. ap (λ (i : Inlay). i.id == id) (get_or_from_slice_get is at here.0 d here.2) ∙ same id) (are.distinct id) in
+      subst (AreInlays text) one (entries-kept inlay_le inlay_total inlay_trans (λ i. i.id) (IsInlayOf text) (λ i. not (i.id == id)) is are)
+  | inr past ↦ absurd (omega (arith, lt, past.0))
+]

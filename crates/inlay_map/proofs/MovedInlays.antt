@@ -1,16 +1,17 @@
 -- Inlays that a replacement of the text has moved, and the one of an id.
-use Rattle.std.proofs.Common.{◌≡◌, ℕ, zero, suc, ◌+◌, ◌<◌, ◌≤◌, ◌==◌, ◌||◌, ◌^◌, Bool, true, false, cond, List, [], ◌∷◌, length, map, count_by, get_or, Option, Some, None, refl, sym, ap, ◌∙◌, subst, inl, inr, arith}
+use Rattle.std.proofs.Common.{◌≡◌, ℕ, zero, suc, ◌+◌, ◌<◌, ◌≤◌, ◌==◌, ◌^◌, Bool, true, false, cond, List, [], ◌∷◌, length, map, count_by, get_or, Option, Some, position, refl, sym, ap, ◌∙◌, subst, inl, inr, arith}
 use Rattle.std.specs.List.{All, Contains, find, list_any, slice_get}
-use Rattle.std.specs.Option.{IfSome}
+use Rattle.std.specs.Option.{is_some}
 use Rattle.std.specs.Str.{IsUtf8}
 use Rattle.std.proofs.lemmas.Bool.{cases_lt, eq-eqb}
 use Rattle.std.proofs.lemmas.Bool.Decides.{nat_tests}
+use Rattle.std.proofs.lemmas.Option.{slice_get_cases}
 use Rattle.cell_units.specs.declared.limits.TheConstants.{INLAY_LIMIT, TEXT_LIMIT}
 use Rattle.cell_units.specs.declared.place.Bias.{Bias}
 use Rattle.cell_units.specs.declared.place.Shift.{Shift}
 use Rattle.cell_units.specs.Anchor.{move}
 use Rattle.cell_units.specs.Lawful.{AreInlays, IsInlayOf}
-use Rattle.cell_units.specs.Operation.{move_inlay, moved_inlays}
+use Rattle.cell_units.specs.Operation.{move_inlay, moved_inlays, without_inlay}
 use Rattle.cell_units.specs.Record.{Inlay, inlay_le}
 use Rattle.cell_units.specs.Text.{IsBoundary}
 use Rattle.cell_units.proofs.CutLists.{Every}
@@ -20,8 +21,10 @@ use Rattle.cell_units.proofs.FoundEntries.{All-from_Every, Every-from_All}
 use Rattle.cell_units.proofs.SortedLists.{count-cons}
 use Rattle.mark_tree.specs.declared.mark.Mark.{Mark}
 use Rattle.mark_tree.specs.Marks as marks
+use Rattle.mark_tree.proofs.Changing.{filter-one}
+use Rattle.mark_tree.proofs.Finding.{position-any, position-some}
 use Rattle.mark_tree.proofs.Moved.{move-before, move-behind, move-within}
-use Rattle.inlay_map.specs.Splices.{inlay_of}
+use Rattle.inlay_map.specs.Splices.{inlay_of, without_at}
 use Rattle.inlay_map.proofs.InlayMarks.{moved-marks}
 
 -- an inlay but for where it stands
@@ -81,32 +84,10 @@ some-counted id (j ∷ js) zero i e f =
     omega (arith, one-of id j js, ap {B = ℕ} (λ (b : Bool). cond b 1 0) (eq-eqb j.id id (ap (λ (x : Inlay). x.id) (some-same j i e) ∙ f)))
 some-counted id (j ∷ js) (suc k) i e f = omega (arith, one-of id j js, some-counted id js k i e f)
 
--- no two inlays have one
-pub only-one : (id : ℕ) (is : List Inlay) (k m : ℕ) (i j : Inlay) → counted id is ≤ 1 → slice_get is k ≡ Some i → slice_get is m ≡ Some j → i.id ≡ id → j.id ≡ id → i ≡ j
-only-one id [] k m i j few e f p q = absurd (cc)
-only-one id (x ∷ xs) zero zero i j few e f p q = sym (some-same x i e) ∙ some-same x j f
-only-one id (x ∷ xs) zero (suc m) i j few e f p q =
-    absurd (omega (arith, few, one-of id x xs, some-counted id xs m j f q, ap {B = ℕ} (λ (b : Bool). cond b 1 0) (eq-eqb x.id id (ap (λ (y : Inlay). y.id) (some-same x i e) ∙ p))))
-only-one id (x ∷ xs) (suc k) zero i j few e f p q =
-    absurd (omega (arith, few, one-of id x xs, some-counted id xs k i e p, ap {B = ℕ} (λ (b : Bool). cond b 1 0) (eq-eqb x.id id (ap (λ (y : Inlay). y.id) (some-same x j f) ∙ q))))
-only-one id (x ∷ xs) (suc k) (suc m) i j few e f p q = only-one id xs k m i j (omega (arith, few, one-of id x xs)) e f p q
-
 contained : (is : List Inlay) (k : ℕ) (i : Inlay) → k < length is → get_or is k i ≡ i → slice_get is k ≡ Some i
 contained [] k i lt e = absurd (omega (arith, lt))
 contained (j ∷ js) zero i lt e = ap Some e
 contained (j ∷ js) (suc k) i lt e = contained js k i (omega (arith, lt)) e
-
--- so the one that was found at an index is that which has the id
-pub offset-of : (id : ℕ) (is : List Inlay) (k : ℕ) (offset : ℕ) → counted id is ≤ 1 → k < length is → IfSome (slice_get is k) (λ i. (i.id ≡ id) × (i.offset ≡ offset))
-    → (i : Inlay) → Contains is i → i.id ≡ id → i.offset ≡ offset
-offset-of id is k offset few lt found i c same = go (slice_get is k) refl found where
-  go : (o : Option Inlay) → slice_get is k ≡ o → IfSome o (λ j. (j.id ≡ id) × (j.offset ≡ offset)) → i.offset ≡ offset
-  go (Some j) e f = ap (λ (x : Inlay). x.offset) (only-one id is c.0 k i j few (contained is c.0 i c.1 c.2) e same f.0) ∙ f.1
-  go None e f = absurd (none is k lt e) where
-    none : (xs : List Inlay) (n : ℕ) → n < length xs → slice_get xs n ≡ None → ⊥
-    none [] n le h = omega (arith, le)
-    none (x ∷ xs) zero le h = cc
-    none (x ∷ xs) (suc n) le h = none xs n (omega (arith, le)) h
 
 -- ---- the one that a search finds
 
@@ -137,16 +118,33 @@ contained-found id is i few c same = go is c.0 few (contained is c.0 i c.1 c.2) 
     further true sum rest = absurd (omega (arith, sum, less, some-counted id js k i e same))
     further false sum rest = rest (omega (arith, sum, less)) e
 
--- where one has the id, one is found
-pub record IsSought (id : ℕ) (is : List Inlay) : Type 0 where
+-- the inlay of the id, which stands at the index that a search finds
+pub record IsAt (id : ℕ) (is : List Inlay) (index : ℕ) : Type 0 where
   pub inlay : Inlay
-  pub found : find (λ j. j.id == id) is ≡ Some inlay
+  pub stands : slice_get is index ≡ Some inlay
+  pub same : inlay.id ≡ id
+  pub found : find (λ j. j.id == inlay.id) is ≡ Some inlay
+  pub left : without_at index is ≡ without_inlay inlay.id is
 
-pub any-found : (id : ℕ) (is : List Inlay) → list_any (λ j. j.id == id) is ≡ true → IsSought id is
-any-found id [] e = absurd (cc)
-any-found id (j ∷ js) e = go (j.id == id) refl e (any-found id js) where
-  go : (b : Bool) → (j.id == id) ≡ b → (b || list_any (λ x. x.id == id) js) ≡ true → (list_any (λ x. x.id == id) js ≡ true → IsSought id js) → IsSought id (j ∷ js)
-  go true t h rest = record { inlay = j; found = ap (λ (b : Bool). cond b (Some j) (find (λ x. x.id == id) js)) t }
-  go false t h rest =
-      let r = rest h in
-      record { inlay = r.inlay; found = ap (λ (b : Bool). cond b (Some j) (find (λ x. x.id == id) js)) t ∙ r.found }
+pub at-position : (id : ℕ) (is : List Inlay) (index : ℕ) → counted id is ≤ 1 → position (λ j. j.id == id) is ≡ Some index → IsAt id is index
+at-position id is index few e = elim (slice_get_cases is index).1 [
+  | inl here ↦
+      let i = here.0 in
+      let p = λ (j : Inlay). j.id == id in
+      let at = position-some p is index e in
+      let same : i.id ≡ id = equal i.id id (ap p (sym here.3) ∙ at.1 i) in
+      record {
+        inlay = i;
+        stands = here.2;
+        same = same;
+        found = subst (λ n. find (λ j. j.id == n) is ≡ Some i) (sym same) (contained-found id is i few (index, here.1, here.3) same);
+        left = subst (λ n. without_at index is ≡ without_inlay n is) (sym same) (sym (filter-one p is index at.0 at.1 few));
+      }
+  | inr past ↦ absurd (omega (arith, (position-some (λ (j : Inlay). j.id == id) is index e).0, past.0))
+] where
+  equal : (m n : ℕ) → (m == n) ≡ true → m ≡ n
+  equal m n h = grind (arith, nat_tests)
+
+-- one has the id exactly where one is found
+pub found-any : (id : ℕ) (is : List Inlay) (found : Option ℕ) → found ≡ position (λ j. j.id == id) is → list_any (λ j. j.id == id) is ≡ is_some found
+found-any id is found e = sym (position-any (λ (j : Inlay). j.id == id) is) ∙ ap is_some (sym e)

@@ -1,6 +1,5 @@
 -- Inlays as splices: before each its distance from the one before it, and in no bytes' place its text.
-use Rattle.std.specs.Prelude.{◌≡◌, ℕ, zero, suc, ◌+◌, ◌<◌, ◌≤◌, List, [], ◌∷◌, ◌++◌, length, take, drop, slice_get}
-use Rattle.std.specs.Option.{IfSome}
+use Rattle.std.specs.Prelude.{◌≡◌, ℕ, zero, suc, ◌+◌, ◌≤◌, List, [], ◌∷◌, ◌++◌, length, take, drop}
 use Rattle.cell_units.specs.Text.{clean}
 use Rattle.cell_units.specs.Layers.{Source}
 use Rattle.cell_units.specs.Record.{Inlay}
@@ -44,8 +43,6 @@ pub record IsPut (i : Inlay) (before after : List Inlay) (index : ℕ) : Type 0 
   pub within : index ≤ length before
   pub place : after ≡ take index before ++ i ∷ drop index before
 
--- the inlay of the id was taken off, which had the index and stood at the offset
-pub record IsTaken (id : ℕ) (before after : List Inlay) (index offset : ℕ) : Type 0 where
-  pub within : index < length before
-  pub place : after ≡ take index before ++ drop (index + 1) before
-  pub found : IfSome (slice_get before index) (λ i. (i.id ≡ id) × (i.offset ≡ offset))
+-- the inlays without that of the index
+abbrev pub without_at : ℕ → List Inlay → List Inlay
+without_at index inlays = take index inlays ++ drop (index + 1) inlays

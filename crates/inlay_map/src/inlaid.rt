@@ -1,9 +1,8 @@
 //! A text with inlays, and the splices that belong to them.
-ghost use Rattle.std.specs.Prelude.{◌≡◌, ◌==◌, ◌+◌, ◌-◌, ◌*◌, ◌<◌, ◌≤◌, ◌↔◌, IsTrue, Some, length, take, drop, slice_get, nat_le, true, IfOk, OnErr, OnOk};
-ghost use Rattle.std.specs.List.{list_any, position_or_len};
+ghost use Rattle.std.specs.Prelude.{◌≡◌, ◌==◌, ◌+◌, ◌-◌, ◌*◌, ◌<◌, ◌≤◌, ◌↔◌, IsTrue, Some, length, take, drop, slice_get, nat_le, IfOk, OnErr, OnOk};
+ghost use Rattle.std.specs.List.{list_any, position, position_or_len};
 ghost use Rattle.cell_units.specs.Lawful.{HasRoom, IsInlayOf};
 ghost use Rattle.cell_units.specs.Layers.{inlay_source, plain_source};
-ghost use Rattle.cell_units.specs.Operation.{without_inlay};
 ghost use Rattle.cell_units.specs.BufferLines.{line_end, line_start};
 ghost use Rattle.cell_units.specs.Record.{Inlay, inlay_le, line_count};
 ghost use Rattle.cell_units.specs.Sorting.{insert_by};
@@ -13,13 +12,13 @@ ghost use Rattle.cell_units.specs.Text.{IsBoundary, clean, row_end, row_of, row_
 ghost use Rattle.cell_units.specs.declared.limits.TheConstants.{INLAY_LIMIT};
 ghost use Rattle.sum_tree.specs.Bounds.{Searches, TakesAtMost, way};
 ghost use Rattle.text_rope.specs.Bounds.{TakesOnText, ways};
-ghost use Rattle.mark_tree.specs.Bounds.{SearchesAndTakes, changing, moving};
+ghost use Rattle.mark_tree.specs.Bounds.{SearchesAndTakes, changing, moving, taking};
 ghost use Rattle.inlay_map.specs.Amounts.{amount_between, amount_of};
 ghost use Rattle.inlay_map.specs.Bounds.{Resplices, TakesInlaid, measuring, met, resplicing};
 ghost use Rattle.inlay_map.specs.Kept.{IsInlaid};
 ghost use Rattle.inlay_map.specs.Leads.{reach_of};
 ghost use Rattle.inlay_map.specs.Maps.{StandAfter, source_after};
-ghost use Rattle.inlay_map.specs.Splices.{AreSameButForGap, IsPut, IsTaken, base_at, inlay_of, splices_of};
+ghost use Rattle.inlay_map.specs.Splices.{AreSameButForGap, IsPut, base_at, inlay_of, splices_of, without_at};
 
 use crate::amount::{Amount, feeds_in};
 use crate::inlay_text::InlayText;
@@ -315,27 +314,25 @@ impl Inlaid {
         }
     }
 
-    /// Takes the inlay of an id off the text, and answers its index and its offset.
+    /// Takes the inlay of an index off the text, and answers its offset.
     pub(crate) fn take(
         &mut self,
         alloc: Global,
-        id: u32,
+        at: u32,
         steps: &mut Steps,
-    ) -> Result<(u32, u32), NoMemory>
-        requires { list_any (λ i. i.id == id) self.old.inlays ≡ true }
-        ensures ok { let inlays = without_inlay id self.old.inlays in
+    ) -> Result<u32, NoMemory>
+        requires { at < length self.old.inlays }
+        ensures ok { let inlays = without_at at self.old.inlays in
             OnOk result (self.new ≡ inlay_source self.old.text inlays) }
-        ensures taken { IfOk result (λ r. IsTaken id self.old.inlays self.new.inlays r.0 r.1) }
+        ensures offset { IfOk result (λ offset. (i : Inlay) →
+            slice_get self.old.inlays at ≡ Some i → i.offset ≡ offset) }
         ensures err { OnErr result (self.new ≡ self.old) }
         ensures counted { steps.old ≤ steps.new }
-        ensures steps { SearchesAndTakes changing (length self.old.inlays) steps.old steps.new }
+        ensures steps { TakesAtMost taking (length self.old.inlays) steps.old steps.new }
     {
-        // The number of marks is a u32.
-        let _count = self.marks.len();
-        match self.marks.remove(alloc, id, steps) {
-            Ok((at, mark)) => Ok((at, mark.offset)),
-            // A mark has this id, so there was no memory.
-            Err(_) => Err(NoMemory),
+        match self.marks.take(alloc, at, steps) {
+            Ok(mark) => Ok(mark.offset),
+            Err(refused) => Err(refused),
         }
     }
 }
@@ -358,6 +355,15 @@ impl Inlaid {
         ensures { result ≡ length self.now.inlays }
     {
         self.marks.len()
+    }
+
+    /// The index of the inlay of an id, if there is one.
+    pub(crate) fn find(&self, id: u32, steps: &mut Steps) -> Option<u32>
+        ensures index { result ≡ position (λ i. i.id == id) self.now.inlays }
+        ensures counted { steps.old ≤ steps.new }
+        ensures steps { Searches (length self.now.inlays) steps.old steps.new }
+    {
+        self.marks.find(id, steps)
     }
 
     /// Whether there is an inlay of this id.

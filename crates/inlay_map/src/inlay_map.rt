@@ -6,7 +6,8 @@ ghost use Rattle.cell_units.specs.Layers.{inlay_source};
 ghost use Rattle.cell_units.specs.Record.{Inlay};
 ghost use Rattle.sum_tree.specs.Bounds.{ChangesAtMost};
 ghost use Rattle.text_rope.specs.Bounds.{ways};
-ghost use Rattle.inlay_map.specs.Bounds.{SearchesInlaid, TakesInlaid, changing, met, met_by, syncing};
+ghost use Rattle.inlay_map.specs.Bounds.{SearchesInlaid, SearchesOnce, TakesInlaid, changing, met, met_by, syncing};
+ghost use Rattle.inlay_map.specs.Kept.{IsInlaid};
 ghost use Rattle.inlay_map.specs.Leads.{Leads, LeadsIfAny, reach_of, unmoved};
 ghost use Rattle.inlay_map.specs.Maps.{CoverFits, DifferAt, IsOwed, IsSynced, StandAfter, add_refusal, added, answer_of, covering, inlay_with, remove_refusal, removed, source_after, state_of, synced, with_inlays, with_pending};
 
@@ -70,6 +71,15 @@ impl InlayMap {
         })
     }
 
+    /// The number of inlays. They stand within the text, at boundaries.
+    pub fn len(&self) -> u32
+        ensures len { result ≡ length self.now.current.inlays }
+        ensures lawful { IsInlaid self.now.current }
+    {
+        let _text = self.current.text_len();
+        self.current.count()
+    }
+
     /// Adds an inlay: a text that is shown at an offset of the buffer. At an insertion of text there it stays (Left) or goes
     /// behind (Right). In this order `IdInUse` where its id is there, `BadRange` where the offset is past the text's end or
     /// inside a character, `BadText` where the inlay's text is empty, and `TooLong` where that has more than `INLAY_LIMIT`
@@ -116,20 +126,21 @@ impl InlayMap {
         ensures ok { (i : Inlay) → Contains self.old.current.inlays i → i.id ≡ id →
             OnOk result (self.new ≡ removed i self.old) }
         ensures accepted { OnOk result (remove_refusal self.old.current id ≡ None) }
+        ensures text { self.new.current.text ≡ self.old.current.text }
 
         // The refusal is judged before any memory is taken.
         ensures refused { IfErr result (IsOwed (remove_refusal self.old.current id)) }
         ensures err { OnErr result (self.new ≡ self.old) }
         ensures counted { steps.old ≤ steps.new }
         ensures steps { let s = self.old.current in
-            SearchesInlaid changing s.text (length s.inlays) steps.old steps.new }
+            SearchesOnce changing s.text (length s.inlays) steps.old steps.new }
     {
         // The inlays stand within the text, no two with one id.
         let _len = self.current.text_len();
-        if !self.current.has_id(id, steps) {
+        let Some(at) = self.current.find_id(id, steps) else {
             return Err(Fault::Refused(Refusal::UnknownId));
-        }
-        let (next, offset) = self.current.removed(alloc, id, steps)?;
+        };
+        let (next, offset) = self.current.removed(alloc, at, steps)?;
         self.turn_to(next, offset, steps);
         Ok(())
     }

@@ -1,10 +1,9 @@
 //! What an inlay map shows at one moment.
-ghost use Rattle.std.specs.Prelude.{◌≡◌, ◌==◌, ◌+◌, ◌≤◌, Some, length, true, IfOk};
-ghost use Rattle.std.specs.List.{Contains, list_any};
+ghost use Rattle.std.specs.Prelude.{◌≡◌, ◌==◌, ◌+◌, ◌<◌, ◌≤◌, Some, length, slice_get, IfOk};
+ghost use Rattle.std.specs.List.{position};
 ghost use Rattle.cell_units.specs.declared.place.Bias.TheVariants.{Left};
 ghost use Rattle.cell_units.specs.Lawful.{HasRoom, IsInlayOf};
 ghost use Rattle.cell_units.specs.Layers.{inlay_source, place_of, plain_source};
-ghost use Rattle.cell_units.specs.Operation.{without_inlay};
 ghost use Rattle.cell_units.specs.Record.{Inlay, inlay_le};
 ghost use Rattle.cell_units.specs.Sorting.{insert_by};
 ghost use Rattle.sum_tree.specs.Bounds.{ChangesAtMost, Searches, TakesAtMost, way};
@@ -13,7 +12,7 @@ ghost use Rattle.inlay_map.specs.Bounds.{SearchesOnce, TakesInlaid, met, putting
 ghost use Rattle.inlay_map.specs.Leads.{Leads, inlaid_shift, inlay_shift, reach_of, unmoved};
 ghost use Rattle.inlay_map.specs.Kept.{IsInlaid};
 ghost use Rattle.inlay_map.specs.Maps.{StandAfter, add_refusal, source_after};
-ghost use Rattle.inlay_map.specs.Splices.{inlay_of};
+ghost use Rattle.inlay_map.specs.Splices.{inlay_of, without_at};
 
 use crate::amount::{Amount, ByBytes};
 use crate::inlaid::Inlaid;
@@ -73,13 +72,20 @@ impl InlaySnapshot {
         self.inlaid.len()
     }
 
-    /// Whether there is an inlay of this id.
-    pub(crate) fn has_id(&self, id: u32, steps: &mut Steps) -> bool
-        ensures value { result ≡ list_any (λ i. i.id == id) self.now.inlays }
+    /// The number of inlays.
+    pub(crate) fn count(&self) -> u32
+        ensures { result ≡ length self.now.inlays }
+    {
+        self.inlaid.count()
+    }
+
+    /// The index of the inlay of an id, if there is one.
+    pub(crate) fn find_id(&self, id: u32, steps: &mut Steps) -> Option<u32>
+        ensures index { result ≡ position (λ i. i.id == id) self.now.inlays }
         ensures counted { steps.old ≤ steps.new }
         ensures steps { Searches (length self.now.inlays) steps.old steps.new }
     {
-        self.inlaid.has_id(id, steps)
+        self.inlaid.find(id, steps)
     }
 
     /// Why an inlay isn't added, if it isn't.
@@ -165,26 +171,25 @@ impl InlaySnapshot {
         Shift::new(start, end, last - start)
     }
 
-    /// The same without the inlay of an id, and the offset at which that stood.
+    /// The same without the inlay of an index, and the offset at which that stood.
     pub(crate) fn removed(
         &self,
         alloc: Global,
-        id: u32,
+        at: u32,
         steps: &mut Steps,
     ) -> Result<(InlaySnapshot, u32), NoMemory>
-        requires { list_any (λ i. i.id == id) self.now.inlays ≡ true }
-        ensures ok { let inlays = without_inlay id self.now.inlays in
+        requires { at < length self.now.inlays }
+        ensures ok { let inlays = without_at at self.now.inlays in
             IfOk result (λ r. r.0 ≡ inlay_source self.now.text inlays) }
-        ensures offset { IfOk result (λ r.
-            (i : Inlay) → Contains self.now.inlays i → i.id ≡ id → i.offset ≡ r.1) }
+        ensures offset { IfOk result (λ r. (i : Inlay) →
+            slice_get self.now.inlays at ≡ Some i → i.offset ≡ r.1) }
         ensures counted { steps.old ≤ steps.new }
-        ensures steps { let s = self.now in
-            SearchesOnce putting s.text (length s.inlays) steps.old steps.new }
+        ensures steps { TakesInlaid putting self.now steps.old steps.new }
     {
-        // No two inlays have one id.
+        // The number of inlays is within its limit.
         let _len = self.text_len();
         let mut inlaid = self.inlaid.share()?;
-        let (at, offset) = inlaid.take(alloc, id, steps)?;
+        let offset = inlaid.take(alloc, at, steps)?;
         let splices = inlaid.respliced(alloc, &self.splices, Shift::new(at, at + 1, 0), steps)?;
         Ok((InlaySnapshot { inlaid, splices }, offset))
     }

@@ -2,7 +2,7 @@
 ghost use Rattle.std.specs.Prelude.{◌≡◌, [], ◌∷◌, codes, map, IfOk};
 ghost use Rattle.cell_units.specs.Text.{clean};
 ghost use Rattle.cell_line.specs.Lines.{FitsU32};
-ghost use Rattle.splice_tree.specs.Inlays.{bytes_of};
+ghost use Rattle.splice_tree.specs.Bytes.{bytes_of};
 ghost use Rattle.splice_tree.specs.Splices.{measured};
 ghost use Rattle.tab_map.specs.TabLines.{lines_at};
 

@@ -151,7 +151,10 @@ fn replace_one_of_a_million(
     requires million { length tree.old ≡ 1000000 }
     requires at { at + 1 ≤ 1000000 }
     requires one { length items.items ≡ 1 }
-    requires fits { ⟦<Tally as Summary>⟧.fits (total ⟦<Tally as Summary>⟧.empty ⟦<Tally as Summary>⟧.joined ⟦<Weight as Item>⟧.summary (take at tree.old ++ items.items ++ drop (at + 1) tree.old)) }
+    requires fits {
+        let after = take at tree.old ++ items.items ++ drop (at + 1) tree.old in
+        let tally = ⟦<Tally as Summary>⟧ in
+        tally.fits (total tally.empty tally.joined ⟦<Weight as Item>⟧.summary after) }
     ensures { steps.new ≤ steps.old + 6408 }
 {
     tree.replace(alloc, at, at + 1, items, steps)

@@ -93,10 +93,19 @@ pub struct AtLeast(pub u32);
 
 impl Probe<Weight> for AtLeast {
     ghost use Rattle.std.specs.Prelude.{nat_le};
+    ghost use Rattle.map_rows.specs.Weights.{all-lighter};
 
     ghost is_passed = { λ probe item. nat_le probe.0 item.0 };
 
+    ghost may_pass = { λ probe sum. nat_le probe.0 sum.total };
+
+    ghost may_skip = { λ probe items light. all-lighter probe.0 items light };
+
     fn passes(&self, item: &Weight) -> bool {
         self.0 <= item.0
+    }
+
+    fn may_pass_in(&self, sum: Tally) -> bool {
+        self.0 as u64 <= sum.total
     }
 }

@@ -1,9 +1,10 @@
 -- What adding one and taking one off does to a list in order.
-use Rattle.std.proofs.Common.{◌≡◌, ℕ, zero, suc, ◌+◌, ◌-◌, ◌*◌, ◌<◌, ◌≤◌, ◌^◌, ◌==◌, ◌||◌, not, Bool, true, false, cond, List, [], ◌∷◌, ◌++◌, length, take, drop, map, filter, get_or, count_by, refl, sym, ap, subst, ◌∙◌, arith, add-one}
-use Rattle.std.specs.List.{All, list_any}
+use Rattle.std.proofs.Common.{◌≡◌, ℕ, zero, suc, ◌+◌, ◌-◌, ◌*◌, ◌<◌, ◌≤◌, ◌^◌, ◌==◌, ◌||◌, not, Bool, true, false, cond, List, [], ◌∷◌, ◌++◌, length, take, drop, map, filter, get_or, count_by, Some, refl, sym, ap, subst, ◌∙◌, arith, add-one}
+use Rattle.std.specs.List.{All, list_any, slice_get}
 use Rattle.std.proofs.lemmas.List.Elements.{All-nil, All-cons, All-head, All-tail, All-filter}
 use Rattle.std.proofs.lemmas.List.Sums.{length-filter, count_by-le-length}
 use Rattle.std.proofs.lemmas.Bool.Decides.{nat_tests}
+use Rattle.std.proofs.lemmas.Option.{get_or_from_slice_get, slice_get_within}
 use Rattle.cell_units.specs.declared.place.Shift.{Shift}
 use Rattle.cell_units.specs.Sorting.{insert_by}
 use Rattle.mark_tree.specs.declared.entry.Placed.{Placed}
@@ -149,6 +150,13 @@ module _ {P : Type 0} where
       → spliced at (at + 1) [] no_shift ps ≡ filter (lacks_placed_id id) ps
   spliced-taken at id ps lt here few = ap (λ l. take at ps ++ l) (shifted-none (drop (at + 1) ps)) ∙ sym (filter-one (has_placed_id id) ps at lt here few)
 
+  -- and without the thing at a place there is none of its id
+  pub spliced-at : (at : ℕ) (thing : Placed P) (ps : List (Placed P)) → IsOrdered ps → slice_get ps at ≡ Some thing → spliced at (at + 1) [] no_shift ps ≡ filter (lacks_placed_id thing.id) ps
+  spliced-at at thing ps o is =
+      spliced-taken at thing.id ps (slice_get_within ps at thing is) (λ d. ap (has_placed_id thing.id) (get_or_from_slice_get ps at thing d is) ∙ same thing.id) (o.distinct thing.id) where
+        same : (n : ℕ) → (n == n) ≡ true
+        same n = grind (arith, nat_tests)
+
   pub spliced-out : (at : ℕ) (ps : List (Placed P)) → spliced at (at + 1) [] no_shift ps ≡ take at ps ++ drop (at + 1) ps
   spliced-out at ps = ap (λ l. take at ps ++ l) (shifted-none (drop (at + 1) ps))
 
@@ -170,5 +178,5 @@ module _ {P : Type 0} where
 pub add-steps : (h n s₀ s₁ s₂ s₃ : ℕ) → 5 * s₁ ≤ 5 * s₀ + (n + 5) → s₂ ≤ s₁ + 32 * (h + 1) → s₃ ≤ s₂ + (162 * h + (89 + 4 * (1 + 2))) → 5 * s₃ ≤ 5 * s₀ + ((n + 1) + 5 * (200 * (h + 1)))
 add-steps h n s₀ s₁ s₂ s₃ a b c = omega arith
 
-pub take-steps : (h n s₀ s₁ s₂ s₃ : ℕ) → 5 * s₁ ≤ 5 * s₀ + (n + 5) → s₂ ≤ s₁ + (h + 1) → s₃ ≤ s₂ + (162 * h + (89 + 4 * (0 + 2))) → 5 * s₃ ≤ 5 * s₀ + (n + 5 * (200 * (h + 1)))
-take-steps h n s₀ s₁ s₂ s₃ a b c = omega arith
+pub take-steps : (h n s₀ s₁ s₂ : ℕ) → 5 * s₁ ≤ 5 * s₀ + (n + 5) → s₂ ≤ s₁ + (163 * h + 98) → 5 * s₂ ≤ 5 * s₀ + (n + 5 * (200 * (h + 1)))
+take-steps h n s₀ s₁ s₂ a b = omega arith

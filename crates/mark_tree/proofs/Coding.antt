@@ -1,8 +1,7 @@
 -- Lists at offsets, and the entries that code them.
-use Rattle.std.proofs.Common.{◌≡◌, ℕ, zero, suc, ◌+◌, ◌-◌, ◌<◌, ◌≤◌, ◌==◌, ◌||◌, ◌^◌, min, not, false, cond, nat_lt, position, List, [], ◌∷◌, ◌++◌, length, map, take, drop, Some, None, refl, sym, ap, subst, ◌∙◌, arith}
-use Rattle.std.specs.List.{All, list_any, slice_get, position_or_len}
+use Rattle.std.proofs.Common.{◌≡◌, ℕ, zero, suc, ◌+◌, ◌-◌, ◌<◌, ◌≤◌, ◌==◌, ◌^◌, min, not, cond, nat_lt, position, List, [], ◌∷◌, ◌++◌, length, map, take, drop, Some, None, refl, sym, ap, subst, ◌∙◌, arith}
+use Rattle.std.specs.List.{All, slice_get, position_or_len}
 use Rattle.std.proofs.lemmas.List.Elements.{All-nil, All-cons, All-head, All-tail}
-use Rattle.std.proofs.lemmas.Bool.Decides.{nat_tests}
 use Rattle.cell_units.specs.declared.place.Shift.{Shift}
 use Rattle.mark_tree.specs.declared.entry.Entry.{Entry}
 use Rattle.mark_tree.specs.declared.entry.Placed.{Placed}
@@ -141,11 +140,3 @@ module _ {P : Type 0} where
     go : (n : ℕ) (fs : List (Entry P)) → position_or_len (λ e. e.id == id) fs ≡ position_or_len (has_placed_id id) (placed_from n fs)
     go n [] = refl
     go n (f ∷ fs) = ap (λ k. cond (not (f.id == id)) (1 + k) 0) (go (n + f.gap) fs)
-
-  -- an id that is not below the bound of the extent is none of what stands there
-  pub id-absent : (id o : ℕ) (es : List (Entry P)) → (extent_over es).ids ≤ id → list_any (has_placed_id id) (placed_from o es) ≡ false
-  id-absent id o [] above = refl
-  id-absent id o (e ∷ es) above =
-      ap (λ b. b || list_any (has_placed_id id) (placed_from (o + e.gap) es)) (differ e.id id (omega arith)) ∙ id-absent id (o + e.gap) es (omega arith) where
-        differ : (m n : ℕ) → m < n → (m == n) ≡ false
-        differ m n lt = grind (arith, nat_tests)

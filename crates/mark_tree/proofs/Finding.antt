@@ -1,5 +1,5 @@
 -- What loops over the places of a list find.
-use Rattle.std.proofs.Common.{◌≡◌, ℕ, ◌+◌, ◌-◌, ◌*◌, ◌/◌, ◌^◌, ◌<◌, ◌≤◌, ◌||◌, zero, suc, Bool, true, false, not, List, [], ◌∷◌, ◌++◌, length, take, drop, get_or, Option, Some, None, position, refl, sym, ap, subst, ◌∙◌, arith, cond, nat_lt}
+use Rattle.std.proofs.Common.{◌≡◌, ℕ, ◌+◌, ◌-◌, ◌*◌, ◌/◌, ◌^◌, ◌<◌, ◌≤◌, ◌||◌, zero, suc, Bool, true, false, not, List, [], ◌∷◌, ◌++◌, length, take, drop, get_or, Some, None, position, refl, sym, ap, subst, ◌∙◌, arith, cond, nat_lt}
 use Rattle.std.specs.List.{Contains, slice_get, position_or_len, list_any}
 use Rattle.std.specs.Option.{is_some}
 use Rattle.cell_units.specs.Sorting.{insert_by}
@@ -72,12 +72,6 @@ position-any p xs = some (nat_lt (position_or_len p xs) (length xs)) (position_o
     first : (b : Bool) → nat_lt (position_or_len q ys) (length ys) ≡ list_any q ys → nat_lt (cond (not b) (1 + position_or_len q ys) 0) (length (y ∷ ys)) ≡ (b || list_any q ys)
     first true e = none_before (length ys)
     first false e = one_more (position_or_len q ys) (length ys) ∙ e
-
-pub position-absent : {X : Type 0} (p : X → Bool) (xs : List X) → list_any p xs ≡ false → None ≡ position p xs
-position-absent p xs none = go (position p xs) (position-any p xs ∙ none) where
-  go : (o : Option ℕ) → is_some o ≡ false → None ≡ o
-  go None e = refl
-  go (Some n) e = absurd (cc)
 
 -- where one is inserted that is above all before a place, and not above the one there
 pub place-at : {X : Type 0} (le : X → X → Bool) (x : X) (xs : List X) (at : ℕ) → at ≤ length xs → ((k : ℕ) (d : X) → k < at → le x (get_or xs k d) ≡ false) → ((d : X) → at < length xs → le x (get_or xs at d) ≡ true)

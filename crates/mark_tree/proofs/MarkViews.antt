@@ -59,6 +59,12 @@ module _ {P : Type 0} where
   any-of id [] = refl
   any-of id (p ∷ ps) = ap (λ b. (p.id == id) || b) (any-of id ps)
 
+  pub position-of : (id : ℕ) (ps : List (Placed P)) → position (has_placed_id id) ps ≡ position (has_id id) (map mark_of ps)
+  position-of id ps = λ i. cond (nat_lt (go ps i) (sym (length-map mark_of ps) i)) (Some (go ps i)) None where
+    go : (qs : List (Placed P)) → position_or_len (has_placed_id id) qs ≡ position_or_len (has_id id) (map mark_of qs)
+    go [] = refl
+    go (q ∷ qs) = ap (λ k. cond (not (q.id == id)) (1 + k) 0) (go qs)
+
   pub filter-of : (id : ℕ) (ps : List (Placed P)) → map mark_of (filter (lacks_placed_id id) ps) ≡ filter (lacks_id id) (map mark_of ps)
   filter-of id [] = refl
   filter-of id (p ∷ ps) = go (not (p.id == id)) (filter-of id ps) where

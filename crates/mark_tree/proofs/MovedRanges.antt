@@ -159,5 +159,5 @@ pub length-moved : {P : Type 0} (s : Shift) (ps : List (Placed P)) → length (m
 length-moved s ps = omega (arith, length-sort placed_le (all_left_over s ps), length-left s ps)
 
 -- The steps of finding the places, of the rounds before the replacement and of what starts in it.
-pub whole-steps : (h b k m s₀ s₁ s₂ s₃ s₄ : ℕ) → b + k ≤ m → s₁ ≤ s₀ + (h + 1) → s₂ ≤ s₁ + (h + 1) → s₃ ≤ s₂ + 250 * (h + 1) * b + 81 * (h + 1) → s₄ ≤ s₃ + 162 * (h + 1) + 5 * (h + 1) * k → s₄ ≤ s₀ + 250 * (h + 1) * (m + 1)
+pub whole-steps : (h b k m s₀ s₁ s₂ s₃ s₄ : ℕ) → b + k ≤ m → s₁ ≤ s₀ + (h + 1) → s₂ ≤ s₁ + (h + 1) → s₃ ≤ s₂ + (250 * (h + 1) * b + 81 * (h + 1)) → s₄ ≤ s₃ + (162 * (h + 1) + 5 * (h + 1) * k) → s₄ ≤ s₀ + 250 * (h + 1) * (m + 1)
 whole-steps h b k m s₀ s₁ s₂ s₃ s₄ met a c d e = omega (arith, mul-le-mul_left (h + 1) met)

@@ -197,6 +197,6 @@ module _ {P : Type 0} where
             met (q ∷ qs) a b = (both q.offset (end_at q) a.0 b.0 f.order, met qs a.1 b.1)
 
 -- A round's steps: of finding, of copying and of splicing.
-pub round-steps : (h k n n₀ s₀ s₁ s₂ s₃ s₄ : ℕ) → 1 ≤ k → s₁ + 250 * (h + 1) * n₀ ≤ s₀ → s₂ ≤ s₁ + 81 * (h + 1) → s₃ ≤ s₂ + 2 * (h + 1) → s₄ ≤ s₃ + 162 * (h + 1) + 5 * (h + 1) * k → k + n ≤ n₀ → s₄ + 250 * (h + 1) * n ≤ s₀
+pub round-steps : (h k n n₀ s₀ s₁ s₂ s₃ s₄ : ℕ) → 1 ≤ k → s₁ + 250 * (h + 1) * n₀ ≤ s₀ → s₂ ≤ s₁ + 81 * (h + 1) → s₃ ≤ s₂ + 2 * (h + 1) → s₄ ≤ s₃ + (162 * (h + 1) + 5 * (h + 1) * k) → k + n ≤ n₀ → s₄ + 250 * (h + 1) * n ≤ s₀
 round-steps h k n n₀ s₀ s₁ s₂ s₃ s₄ some a b c d met =
     omega (arith, mul-le-mul_left (h + 1) met, mul-le-mul_left (h + 1) some)

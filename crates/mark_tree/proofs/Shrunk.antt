@@ -122,5 +122,5 @@ module _ {P : Type 0} where
       All-cons (IsFittingMoved s) p ps (All-head (λ r. (r.start < 2 ^ 32) × (r.end < 2 ^ 32)) (move_range s (range_of p)) (map (move_range s) (map range_of ps)) f)
       (fits-range s ps (All-tail (λ r. (r.start < 2 ^ 32) × (r.end < 2 ^ 32)) (move_range s (range_of p)) (map (move_range s) (map range_of ps)) f))
 
-pub run-steps : (h k n s₀ s₁ s₂ : ℕ) → n ≤ k → s₁ ≤ s₀ + (h + 1) * k → s₂ ≤ s₁ + (162 * h + (89 + 4 * (n + 2))) → s₂ ≤ s₀ + 162 * (h + 1) + 5 * (h + 1) * k
+pub run-steps : (h k n s₀ s₁ s₂ : ℕ) → n ≤ k → s₁ ≤ s₀ + (h + 1) * k → s₂ ≤ s₁ + (162 * h + (89 + 4 * (n + 2))) → s₂ ≤ s₀ + (162 * (h + 1) + 5 * (h + 1) * k)
 run-steps h k n s₀ s₁ s₂ few a b = omega arith

@@ -14,6 +14,10 @@ halving h = 32 * (h + 1)
 abbrev pub splicing : ℕ → ℕ → ℕ
 splicing k h = 162 * h + (89 + 4 * (k + 2))
 
+-- One thing taken off: a way down to it, and what is behind it is spliced.
+abbrev pub taking : ℕ → ℕ
+taking h = 163 * h + 98
+
 -- One thing added or taken off: its place is found and its neighbours are spliced.
 abbrev pub changing : ℕ → ℕ
 changing h = 200 * (h + 1)
@@ -25,6 +29,14 @@ moving met h = 170 * (h + 1) * (met + 1)
 -- The first range that reaches an offset is found by a cut and two ways down.
 abbrev pub reaching : ℕ → ℕ
 reaching h = 81 * (h + 1)
+
+-- Those of k things from a place on that a replacement meets are set anew.
+abbrev pub moving_run : ℕ → ℕ → ℕ
+moving_run k h = 162 * (h + 1) + 5 * (h + 1) * k
+
+-- those before a replacement, of which it meets some
+abbrev pub shrinking_before : ℕ → ℕ → ℕ
+shrinking_before met h = 250 * (h + 1) * met + 81 * (h + 1)
 
 -- A replacement of text sets each of the ranges that it meets anew, start by start.
 abbrev pub shrinking : ℕ → ℕ → ℕ

@@ -1,5 +1,5 @@
 -- Lists that are coded by the gaps between their offsets.
-use Rattle.std.specs.Prelude.{ℕ, ◌≡◌, ◌+◌, ◌-◌, ◌≤◌, ◌<◌, ◌^◌, List, [], ◌∷◌, ◌++◌, map, take, drop, length}
+use Rattle.std.specs.Prelude.{ℕ, ◌≡◌, ◌+◌, ◌-◌, ◌≤◌, ◌<◌, ◌^◌, Some, List, [], ◌∷◌, ◌++◌, map, take, drop, length}
 use Rattle.std.specs.List.{All}
 use Rattle.cell_units.specs.declared.place.Shift.{Shift}
 use Rattle.sum_core.specs.Sums.{total}
@@ -7,6 +7,7 @@ use Rattle.mark_tree.specs.declared.extent.Extent.{Extent}
 use Rattle.mark_tree.specs.declared.entry.Entry.{Entry}
 use Rattle.mark_tree.specs.declared.entry.Placed.{Placed}
 use Rattle.mark_tree.specs.Extents.{extent, none, both}
+use Rattle.mark_tree.specs.IdRanges.{only}
 
 -- those from place `from` to place `to`
 abbrev pub run : {X : Type 0} → ℕ → ℕ → List X → List X
@@ -14,7 +15,7 @@ run from to xs = take (to - from) (drop from xs)
 
 module _ {P : Type 0} where
   abbrev pub extent_of : Entry P → Extent
-  extent_of e = extent 1 e.gap e.length (e.id + 1)
+  extent_of e = extent 1 e.gap e.length (Some (only e.id))
 
   abbrev pub extent_over : List (Entry P) → Extent
   extent_over es = total none both extent_of es

@@ -1,19 +1,22 @@
 -- How far runs of entries reach.
-use Rattle.std.specs.Prelude.{ℕ, ◌+◌, ◌-◌, ◌<◌, ◌^◌, max}
+use Rattle.std.specs.Prelude.{ℕ, ◌+◌, ◌-◌, ◌<◌, ◌^◌, max, Option, None}
 use Rattle.mark_tree.specs.declared.extent.Extent.{Extent}
 use Rattle.mark_tree.specs.declared.extent.ByItems.{ByItems}
 use Rattle.mark_tree.specs.declared.extent.ByOffset.{ByOffset}
 use Rattle.mark_tree.specs.declared.extent.ByEnd.{ByEnd}
+use Rattle.mark_tree.specs.declared.id_range.IdRange.{IdRange}
+use Rattle.mark_tree.specs.IdRanges.{all_ids}
 
-abbrev pub extent : ℕ → ℕ → ℕ → ℕ → Extent
+abbrev pub extent : ℕ → ℕ → ℕ → Option IdRange → Extent
 extent items span hang ids = record { items = items; span = span; hang = hang; ids = ids }
 
 abbrev pub none : Extent
-none = extent 0 0 0 0
+none = extent 0 0 0 None
 
 -- the extent of a run and the one behind it, which begins at the first one's last offset
 abbrev pub both : Extent → Extent → Extent
-both a b = extent (a.items + b.items) (a.span + b.span) (max (a.hang - b.span) b.hang) (max a.ids b.ids)
+both a b =
+    extent (a.items + b.items) (a.span + b.span) (max (a.hang - b.span) b.hang) (all_ids a.ids b.ids)
 
 -- where the greatest end lies
 abbrev pub end_of : Extent → ℕ

@@ -3,6 +3,8 @@ pub mod DimensionLaws
 pub mod Entries
 pub mod ExtentLaws
 pub mod Extents
+pub mod IdLaws
+pub mod IdRanges
 pub mod Marks
 pub mod Meeting
 pub mod Order

@@ -16,6 +16,9 @@ IsRefusedFor refusal cause (Refused r) = (r ≡ refusal) × (cause ≡ true)
 IsRefusedFor refusal cause NoMemory = cause ≡ false
 
 module _ {P : Type 0} where
+  abbrev pub mark_with : ℕ → Bias → ℕ → P → Mark P
+  mark_with offset bias id load = record { offset = offset; bias = bias; id = id; load = load }
+
   -- by offset, then bias with Left first, then id
   abbrev pub mark_le : Mark P → Mark P → Bool
   mark_le m n = in_order m.offset n.offset (in_order (bias_rank m.bias) (bias_rank n.bias) (nat_le m.id n.id))

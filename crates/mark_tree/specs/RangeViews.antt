@@ -7,7 +7,7 @@ use Rattle.cell_units.specs.Anchor.{move}
 use Rattle.cell_units.specs.Sorting.{sort_by}
 use Rattle.mark_tree.specs.declared.entry.Placed.{Placed}
 use Rattle.mark_tree.specs.declared.mark.RangeMark.{RangeMark}
-use Rattle.mark_tree.specs.Entries.{end_at, run}
+use Rattle.mark_tree.specs.Entries.{end_at, run, spliced}
 use Rattle.mark_tree.specs.Order.{IsOrdered, placed_le}
 use Rattle.mark_tree.specs.Ranges.{is_range_met}
 
@@ -52,6 +52,10 @@ module _ {P : Type 0} where
   -- what the replacement leaves of ranges, sorted again
   abbrev pub moved_extents : Shift → List (Placed P) → List (Placed P)
   moved_extents s ps = sort_by placed_le (all_left_over s ps)
+
+  -- the same of those from place `from` to place `to` alone, and all behind them shifted
+  abbrev pub with_run_moved : ℕ → ℕ → Shift → Shift → List (Placed P) → List (Placed P)
+  with_run_moved from to s behind ps = spliced from to (moved_extents s (run from to ps)) behind ps
 
   abbrev pub emptied_ids : Shift → List (Placed P) → List ℕ
   emptied_ids s ps = map (λ p. p.id) (filter (λ p. not (is_left_over s p)) ps)

@@ -1,5 +1,6 @@
 //! What a tree keeps, and what it stands for at its offset.
 use crate::extent::Extent;
+use crate::id_range::{IdRange, may_have};
 use cell_units::{Bias, NoMemory};
 use std::alloc::Global;
 use sum_core::{Item, Load};
@@ -27,7 +28,7 @@ impl<P: Load> Item for Entry<P> {
             items: 1,
             span: self.gap,
             hang: self.length,
-            ids: self.id as u64 + 1,
+            ids: Some(IdRange::only(self.id)),
         }
     }
 
@@ -46,13 +47,23 @@ impl<P: Load> Item for Entry<P> {
 #[derive(Drop)]
 pub(crate) struct HasId(pub(crate) u32);
 
-impl<P> Probe<Entry<P>> for HasId {
+impl<P: Load> Probe<Entry<P>> for HasId {
     ghost use Rattle.std.specs.Prelude.{◌==◌};
+    ghost use Rattle.mark_tree.specs.IdLaws.{id-outside};
+    ghost use Rattle.mark_tree.specs.IdRanges.{may_have};
 
     ghost is_passed = { λ probe entry. entry.id == probe.0 };
 
+    ghost may_pass = { λ probe extent. may_have extent.ids probe.0 };
+
+    ghost may_skip = { λ probe entries out. id-outside probe.0 entries out };
+
     fn passes(&self, item: &Entry<P>) -> bool {
         item.id == self.0
+    }
+
+    fn may_pass_in(&self, sum: Extent) -> bool {
+        may_have(sum.ids, self.0)
     }
 }
 

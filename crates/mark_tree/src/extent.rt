@@ -1,4 +1,5 @@
 //! How far a run of entries reaches, and the places along a list that are found by it.
+use crate::id_range::{IdRange, all_ids};
 use sum_core::{Dimension, Summary};
 
 /// How far a run of entries reaches, from the offset at which it begins.
@@ -10,8 +11,8 @@ pub(crate) struct Extent {
     pub(crate) span: u32,
     /// How far the greatest end lies behind the last offset.
     pub(crate) hang: u32,
-    /// One more than the greatest id, and 0 where there is none.
-    pub(crate) ids: u64,
+    /// Between which their ids lie, if there are any.
+    pub(crate) ids: Option<IdRange>,
 }
 
 impl Summary for Extent {
@@ -38,7 +39,7 @@ impl Summary for Extent {
             items: 0,
             span: 0,
             hang: 0,
-            ids: 0,
+            ids: None,
         }
     }
 
@@ -47,7 +48,7 @@ impl Summary for Extent {
             items: self.items + other.items,
             span: self.span + other.span,
             hang: self.hang.saturating_sub(other.span).max(other.hang),
-            ids: self.ids.max(other.ids),
+            ids: all_ids(self.ids, other.ids),
         }
     }
 }

@@ -21,7 +21,8 @@ pub(crate) struct Key {
 impl Key {
     /// The key of a thing with these properties.
     pub(crate) fn new(offset: u32, bias: Bias, length: u32, id: u32) -> Key
-        ensures { result ≡ record { offset = offset; bias = bias_rank bias; length = length; id = id } }
+        ensures { let rank = bias_rank bias in
+            result ≡ record { offset = offset; bias = rank; length = length; id = id } }
     {
         let bias = match bias {
             Bias::Left => 0,

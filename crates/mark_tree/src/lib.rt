@@ -11,6 +11,7 @@
 
 mod entry;
 mod extent;
+mod id_range;
 mod key;
 mod mark;
 mod mark_tree;

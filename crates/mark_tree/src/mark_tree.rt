@@ -3,8 +3,8 @@ ghost use Rattle.std.specs.Prelude.{◌≡◌, ℕ, ◌+◌, ◌*◌, ◌^◌, �
 ghost use Rattle.std.specs.List.{list_any, position_or_len};
 ghost use Rattle.cell_units.specs.Sorting.{insert_by};
 ghost use Rattle.sum_tree.specs.Bounds.{Searches, TakesAtMost, way};
-ghost use Rattle.mark_tree.specs.Bounds.{SearchesAndTakes, changing, halving, moving};
-ghost use Rattle.mark_tree.specs.Marks.{IsMarkList, IsRefusedFor, has_id, is_met, is_not_before, lacks_id, mark_le, move_mark, moved_marks};
+ghost use Rattle.mark_tree.specs.Bounds.{SearchesAndTakes, changing, halving, moving, taking};
+ghost use Rattle.mark_tree.specs.Marks.{IsMarkList, IsRefusedFor, has_id, is_met, is_not_before, lacks_id, mark_le, mark_with, move_mark, moved_marks};
 
 use crate::entry::Placed;
 use crate::key::Key;
@@ -66,7 +66,8 @@ impl<P: Load> MarkTree<P> {
 
     /// The offset, bias, id and load of the mark at place `at`, counted from 0. `None` exactly where there is none.
     pub fn get(&self, at: u32, steps: &mut Steps) -> Option<(u32, Bias, u32, &P)>
-        ensures mark { MatchOption result (length self.now ≤ at) (λ m. slice_get self.now at ≡ Some (record { offset = m.0; bias = m.1; id = m.2; load = m.3.now })) }
+        ensures mark { MatchOption result (length self.now ≤ at) (λ m.
+            slice_get self.now at ≡ Some (mark_with m.0 m.1 m.2 m.3.now)) }
         ensures counted { steps.old ≤ steps.new }
         ensures steps { TakesAtMost way (length self.now) steps.old steps.new }
     {
@@ -93,6 +94,15 @@ impl<P: Load> MarkTree<P> {
         }
     }
 
+    /// The place, counted from 0, of the mark of this id. `None` exactly where there is none.
+    pub fn find(&self, id: u32, steps: &mut Steps) -> Option<u32>
+        ensures place { result ≡ position (has_id id) self.now }
+        ensures counted { steps.old ≤ steps.new }
+        ensures steps { Searches (length self.now) steps.old steps.new }
+    {
+        self.marks.find_id(id, steps)
+    }
+
     /// Whether there is a mark of this id.
     pub fn contains(&self, id: u32, steps: &mut Steps) -> bool
         ensures value { result ≡ list_any (has_id id) self.now }
@@ -116,11 +126,13 @@ impl<P: Load> MarkTree<P> {
         requires { length self.old + 1 < 2 ^ 32 }
         // The list after it, and where the mark stands in it.
         ensures ok { OnOk result (self.new ≡ insert_by mark_le mark self.old) }
-        ensures place { IfOk result (λ at. self.new ≡ take at self.old ++ mark ∷ drop at self.old) }
+        ensures place { IfOk result (λ at.
+            self.new ≡ take at self.old ++ mark ∷ drop at self.old) }
         ensures fresh { OnOk result (list_any (has_id mark.id) self.old ≡ false) }
 
         // The refusal is judged before any memory is taken.
-        ensures refused { IfErr result (IsRefusedFor Refusal.IdInUse (list_any (has_id mark.id) self.old)) }
+        ensures refused { let is_there = list_any (has_id mark.id) self.old in
+            IfErr result (IsRefusedFor Refusal.IdInUse is_there) }
         ensures err { OnErr result (self.new ≡ self.old) }
         ensures counted { steps.old ≤ steps.new }
         ensures steps { SearchesAndTakes changing (length self.old + 1) steps.old steps.new }
@@ -146,11 +158,13 @@ impl<P: Load> MarkTree<P> {
         // The list after it, and where the mark stood before.
         ensures ok { OnOk result (self.new ≡ filter (lacks_id id) self.old) }
         ensures mark { IfOk result (λ r. slice_get self.old r.0 ≡ Some r.1) }
-        ensures rest { IfOk result (λ r. self.new ≡ take r.0 self.old ++ drop (r.0 + 1) self.old) }
+        ensures rest { IfOk result (λ r.
+            self.new ≡ take r.0 self.old ++ drop (r.0 + 1) self.old) }
         ensures id { IfOk result (λ r. r.1.id ≡ id) }
 
         // The refusal is judged before any memory is taken.
-        ensures refused { IfErr result (IsRefusedFor Refusal.UnknownId (not (list_any (has_id id) self.old))) }
+        ensures refused { let is_there = list_any (has_id id) self.old in
+            IfErr result (IsRefusedFor Refusal.UnknownId (not is_there)) }
         ensures err { OnErr result (self.new ≡ self.old) }
         ensures counted { steps.old ≤ steps.new }
         ensures steps { SearchesAndTakes changing (length self.old) steps.old steps.new }
@@ -169,13 +183,34 @@ impl<P: Load> MarkTree<P> {
         }
     }
 
+    /// Takes the mark at place `at`, counted from 0, off the tree.
+    pub fn take(&mut self, alloc: Global, at: u32, steps: &mut Steps) -> Result<Mark<P>, NoMemory>
+        requires { at < length self.old }
+        ensures ok { OnOk result (self.new ≡ take at self.old ++ drop (at + 1) self.old) }
+        ensures mark { IfOk result (λ m. slice_get self.old at ≡ Some m) }
+        ensures err { OnErr result (self.new ≡ self.old) }
+        ensures counted { steps.old ≤ steps.new }
+        ensures steps { TakesAtMost taking (length self.old) steps.old steps.new }
+    {
+        match self.marks.take_at(alloc, at, steps) {
+            Ok(thing) => Ok(Mark {
+                offset: thing.offset,
+                bias: thing.bias,
+                id: thing.id,
+                load: thing.load,
+            }),
+            Err(refused) => Err(refused),
+        }
+    }
+
     /// Moves each mark as the replacement does, and sorts the marks again.
     pub fn apply(&mut self, alloc: Global, shift: Shift, steps: &mut Steps) -> Result<(), NoMemory>
         requires fits { All (λ m. m.offset < 2 ^ 32) (map (move_mark shift) self.old) }
         ensures ok { OnOk result (self.new ≡ moved_marks shift self.old) }
         ensures err { OnErr result (self.new ≡ self.old) }
         ensures counted { steps.old ≤ steps.new }
-        ensures steps { TakesAtMost (moving (count_by (is_met shift) self.old)) (length self.old) steps.old steps.new }
+        ensures steps { let met = count_by (is_met shift) self.old in
+            TakesAtMost (moving met) (length self.old) steps.old steps.new }
     {
         self.marks.move_marks(alloc, &shift, steps)
     }

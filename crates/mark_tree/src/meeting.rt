@@ -2,7 +2,7 @@
 ghost use Rattle.std.specs.Prelude.{◌≡◌, ℕ, ◌+◌, ◌*◌, ◌^◌, ◌<◌, ◌≤◌, ◌∷◌, [], length, map, filter, count_by, IfOk, IfSome, MatchOption};
 ghost use Rattle.sum_tree.specs.Bounds.{TakesAtMost};
 ghost use Rattle.mark_tree.specs.Bounds.{meeting, next_meeting};
-ghost use Rattle.mark_tree.specs.Meeting.{met_from};
+ghost use Rattle.mark_tree.specs.Meeting.{IsNextMet};
 ghost use Rattle.mark_tree.specs.Ranges.{has_in_common};
 ghost use Rattle.mark_tree.specs.RangeViews.{range_of};
 
@@ -28,9 +28,11 @@ impl<P: Load> Spaced<P> {
         end: u32,
         steps: &mut Steps,
     ) -> Result<Vec<RangeMark>, NoMemory>
-        ensures met { IfOk result (λ v. v.items ≡ filter (has_in_common start end) (map range_of self.now)) }
+        ensures met { let ranges = map range_of self.now in
+            IfOk result (λ v. v.items ≡ filter (has_in_common start end) ranges) }
         ensures counted { steps.old ≤ steps.new }
-        ensures steps { TakesAtMost (meeting (count_by (has_in_common start end) (map range_of self.now))) (length self.now) steps.old steps.new }
+        ensures steps { let met = count_by (has_in_common start end) (map range_of self.now) in
+            TakesAtMost (meeting met) (length self.now) steps.old steps.new }
     {
         // The number of ranges is a u32, and so is each place.
         let _count = self.len();
@@ -53,8 +55,9 @@ impl<P: Load> Spaced<P> {
         steps: &mut Steps,
     ) -> Result<Option<Met>, NoMemory>
         requires within { at ≤ length self.now }
-        ensures met { IfOk result (λ m. MatchOption m (met_from start end at self.now ≡ []) (λ n. met_from start end at self.now ≡ n.range ∷ met_from start end (n.place + 1) self.now)) }
-        ensures place { IfOk result (λ m. IfSome m (λ n. (at ≤ n.place) × (n.place < length self.now))) }
+        ensures met { IfOk result (IsNextMet start end at self.now) }
+        ensures place { IfOk result (λ m.
+            IfSome m (λ n. (at ≤ n.place) × (n.place < length self.now))) }
         ensures counted { steps.old ≤ steps.new }
         ensures steps { TakesAtMost next_meeting (length self.now) steps.old steps.new }
     {

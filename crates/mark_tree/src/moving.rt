@@ -67,7 +67,8 @@ impl<P: Load> Spaced<P> {
         ensures err { OnErr result (self.new ≡ self.old) }
         ensures ordered { IsOrdered self.new }
         ensures counted { steps.old ≤ steps.new }
-        ensures steps { TakesAtMost (moving (count_by (meets_offset shift.now) self.old)) (length self.old) steps.old steps.new }
+        ensures steps { let met = count_by (meets_offset shift.now) self.old in
+            TakesAtMost (moving met) (length self.old) steps.old steps.new }
     {
         // The number of things is a u32.
         let _count = self.len();

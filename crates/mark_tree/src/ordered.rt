@@ -3,7 +3,7 @@ ghost use Rattle.std.specs.Prelude.{◌≡◌, ℕ, ◌+◌, ◌*◌, ◌^◌, �
 ghost use Rattle.cell_units.specs.Sorting.{insert_by};
 ghost use Rattle.std.specs.List.{list_any};
 ghost use Rattle.sum_tree.specs.Bounds.{TakesAtMost, way};
-ghost use Rattle.mark_tree.specs.Bounds.{SearchesAndTakes, changing, halving};
+ghost use Rattle.mark_tree.specs.Bounds.{SearchesAndTakes, changing, halving, taking};
 ghost use Rattle.mark_tree.specs.declared.entry.Placed.{Placed};
 ghost use Rattle.mark_tree.specs.Entries.{IsCodable, end_at};
 ghost use Rattle.mark_tree.specs.Marks.{IsRefusedFor};
@@ -80,9 +80,11 @@ impl<P: Load> Spaced<P> {
         requires end { end_at fresh < 2 ^ 32 }
         requires small { length self.old + 1 < 2 ^ 32 }
         ensures ok { OnOk result (self.new ≡ insert_by placed_le fresh self.old) }
-        ensures place { IfOk result (λ at. self.new ≡ take at self.old ++ fresh ∷ drop at self.old) }
+        ensures place { IfOk result (λ at.
+            self.new ≡ take at self.old ++ fresh ∷ drop at self.old) }
         ensures fresh { OnOk result (list_any (has_placed_id fresh.id) self.old ≡ false) }
-        ensures refused { IfErr result (IsRefusedFor Refusal.IdInUse (list_any (has_placed_id fresh.id) self.old)) }
+        ensures refused { let is_there = list_any (has_placed_id fresh.id) self.old in
+            IfErr result (IsRefusedFor Refusal.IdInUse is_there) }
         ensures err { OnErr result (self.new ≡ self.old) }
         ensures ordered { IsOrdered self.new }
         ensures counted { steps.old ≤ steps.new }
@@ -109,22 +111,44 @@ impl<P: Load> Spaced<P> {
         requires ordered { IsOrdered self.old }
         ensures ok { OnOk result (self.new ≡ filter (lacks_placed_id id) self.old) }
         ensures thing { IfOk result (λ t. slice_get self.old t.place ≡ Some t.thing) }
-        ensures rest { IfOk result (λ t. self.new ≡ take t.place self.old ++ drop (t.place + 1) self.old) }
+        ensures rest { IfOk result (λ t.
+            self.new ≡ take t.place self.old ++ drop (t.place + 1) self.old) }
         ensures id { IfOk result (λ t. t.thing.id ≡ id) }
-        ensures refused { IfErr result (IsRefusedFor Refusal.UnknownId (not (list_any (has_placed_id id) self.old))) }
+        ensures refused { let is_there = list_any (has_placed_id id) self.old in
+            IfErr result (IsRefusedFor Refusal.UnknownId (not is_there)) }
         ensures err { OnErr result (self.new ≡ self.old) }
         ensures ordered { IsOrdered self.new }
         ensures counted { steps.old ≤ steps.new }
         ensures steps { SearchesAndTakes changing (length self.old) steps.old steps.new }
     {
-        let Some(at) = self.find_id(id, steps) else {
+        let Some(place) = self.find_id(id, steps) else {
             return Err(Fault::Refused(Refusal::UnknownId));
         };
+        let thing = self.take_at(alloc, place, steps)?;
+        Ok(Taken { place, thing })
+    }
+
+    /// Takes the thing at place `at` off the list.
+    pub(crate) fn take_at(
+        &mut self,
+        alloc: Global,
+        at: u32,
+        steps: &mut Steps,
+    ) -> Result<Placed<P>, NoMemory>
+        requires ordered { IsOrdered self.old }
+        requires within { at < length self.old }
+        ensures ok { OnOk result (self.new ≡ take at self.old ++ drop (at + 1) self.old) }
+        ensures thing { IfOk result (λ p. slice_get self.old at ≡ Some p) }
+        ensures err { OnErr result (self.new ≡ self.old) }
+        ensures ordered { IsOrdered self.new }
+        ensures counted { steps.old ≤ steps.new }
+        ensures steps { TakesAtMost taking (length self.old) steps.old steps.new }
+    {
         // The number of things is a u32, and so is each place.
         let _count = self.len();
         let thing = self.copy_at(alloc, at, steps)?;
         self.splice(alloc, at, at + 1, Vec::new(alloc), &NO_SHIFT, steps)?;
-        Ok(Taken { place: at, thing })
+        Ok(thing)
     }
 }
 

@@ -84,7 +84,8 @@ impl RangeTree {
         requires small { length self.old + 1 < 2 ^ 32 }
         ensures ok { OnOk result (self.new ≡ insert_by range_le range self.old) }
         ensures fresh { OnOk result (list_any (has_range_id range.id) self.old ≡ false) }
-        ensures refused { IfErr result (IsRefusedFor Refusal.IdInUse (list_any (has_range_id range.id) self.old)) }
+        ensures refused { let is_there = list_any (has_range_id range.id) self.old in
+            IfErr result (IsRefusedFor Refusal.IdInUse is_there) }
         ensures err { OnErr result (self.new ≡ self.old) }
         ensures counted { steps.old ≤ steps.new }
         ensures steps { SearchesAndTakes changing (length self.old + 1) steps.old steps.new }
@@ -107,7 +108,8 @@ impl RangeTree {
         ensures ok { OnOk result (self.new ≡ filter (lacks_range_id id) self.old) }
         ensures range { IfOk result (λ r. Contains self.old r) }
         ensures id { IfOk result (λ r. r.id ≡ id) }
-        ensures refused { IfErr result (IsRefusedFor Refusal.UnknownId (not (list_any (has_range_id id) self.old))) }
+        ensures refused { let is_there = list_any (has_range_id id) self.old in
+            IfErr result (IsRefusedFor Refusal.UnknownId (not is_there)) }
         ensures err { OnErr result (self.new ≡ self.old) }
         ensures counted { steps.old ≤ steps.new }
         ensures steps { SearchesAndTakes changing (length self.old) steps.old steps.new }
@@ -132,12 +134,14 @@ impl RangeTree {
         shift: Shift,
         steps: &mut Steps,
     ) -> Result<Vec<u32>, NoMemory>
-        requires fits { All (λ r. (r.start < 2 ^ 32) × (r.end < 2 ^ 32)) (map (move_range shift) self.old) }
+        requires fits { let moved = map (move_range shift) self.old in
+            All (λ r. (r.start < 2 ^ 32) × (r.end < 2 ^ 32)) moved }
         ensures ok { OnOk result (self.new ≡ moved_ranges shift self.old) }
         ensures dropped { IfOk result (λ ids. ids.items ≡ dropped_ids shift self.old) }
         ensures err { OnErr result (self.new ≡ self.old) }
         ensures counted { steps.old ≤ steps.new }
-        ensures steps { TakesAtMost (shrinking (count_by (is_range_met shift) self.old)) (length self.old) steps.old steps.new }
+        ensures steps { let met = count_by (is_range_met shift) self.old in
+            TakesAtMost (shrinking met) (length self.old) steps.old steps.new }
     {
         self.ranges.move_ranges(alloc, &shift, steps)
     }
@@ -152,7 +156,8 @@ impl RangeTree {
     ) -> Result<Vec<RangeMark>, NoMemory>
         ensures met { IfOk result (λ v. v.items ≡ filter (has_in_common start end) self.now) }
         ensures counted { steps.old ≤ steps.new }
-        ensures steps { TakesAtMost (meeting (count_by (has_in_common start end) self.now)) (length self.now) steps.old steps.new }
+        ensures steps { let met = count_by (has_in_common start end) self.now in
+            TakesAtMost (meeting met) (length self.now) steps.old steps.new }
     {
         self.ranges.all_met(alloc, start, end, steps)
     }

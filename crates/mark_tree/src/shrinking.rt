@@ -1,11 +1,10 @@
 //! How a replacement moves ranges, and which it empties.
 ghost use Rattle.std.specs.Prelude.{◌≡◌, ℕ, ◌+◌, ◌-◌, ◌*◌, ◌^◌, ◌<◌, ◌≤◌, ◌++◌, length, take, drop, count_by, All, IfOk, OnOk, OnErr};
-ghost use Rattle.cell_units.specs.Sorting.{sort_by};
-ghost use Rattle.sum_tree.specs.Bounds.{TakesAtMost};
-ghost use Rattle.mark_tree.specs.Bounds.{shrinking};
-ghost use Rattle.mark_tree.specs.Entries.{IsCodable, end_at, run, spliced};
-ghost use Rattle.mark_tree.specs.Order.{has_placed_id, placed_le};
-ghost use Rattle.mark_tree.specs.RangeViews.{AreRanges, AreSplit, IsFittingMoved, IsGroup, all_left_over, emptied_id, emptied_ids, left_over, meets_extent, moved_extents};
+ghost use Rattle.sum_tree.specs.Bounds.{ChangesAtMost, TakesAtMost, way};
+ghost use Rattle.mark_tree.specs.Bounds.{moving_run, shrinking, shrinking_before};
+ghost use Rattle.mark_tree.specs.Entries.{IsCodable, end_at, run};
+ghost use Rattle.mark_tree.specs.Order.{has_placed_id};
+ghost use Rattle.mark_tree.specs.RangeViews.{AreRanges, AreSplit, IsFittingMoved, IsGroup, all_left_over, emptied_id, emptied_ids, left_over, meets_extent, moved_extents, with_run_moved};
 
 use crate::entry::Placed;
 use crate::key::sort_placed;
@@ -28,8 +27,10 @@ impl<P: Load> Remains<P> {
     fn add(&mut self, range: Placed<P>, shift: &Shift) -> Result<(), NoMemory>
         requires end { end_at range < 2 ^ 32 }
         requires fits { IsFittingMoved shift.now range }
-        ensures ranges { OnOk result (self.new.ranges.items ≡ self.old.ranges.items ++ left_over shift.now range) }
-        ensures dropped { OnOk result (self.new.dropped.items ≡ self.old.dropped.items ++ emptied_id shift.now range) }
+        ensures ranges { let before = self.old.ranges.items in
+            OnOk result (self.new.ranges.items ≡ before ++ left_over shift.now range) }
+        ensures dropped { let before = self.old.dropped.items in
+            OnOk result (self.new.dropped.items ≡ before ++ emptied_id shift.now range) }
     {
         let start = moved_offset(range.offset, Bias::Right, shift);
         let end = moved_offset(range.offset + range.length, Bias::Left, shift);
@@ -80,12 +81,13 @@ impl<P: Load> Spaced<P> {
     ) -> Result<Vec<u32>, NoMemory>
         requires ranges { AreRanges self.old }
         requires fits { All (IsFittingMoved shift.now) self.old }
-        ensures ok { OnOk result (self.new ≡ sort_by placed_le (all_left_over shift.now self.old)) }
+        ensures ok { OnOk result (self.new ≡ moved_extents shift.now self.old) }
         ensures dropped { IfOk result (λ ids. ids.items ≡ emptied_ids shift.now self.old) }
         ensures err { OnErr result (self.new ≡ self.old) }
         ensures ranges { AreRanges self.new }
         ensures counted { steps.old ≤ steps.new }
-        ensures steps { TakesAtMost (shrinking (count_by (meets_extent shift.now) self.old)) (length self.old) steps.old steps.new }
+        ensures steps { let met = count_by (meets_extent shift.now) self.old in
+            TakesAtMost (shrinking met) (length self.old) steps.old steps.new }
     {
         // The number of ranges is a u32.
         let _count = self.len();
@@ -108,9 +110,11 @@ impl<P: Load> Spaced<P> {
         steps: &mut Steps,
     ) -> Result<(), NoMemory>
         requires { AreSplit shift.now first self.old }
-        ensures ok { OnOk result (self.new ≡ moved_extents shift.now (take first self.old) ++ drop first self.old) }
+        ensures ok { let front = moved_extents shift.now (take first self.old) in
+            OnOk result (self.new ≡ front ++ drop first self.old) }
         ensures counted { steps.old ≤ steps.new }
-        ensures steps { (h : ℕ) → length self.old < 2 * 6 ^ (h + 1) → steps.new ≤ steps.old + 250 * (h + 1) * count_by (meets_extent shift.now) (take first self.old) + 81 * (h + 1) }
+        ensures steps { let met = count_by (meets_extent shift.now) (take first self.old) in
+            TakesAtMost (shrinking_before met) (length self.old) steps.old steps.new }
     {
         let start = shift.start as u64;
         let mut at = 0;
@@ -132,7 +136,7 @@ impl<P: Load> Spaced<P> {
         requires { from < length self.now }
         ensures group { IsGroup from result self.now }
         ensures counted { steps.old ≤ steps.new }
-        ensures steps { (h : ℕ) → length self.now < 2 * 6 ^ (h + 1) → steps.new ≤ steps.old + 2 * (h + 1) }
+        ensures steps { TakesAtMost (λ h. 2 * way h) (length self.now) steps.old steps.new }
     {
         // The offsets don't fall.
         let _count = self.len();
@@ -156,13 +160,17 @@ impl<P: Load> Spaced<P> {
         requires order { from ≤ to }
         requires within { to ≤ length self.old }
         requires fits { All (IsFittingMoved shift.now) (run from to self.old) }
-        requires distinct { (id : ℕ) → count_by (has_placed_id id) (run from to self.old) ≤ 1 }
+        requires distinct { let ran = run from to self.old in
+            (id : ℕ) → count_by (has_placed_id id) ran ≤ 1 }
         requires behind { All (λ p. behind.now.end ≤ p.offset) (drop to self.old) }
-        requires codable { IsCodable (spliced from to (moved_extents shift.now (run from to self.old)) behind.now self.old) }
-        ensures ok { OnOk result (self.new ≡ spliced from to (moved_extents shift.now (run from to self.old)) behind.now self.old) }
-        ensures dropped { IfOk result (λ ids. ids.items ≡ emptied_ids shift.now (run from to self.old)) }
+        requires codable { IsCodable (with_run_moved from to shift.now behind.now self.old) }
+        ensures ok { OnOk result (self.new ≡ with_run_moved from to shift.now behind.now self.old) }
+        ensures dropped { let ran = run from to self.old in
+            IfOk result (λ ids. ids.items ≡ emptied_ids shift.now ran) }
         ensures counted { steps.old ≤ steps.new }
-        ensures steps { (h : ℕ) → length self.old < 2 * 6 ^ (h + 1) → length (spliced from to (moved_extents shift.now (run from to self.old)) behind.now self.old) < 2 * 6 ^ (h + 1) → steps.new ≤ steps.old + 162 * (h + 1) + 5 * (h + 1) * (to - from) }
+        ensures steps { let after = with_run_moved from to shift.now behind.now self.old in
+            let cost = moving_run (to - from) in
+            ChangesAtMost cost (length self.old) (length after) steps.old steps.new }
     {
         // Each end is a u32.
         let _count = self.len();

@@ -85,7 +85,8 @@ impl<P: Load> Spaced<P> {
 
     /// What stands at place `at`, and `None` exactly past the end.
     pub(crate) fn get(&self, at: u32, steps: &mut Steps) -> Option<Found<'_, P>>
-        ensures found { MatchOption result (length self.now ≤ at) (λ f. slice_get self.now at ≡ Some (placed_at f.offset f.entry.now)) }
+        ensures found { MatchOption result (length self.now ≤ at) (λ f.
+            slice_get self.now at ≡ Some (placed_at f.offset f.entry.now)) }
         ensures counted { steps.old ≤ steps.new }
         ensures steps { TakesAtMost way (length self.now) steps.old steps.new }
     {
@@ -132,10 +133,6 @@ impl<P: Load> Spaced<P> {
         ensures counted { steps.old ≤ steps.new }
         ensures steps { Searches (length self.now) steps.old steps.new }
     {
-        // Ids are mostly given out in ascending order, and one that is above all needs no search.
-        if id as u64 >= self.entries.sum().ids {
-            return None;
-        }
         self.entries.position(&HasId(id), steps)
     }
 
@@ -169,7 +166,8 @@ impl<P: Load> Spaced<P> {
         requires within { to ≤ length self.now }
         ensures copies { IfOk result (λ v. v.items ≡ take (to - from) (drop from self.now)) }
         ensures counted { steps.old ≤ steps.new }
-        ensures steps { TakesAtMost (λ h. way h * (to - from)) (length self.now) steps.old steps.new }
+        ensures steps { let k = to - from in
+            TakesAtMost (λ h. way h * k) (length self.now) steps.old steps.new }
     {
         let mut copies = Vec::with_capacity(alloc, (to - from) as usize)?;
         for at in from..to {
@@ -196,7 +194,9 @@ impl<P: Load> Spaced<P> {
         ensures ok { OnOk result (self.new ≡ spliced from to fresh.items shift.now self.old) }
         ensures err { OnErr result (self.new ≡ self.old) }
         ensures counted { steps.old ≤ steps.new }
-        ensures steps { ChangesAtMost (splicing (length fresh.items)) (length self.old) (length (spliced from to fresh.items shift.now self.old)) steps.old steps.new }
+        ensures steps { let after = spliced from to fresh.items shift.now self.old in
+            let cost = splicing (length fresh.items) in
+            ChangesAtMost cost (length self.old) (length after) steps.old steps.new }
     {
         let base = self.offset_before(from, steps);
         let refill = self.refill(alloc, to, fresh, shift, steps)?;
@@ -216,8 +216,10 @@ impl<P: Load> Spaced<P> {
     ) -> Result<Refill<P>, NoMemory>
         requires within { to ≤ length self.now }
         requires behind { All (λ p. shift.now.end ≤ p.offset) (drop to self.now) }
-        requires codable { All (λ p. end_at p < 2 ^ 32) (map (shifted shift.now) (drop to self.now)) }
-        ensures refill { IfOk result (λ r. IsRefill self.now to fresh.items shift.now r.placed.items r.end) }
+        requires codable { let behind = map (shifted shift.now) (drop to self.now) in
+            All (λ p. end_at p < 2 ^ 32) behind }
+        ensures refill { IfOk result (λ r.
+            IsRefill self.now to fresh.items shift.now r.placed.items r.end) }
         ensures counted { steps.old ≤ steps.new }
         ensures steps { TakesAtMost way (length self.now) steps.old steps.new }
     {
@@ -263,8 +265,10 @@ impl<'a, P: Load> Found<'a, P> {
     /// A copy of what was found, behind a replacement that lies before it.
     fn shifted(&self, alloc: Global, shift: &Shift) -> Result<Placed<P>, NoMemory>
         requires behind { shift.now.end ≤ self.now.offset }
-        requires fits { self.now.offset + shift.now.count - (shift.now.end - shift.now.start) < 2 ^ 32 }
-        ensures { IfOk result (λ p. p ≡ shifted shift.now (placed_at self.now.offset self.now.entry.now)) }
+        requires fits { let s = shift.now in
+            self.now.offset + s.count - (s.end - s.start) < 2 ^ 32 }
+        ensures { let found = placed_at self.now.offset self.now.entry.now in
+            IfOk result (λ p. p ≡ shifted shift.now found) }
     {
         let mut copy = self.copy(alloc)?;
         copy.offset = self.offset - (shift.end - shift.start) + shift.count;

@@ -1,7 +1,7 @@
 pub mod Carried
 pub mod Carrying
 pub mod Edges
-pub mod InlayPlaces
 pub mod LawProofs
 pub mod Passing
 pub mod Refills
+pub mod Replacing

@@ -2,7 +2,7 @@
 use Rattle.std.specs.Prelude.{◌≡◌, ℕ, ◌+◌, ◌-◌, ◌<◌, ◌≤◌, ◌++◌, List, [], ◌∷◌, sum_by}
 use Rattle.cell_units.specs.declared.place.Bias.{Bias}
 use Rattle.cell_units.specs.declared.place.Bias.TheVariants.{Left, Right}
-use Rattle.splice_tree.specs.Splices.{Stretch, to_upper, to_lower}
+use Rattle.splice_tree.specs.Splices.{Stretch, stretch, to_upper, to_lower}
 
 -- what is taken out is always replaced by something
 abbrev pub AreShown : List Stretch → Type 0
@@ -36,6 +36,20 @@ upper_of ss = sum_by (λ s. s.gap + s.new) ss
 -- a place strictly inside a gap is kept there
 abbrev pub GapsAreKept : Type 0
 GapsAreKept = (bias : Bias) (before after : List Stretch) (s : Stretch) (r : ℕ) → 0 < r → r < s.gap → to_upper bias (before ++ s ∷ after) (lower_of before + r) ≡ upper_of before + r
+
+-- a place before a run of splices stays where it is carried, whatever comes in the place of the run
+abbrev pub BeforeStays : Type 0
+BeforeStays = (bias : Bias) (before run other : List Stretch) (x : ℕ) → x < lower_of before → to_upper bias (before ++ other) x ≡ to_upper bias (before ++ run) x
+
+-- a place behind a run moves by the difference of what stands there then and what stood there
+abbrev pub BehindMoves : Type 0
+BehindMoves = (bias : Bias) (run other after : List Stretch) (x : ℕ) → 0 < x
+    → to_upper bias (other ++ after) (lower_of other + x) + upper_of run ≡ to_upper bias (run ++ after) (lower_of run + x) + upper_of other
+
+-- and behind a wider gap by as much as that is wider
+abbrev pub WiderGapMoves : Type 0
+WiderGapMoves = (bias : Bias) (s : Stretch) (after : List Stretch) (wider x : ℕ)
+    → to_upper bias (stretch (s.gap + wider) s.old s.new ∷ after) (x + wider) ≡ to_upper bias (s ∷ after) x + wider
 
 -- a place strictly inside what is taken out goes to an edge of what stands there: by Left to its begin, by Right to its end
 abbrev pub InsideGoesToEdges : Type 0

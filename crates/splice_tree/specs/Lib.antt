@@ -1,5 +1,5 @@
 pub mod Bounds
-pub mod Inlays
+pub mod Bytes
 pub mod Laws
 pub mod Sides
 pub mod Splices

@@ -1,7 +1,6 @@
 //! Where a place goes that lies in one splice.
-ghost use Rattle.std.specs.Prelude.{◌≡◌, ◌+◌, ◌≤◌, ◌<◌, ◌∷◌, ◌^◌, List, MatchOption};
-ghost use Rattle.sum_tree.specs.Firsts.{IsReaching};
-ghost use Rattle.splice_tree.specs.Splices.{Stretch, flipped, measured, to_upper};
+ghost use Rattle.std.specs.Prelude.{◌≡◌, ◌+◌, ◌≤◌, ◌<◌, ◌^◌, MatchOption};
+ghost use Rattle.splice_tree.specs.Splices.{IsCarried, flipped, measured, stretch};
 
 use crate::splice::Splice;
 use cell_units::Bias;
@@ -9,7 +8,7 @@ use sum_core::{Count, Load, Measure, Summary};
 
 /// The place in what is kept and what stands there, for the place `rest` in what is kept and what is taken out.
 pub(crate) fn carry(gap: u32, old: u32, new: u32, rest: u64, bias: Bias) -> u64
-    ensures place { (ss : List Stretch) → IsReaching bias rest (gap + old) → result ≡ to_upper bias (record { gap = gap; old = old; new = new } ∷ ss) rest }
+    ensures place { IsCarried bias (stretch gap old new) rest result }
     ensures at_most { result ≤ gap + new }
 {
     let gap = gap as u64;
@@ -31,7 +30,8 @@ pub(crate) fn carry_up<S: Summary, P: Load, M: Count<S>>(
     rest: u64,
     bias: Bias,
 ) -> u64
-    ensures place { MatchOption splice.entry (result ≡ rest) (λ p. (ss : List Stretch) → IsReaching bias rest (M.number p.now.gap + M.number p.now.old) → result ≡ to_upper bias (measured M.number p.now ∷ ss) rest) }
+    ensures place { MatchOption splice.entry (result ≡ rest) (λ p.
+        IsCarried bias (measured M.number p.now) rest result) }
     ensures at_most { result ≤ rest + 2 ^ 33 }
 {
     match splice {
@@ -52,7 +52,8 @@ pub(crate) fn carry_down<S: Summary, P: Load, M: Count<S>>(
     rest: u64,
     bias: Bias,
 ) -> u64
-    ensures place { MatchOption splice.entry (result ≡ rest) (λ p. (ss : List Stretch) → IsReaching bias rest (M.number p.now.gap + M.number p.now.new) → result ≡ to_upper bias (flipped (measured M.number p.now) ∷ ss) rest) }
+    ensures place { MatchOption splice.entry (result ≡ rest) (λ p.
+        IsCarried bias (flipped (measured M.number p.now)) rest result) }
     ensures at_most { result ≤ rest + 2 ^ 33 }
 {
     match splice {

@@ -5,14 +5,14 @@
 //! carries places between the lower sequence and the upper one, by any measure of which a whole has as much as its parts.
 #![tactic(auto)]
 
+mod bytes;
 mod carry;
-mod inlays;
 mod laws;
 mod sides;
 mod splice;
 mod splice_tree;
 
-pub use inlays::{ByBytes, Bytes, Inlays};
+pub use bytes::{ByBytes, Bytes};
 pub use laws::splice_laws;
 pub use sides::{Lower, Sides, Upper};
 pub use splice::Splice;

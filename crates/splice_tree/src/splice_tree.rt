@@ -1,12 +1,10 @@
 //! The list of splices.
 ghost use Rattle.std.specs.Prelude.{ℕ, ◌≡◌, ◌+◌, ◌*◌, ◌^◌, ◌<◌, ◌≤◌, ◌++◌, [], length, min, take, drop, map, slice_get, IfOk, OnOk, OnErr};
 ghost use Rattle.std.specs.Option.{option_copied};
-ghost use Rattle.sum_core.specs.Sums.{total};
 ghost use Rattle.sum_tree.specs.Bounds.{ChangesAtMost, TakesAtMost, building, way};
-ghost use Rattle.sum_tree.specs.Firsts.{IsFirst};
 ghost use Rattle.splice_tree.specs.Bounds.{splicing};
-ghost use Rattle.splice_tree.specs.Sides.{none, both, BothFit};
-ghost use Rattle.splice_tree.specs.Splices.{Piece, IsRefill, piece_sum, measured, replaced, to_upper, to_lower};
+ghost use Rattle.splice_tree.specs.Sides.{BothFit};
+ghost use Rattle.splice_tree.specs.Splices.{GapFits, IsFirstLower, IsFirstUpper, IsRefill, covered, measured, replaced, to_upper, to_lower};
 
 use crate::carry::{carry_down, carry_up};
 use crate::sides::{Lower, Sides, Upper};
@@ -65,7 +63,7 @@ impl<S: Summary, P: Load> SpliceTree<S, P> {
         splices: Vec<Splice<S, P>>,
         steps: &mut Steps,
     ) -> Result<SpliceTree<S, P>, NoMemory>
-        requires fits { BothFit S.fits (total (none S.empty) (both S.joined) (piece_sum S.joined) splices.items) }
+        requires fits { BothFit S.fits (covered S.empty S.joined splices.items) }
         requires small { length splices.items < 2 ^ 32 }
         ensures ok { IfOk result (λ t. t ≡ splices.items) }
         ensures counted { steps.old ≤ steps.new }
@@ -85,7 +83,7 @@ impl<S: Summary, P: Load> SpliceTree<S, P> {
 
     /// What all splices cover, with the gaps before them.
     pub fn sum(&self) -> Sides<S>
-        ensures { result ≡ total (none S.empty) (both S.joined) (piece_sum S.joined) self.now }
+        ensures { result ≡ covered S.empty S.joined self.now }
     {
         self.splices.sum()
     }
@@ -97,8 +95,9 @@ impl<S: Summary, P: Load> SpliceTree<S, P> {
         bias: Bias,
         steps: &mut Steps,
     ) -> Place<'_, S, P>
-        ensures first { IsFirst (none S.empty) (both S.joined) (piece_sum S.joined) (λ s. M.number s.lower) self.now target bias result.index }
-        ensures before { result.before ≡ total (none S.empty) (both S.joined) (piece_sum S.joined) (take result.index self.now) }
+        ensures first { let at = result.index in
+            IsFirstLower S.empty S.joined M.number self.now target bias at }
+        ensures before { result.before ≡ covered S.empty S.joined (take result.index self.now) }
         ensures splice { option_copied result.splice ≡ slice_get self.now result.index }
         ensures counted { steps.old ≤ steps.new }
         ensures steps { TakesAtMost way (length self.now) steps.old steps.new }
@@ -118,8 +117,9 @@ impl<S: Summary, P: Load> SpliceTree<S, P> {
         bias: Bias,
         steps: &mut Steps,
     ) -> Place<'_, S, P>
-        ensures first { IsFirst (none S.empty) (both S.joined) (piece_sum S.joined) (λ s. M.number s.upper) self.now target bias result.index }
-        ensures before { result.before ≡ total (none S.empty) (both S.joined) (piece_sum S.joined) (take result.index self.now) }
+        ensures first { let at = result.index in
+            IsFirstUpper S.empty S.joined M.number self.now target bias at }
+        ensures before { result.before ≡ covered S.empty S.joined (take result.index self.now) }
         ensures splice { option_copied result.splice ≡ slice_get self.now result.index }
         ensures counted { steps.old ≤ steps.new }
         ensures steps { TakesAtMost way (length self.now) steps.old steps.new }
@@ -135,7 +135,7 @@ impl<S: Summary, P: Load> SpliceTree<S, P> {
     /// The splice of this index, or the end.
     pub fn find_at(&self, index: u32, steps: &mut Steps) -> Place<'_, S, P>
         ensures index { result.index ≡ min index (length self.now) }
-        ensures before { result.before ≡ total (none S.empty) (both S.joined) (piece_sum S.joined) (take result.index self.now) }
+        ensures before { result.before ≡ covered S.empty S.joined (take result.index self.now) }
         ensures splice { option_copied result.splice ≡ slice_get self.now result.index }
         ensures counted { steps.old ≤ steps.new }
         ensures steps { TakesAtMost way (length self.now) steps.old steps.new }
@@ -189,13 +189,16 @@ impl<S: Summary, P: Load> SpliceTree<S, P> {
     ) -> Result<(), NoMemory>
         requires order { from ≤ to }
         requires within { to ≤ length self.old }
-        requires gap_fits { (p : Piece S P) → slice_get self.old to ≡ Some p → S.fits (S.joined gap p.old) × S.fits (S.joined gap p.new) }
-        requires fits { BothFit S.fits (total (none S.empty) (both S.joined) (piece_sum S.joined) (replaced from to fresh.items gap self.old)) }
+        requires gap_fits { GapFits S.joined S.fits gap to self.old }
+        requires fits { let after = replaced from to fresh.items gap self.old in
+            BothFit S.fits (covered S.empty S.joined after) }
         requires small { length (replaced from to fresh.items gap self.old) < 2 ^ 32 }
         ensures ok { OnOk result (self.new ≡ replaced from to fresh.items gap self.old) }
         ensures err { OnErr result (self.new ≡ self.old) }
         ensures counted { steps.old ≤ steps.new }
-        ensures steps { ChangesAtMost (splicing (length fresh.items)) (length self.old) (length (replaced from to fresh.items gap self.old)) steps.old steps.new }
+        ensures steps { let after = replaced from to fresh.items gap self.old in
+            let cost = splicing (length fresh.items) in
+            ChangesAtMost cost (length self.old) (length after) steps.old steps.new }
     {
         let refill = self.refill(alloc, to, fresh, gap, steps)?;
         self.splices
@@ -212,8 +215,9 @@ impl<S: Summary, P: Load> SpliceTree<S, P> {
         steps: &mut Steps,
     ) -> Result<Refill<S, P>, NoMemory>
         requires within { to ≤ length self.now }
-        requires gap_fits { (p : Piece S P) → slice_get self.now to ≡ Some p → S.fits (S.joined gap p.old) × S.fits (S.joined gap p.new) }
-        ensures refill { IfOk result (λ r. IsRefill self.now to fresh.items gap r.splices.items r.end) }
+        requires gap_fits { GapFits S.joined S.fits gap to self.now }
+        ensures refill { IfOk result (λ r.
+            IsRefill self.now to fresh.items gap r.splices.items r.end) }
         ensures counted { steps.old ≤ steps.new }
         ensures steps { TakesAtMost way (length self.now) steps.old steps.new }
     {

@@ -2,7 +2,7 @@
 use Rattle.std.proofs.Common.{◌≡◌, ℕ, ◌+◌, ◌-◌, ◌<◌, ◌≤◌, min, max, List, ◌++◌, length, ap, ◌∙◌, subst, sym, arith, length-append, append_assoc}
 use Rattle.sum_core.specs.Nodes.{IsLawful, IsChildList, IsRoot, items_in, items_under, width, contents}
 use Rattle.sum_core.specs.declared.node.Entries.{Entries}
-use Rattle.sum_tree.specs.Parts.{IsPacked, IsInner, IsParted, IsMelded}
+use Rattle.sum_tree.specs.inside.Parts.{IsPacked, IsInner, IsParted, IsMelded}
 use Rattle.sum_core.proofs.Levels.{items-seen}
 use Rattle.sum_core.proofs.Children.{children-weaker}
 

@@ -3,7 +3,7 @@ use Rattle.std.proofs.Common.{◌≡◌, ℕ, ◌+◌, ◌-◌, ◌≤◌, List,
 use Rattle.std.proofs.lemmas.List.{append-nil, take_at}
 use Rattle.sum_core.specs.Nodes.{IsLawful, IsChildList, IsChild, inner, items_in, items_under, width, contents}
 use Rattle.sum_core.specs.declared.node.Entries.{Entries}
-use Rattle.sum_tree.specs.Parts.{IsPacked, IsInner, IsParted, IsCut}
+use Rattle.sum_tree.specs.inside.Parts.{IsPacked, IsInner, IsParted, IsCut}
 use Rattle.sum_core.proofs.Levels.{items-seen, lawful_below}
 use Rattle.sum_core.proofs.Children.{child-weaker, children-one, children-append, children-weaker, children-left, children-right, children-head, children-tail, items_under-append}
 

@@ -3,7 +3,7 @@ use Rattle.std.proofs.Common.{◌≡◌, ℕ, ◌+◌, ◌^◌, ◌*◌, ◌<◌
 use Rattle.sum_core.specs.Nodes.{entries_of}
 use Rattle.sum_core.proofs.Heights.{low-at, low-root}
 use Rattle.smallvec.specs.SmallVec.{SmallVec, HasRoomFor}
-use Rattle.sum_tree.specs.Paths.{IsPath, IsPlace, ArePlaces, IsTreeSeen, items_seen, height_seen}
+use Rattle.sum_tree.specs.inside.Paths.{IsPath, IsPlace, ArePlaces, IsTreeSeen, items_seen, height_seen}
 use Rattle.sum_tree.specs.declared.path.Path.{Path}
 use Rattle.sum_tree.specs.declared.path.Place.{Place}
 use Rattle.sum_tree.specs.declared.trees.Tree.{Tree}

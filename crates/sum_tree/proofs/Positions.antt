@@ -1,8 +1,9 @@
 -- The first item that passes a test, of lists one behind the other and of the items below children.
-use Rattle.std.proofs.Common.{◌≡◌, ℕ, ◌+◌, ◌-◌, ◌<◌, ◌≤◌, zero, suc, Bool, true, false, cond, not, List, [], ◌∷◌, ◌++◌, ◌∙◌, length, map, take, drop, get_or, refl, ap, sym, subst, inl, inr, arith, length-append}
-use Rattle.std.specs.List.{position_or_len}
+use Rattle.std.proofs.Common.{◌≡◌, ℕ, ◌+◌, ◌-◌, ◌<◌, ◌≤◌, zero, suc, Bool, true, false, cond, not, nat_lt, None, Some, List, [], ◌∷◌, ◌++◌, ◌||◌, ◌∙◌, length, map, take, drop, get_or, refl, ap, sym, subst, inl, inr, arith, length-append}
+use Rattle.std.specs.List.{list_any, position, position_or_len}
 use Rattle.std.specs.Prelude.{All}
 use Rattle.std.proofs.lemmas.Bool.{cases_lt}
+use Rattle.std.proofs.lemmas.Bool.Decides.{nat_tests}
 use Rattle.std.proofs.lemmas.List.{get_or-map, length-map, take_more, length-drop}
 use Rattle.std.proofs.lemmas.List.Sums.{fails_before_first, passes_at_first}
 use Rattle.sum_core.specs.Nodes.{IsLawful, IsChild, IsChildList, child_value, items_in, items_under}
@@ -15,6 +16,24 @@ true_false : true ≡ false → ⊥
 true_false e = grind (arith, e)
 
 module _ {T : Type 0} (p : T → Bool) where
+  -- none passes
+  pub position-missed : (xs : List T) → list_any p xs ≡ false → position_or_len p xs ≡ length xs
+  position-missed [] none = refl
+  position-missed (x ∷ xs) none = go (p x) none (λ e. position-missed xs e) where
+    go : (b : Bool) → (b || list_any p xs) ≡ false → (list_any p xs ≡ false → position_or_len p xs ≡ length xs) →
+        cond (not b) (1 + position_or_len p xs) 0 ≡ length (x ∷ xs)
+    go true e rest = absurd (true_false e)
+    go false e rest = omega (arith, rest e)
+
+  pub position-none : (xs : List T) → list_any p xs ≡ false → None ≡ position p xs
+  position-none xs none = go (nat_lt (position_or_len p xs) (length xs)) (past (position_or_len p xs) (length xs) (position-missed xs none)) where
+    past : (m n : ℕ) → m ≡ n → nat_lt m n ≡ false
+    past m n is = grind (arith, nat_tests)
+
+    go : (b : Bool) → b ≡ false → None ≡ cond b (Some (position_or_len p xs)) None
+    go true e = absurd (true_false e)
+    go false e = refl
+
   pub position-in : (xs ys : List T) → position_or_len p xs < length xs → position_or_len p (xs ++ ys) ≡ position_or_len p xs
   position-in [] ys lt = absurd (omega arith)
   position-in (x ∷ xs) ys lt = go (p x) (λ le. position-in xs ys le) lt where

@@ -1,35 +1,33 @@
--- One item put in the place of at most one, below a node.
-use Rattle.std.proofs.Common.{◌≡◌, ℕ, zero, suc, ◌+◌, ◌-◌, ◌<◌, ◌≤◌, List, [], ◌∷◌, ◌++◌, map, length, take, drop, get_or, set, ap, ◌∙◌, subst, sym, arith, append_assoc, Result, Ok, Err, IsErrAnd, MatchResult}
-use Rattle.std.proofs.lemmas.List.{length-map, map-set, take-set, drop-set, take-append-drop}
-use Rattle.sum_core.specs.Nodes.{IsLawful, IsLawfulLeaf, IsLawfulInner, IsChild, IsChildList, IsRoot, leaf, inner, contents, width, contents_items, child_value, items_in, items_under}
+-- Items put in the place of others, below a node.
+use Rattle.std.proofs.Common.{◌≡◌, ℕ, zero, suc, ◌+◌, ◌-◌, ◌<◌, ◌≤◌, List, [], ◌∷◌, ◌++◌, map, length, take, drop, get_or, set, ap, ◌∙◌, subst, sym, refl, arith, append_assoc, Result, Ok, Err, IsErrAnd, MatchResult}
+use Rattle.std.proofs.lemmas.List.{length-map, length-take-le, length_push, map-set, take-set, drop-set, take-append-drop, take_at, drop_at, take_more_set, drop-set-lt}
+use Rattle.std.specs.List.{splice, insert}
+use Rattle.sum_core.specs.Sums.{SummaryLaws}
+use Rattle.sum_core.specs.Nodes.{IsLawful, IsLawfulLeaf, IsLawfulInner, IsChildList, leaf, inner, contents, width, contents_items, child_value, items_in, items_under}
 use Rattle.sum_core.specs.declared.node.Child.{Child}
 use Rattle.sum_core.specs.declared.node.Entries.{Entries}
+use Rattle.sum_core.specs.declared.summary.Item.{Ghosts as Items}
+use Rattle.sum_core.specs.declared.summary.Summary.{Ghosts as Sums}
 use Rattle.sum_core.proofs.Items.{items-contents}
-use Rattle.sum_core.proofs.Levels.{lawful_above, lawful_below, items-seen, items-leaf}
-use Rattle.sum_core.proofs.Children.{children-append, children-take, children-drop, children-one, items_under-append, items-split, items-taken, cut-middle}
-use Rattle.sum_tree.specs.Parts.{IsAfter, IsSumOf, put}
+use Rattle.sum_core.proofs.Levels.{lawful_above, lawful_below}
+use Rattle.sum_core.proofs.Children.{children-append, children-take, children-drop, children-one, items_under-append, items-split, items-taken, cut-middle, fits-left, fits-right}
+use Rattle.sum_tree.specs.declared.in_place.Span.{Span}
+use Rattle.sum_tree.specs.inside.InPlace.{CanRefill, IsNode, IsRefilled}
+use Rattle.sum_tree.specs.inside.Nodes.{AreChildren, IsChildAt, items_below}
+use Rattle.sum_tree.proofs.Melds.{small-left, small-right}
 
--- an item put within the middle part of a list
-pub put-middle : {X : Type 0} (all B F A : List X) (from to offset : ℕ) (x : X) → all ≡ B ++ (F ++ A) → offset ≡ length B → offset ≤ from → from ≤ to → to ≤ offset + length F → put from to x all ≡ B ++ (put (from - offset) (to - offset) x F ++ A)
-put-middle all B F A from to offset x e oe low order high =
+-- items put within the middle part of a list
+pub splice-middle : {X : Type 0} (all B F A : List X) (from to offset : ℕ) (new : List X) → all ≡ B ++ (F ++ A) → offset ≡ length B → offset ≤ from → from ≤ to → to ≤ offset + length F → splice all from to new ≡ B ++ (splice F (from - offset) (to - offset) new ++ A)
+splice-middle all B F A from to offset new e oe low order high =
     let front = (cut-middle all B F A from offset e oe low (omega arith)).0 in
     let back = (cut-middle all B F A to offset e oe (omega arith) high).1 in
     let f = take (from - offset) F in
     let b = drop (to - offset) F in
-    ap (λ l. l ++ x ∷ drop to all) front
-    ∙ ap (λ l. (B ++ f) ++ x ∷ l) back
-    ∙ append_assoc B f (x ∷ (b ++ A))
-    ∙ ap (λ l. B ++ l) (sym (append_assoc f (x ∷ b) A))
-
-before-from : (offset from to : ℕ) → offset ≤ to → (0 < to → offset < to) → from ≤ to → to ≤ from + 1 → offset ≤ from
-before-from offset from zero low later order one = omega (arith, low)
-before-from offset from (suc n) low later order one = omega (arith, later (omega arith), one)
-
--- a list of one element
-pub only-item : {X : Type 0} (xs : List X) (x : X) → length xs ≡ 1 → x ≡ get_or xs 0 x → xs ≡ x ∷ []
-only-item [] x one is = absurd (omega (arith, one))
-only-item (y ∷ []) x one is = ap (λ z. z ∷ []) (sym is)
-only-item (y ∷ z ∷ zs) x one is = absurd (omega (arith, one))
+    ap (λ l. l ++ (new ++ drop to all)) front
+    ∙ ap (λ l. (B ++ f) ++ (new ++ l)) back
+    ∙ append_assoc B f (new ++ (b ++ A))
+    ∙ ap (λ l. B ++ (f ++ l)) (sym (append_assoc new b A))
+    ∙ ap (λ l. B ++ l) (sym (append_assoc f (new ++ b) A))
 
 -- an element written at its place
 pub set-apart : {X : Type 0} (xs : List X) (i : ℕ) (y : X) → i < length xs → set xs i y ≡ take i xs ++ (y ∷ drop (i + 1) xs)
@@ -38,16 +36,32 @@ set-apart xs i y lt =
     ∙ ap (λ l. l ++ drop i (set xs i y)) (take-set xs i y)
     ∙ ap (λ l. take i xs ++ l) (drop-set xs i y lt)
 
+-- the first of the new elements, written over one of those in whose place they come
+pub splice-set : {X : Type 0} (xs : List X) (at end : ℕ) (x : X) (new : List X) → at < end → at < length xs → splice (set xs at x) (at + 1) end new ≡ splice xs at end (x ∷ new)
+splice-set xs at end x new before within =
+    ap (λ l. l ++ (new ++ drop end (set xs at x))) (take_more_set xs at x within)
+    ∙ ap (λ l. (take at xs ++ x ∷ []) ++ (new ++ l)) (drop-set-lt end xs at x before)
+    ∙ append_assoc (take at xs) (x ∷ []) (new ++ drop end xs)
+
+-- the first of the new elements, inserted
+pub splice-insert : {X : Type 0} (xs : List X) (at : ℕ) (x : X) (new : List X) → at ≤ length xs → splice (insert xs at x) (at + 1) (at + 1) new ≡ splice xs at at (x ∷ new)
+splice-insert xs at x new within =
+    let front = take at xs ++ x ∷ [] in
+    let n : length front ≡ at + 1 = omega (arith, length_push (take at xs) x, length-take-le at xs within) in
+    let parts : insert xs at x ≡ front ++ drop at xs = sym (append_assoc (take at xs) (x ∷ []) (drop at xs)) in
+    ap (λ l. take (at + 1) l ++ (new ++ drop (at + 1) l)) parts
+    ∙ ap (λ l. l ++ (new ++ drop (at + 1) (front ++ drop at xs))) (take_at front (drop at xs) (at + 1) n)
+    ∙ ap (λ l. front ++ (new ++ l)) (drop_at front (drop at xs) (at + 1) n)
+    ∙ append_assoc (take at xs) (x ∷ []) (new ++ drop at xs)
+
+-- nothing in the place of nothing
+pub splice-none : {X : Type 0} (xs : List X) (at end : ℕ) → at ≡ end → splice xs at end [] ≡ xs
+splice-none xs at end same = ap (λ k. take at xs ++ drop k xs) (sym same) ∙ take-append-drop at xs
+
 -- the error that a `?` passes on
 pub err-passed : {A E : Type 0} (r : Result A E) (s : E) (P : A → Type 0) (Q : E → Type 0) → IsErrAnd r (λ e. e ≡ s) → Q s → MatchResult r P Q
 err-passed (Ok x) s P Q e q = absurd e
 err-passed (Err x) s P Q e q = subst Q (sym e) q
-
--- A place in the list that lies within its middle part F, or at the end of that.
-pub record IsBelow {X : Type 0} (all B F A : List X) (from to offset : ℕ) (x : X) : Type 0 where
-  pub split : all ≡ B ++ (F ++ A)
-  pub put_is : put from to x all ≡ B ++ (put (from - offset) (to - offset) x F ++ A)
-  pub within : to - offset ≤ length F
 
 module _ {T S : Type 0} where
   -- Child i of these has `offset` items before it, and the place `to` lies below it or at its end.
@@ -55,19 +69,23 @@ module _ {T S : Type 0} where
     pub index : i < length children
     pub offset_is : offset ≡ length (items_under (take i (map child_value children)))
     pub low : offset ≤ to
-    pub not_at_start : 0 < to → offset < to
     pub high : to ≤ length (items_under (take (i + 1) (map child_value children)))
 
-  pub below-child : (children : List (Child T S)) (i from to offset : ℕ) (x : T) (k : Child T S) → IsPlaced children i offset to → k ≡ get_or children i k → from ≤ to → to ≤ from + 1 → IsBelow (items_under (map child_value children)) (items_under (take i (map child_value children))) (items_in (child_value k).2) (items_under (drop (i + 1) (map child_value children))) from to offset x
-  below-child children i from to offset x k p is order one =
+  -- The items below the children are those before child k, those below it, and those behind.
+  pub record IsBelow (children : List (Child T S)) (i from to offset : ℕ) (k : Child T S) (new : List T) : Type 0 where
+    pub split : items_below children ≡ items_under (take i (map child_value children)) ++ (items_in (child_value k).2 ++ items_under (drop (i + 1) (map child_value children)))
+    pub splice_is : splice (items_below children) from to new ≡ items_under (take i (map child_value children)) ++ (splice (items_in (child_value k).2) (from - offset) (to - offset) new ++ items_under (drop (i + 1) (map child_value children)))
+    pub within : to - offset ≤ length (items_in (child_value k).2)
+
+  pub below-child : (children : List (Child T S)) (i from to offset : ℕ) (k : Child T S) (new : List T) → IsPlaced children i offset to → k ≡ get_or children i k → offset ≤ from → from ≤ to → IsBelow children i from to offset k new
+  below-child children i from to offset k new p is low order =
       let cs = map child_value children in
       let split = items-split children i k p.index is in
       let taken = items-taken children i k p.index is in
-      let low : offset ≤ from = before-from offset from to p.low p.not_at_start order one in
       let high : to ≤ offset + length (items_in (child_value k).2) = omega (arith, taken, p.offset_is, p.high) in
       record {
         split = split;
-        put_is = put-middle (items_under cs) (items_under (take i cs)) (items_in (child_value k).2) (items_under (drop (i + 1) cs)) from to offset x split p.offset_is low order high;
+        splice_is = splice-middle (items_below children) (items_under (take i cs)) (items_in (child_value k).2) (items_under (drop (i + 1) cs)) from to offset new split p.offset_is low order high;
         within = omega (arith, high);
       }
 
@@ -76,7 +94,7 @@ module _ {T S : Type 0} where
   values-set children i k lt =
       map-set child_value children i k ∙ set-apart (map child_value children) i (child_value k) (rw length-map lt)
 
-  pub items-set : (children : List (Child T S)) (i : ℕ) (k : Child T S) → i < length children → items_under (map child_value (set children i k)) ≡ items_under (take i (map child_value children)) ++ (items_in (child_value k).2 ++ items_under (drop (i + 1) (map child_value children)))
+  items-set : (children : List (Child T S)) (i : ℕ) (k : Child T S) → i < length children → items_below (set children i k) ≡ items_under (take i (map child_value children)) ++ (items_in (child_value k).2 ++ items_under (drop (i + 1) (map child_value children)))
   items-set children i k lt =
       let cs = map child_value children in
       ap items_under (values-set children i k lt) ∙ items_under-append (take i cs) (child_value k ∷ drop (i + 1) cs)
@@ -84,89 +102,87 @@ module _ {T S : Type 0} where
   pub same-items : (a b : Entries T S) → contents a ≡ contents b → items_in a ≡ items_in b
   same-items a b e = items-contents a ∙ ap contents_items e ∙ sym (items-contents b)
 
-  -- below a list of children
-  pub items-put : (children : List (Child T S)) (i from to offset : ℕ) (x : T) (k l : Child T S) → IsPlaced children i offset to → k ≡ get_or children i k → from ≤ to → to ≤ from + 1 → items_in (child_value l).2 ≡ put (from - offset) (to - offset) x (items_in (child_value k).2) → items_under (map child_value (set children i l)) ≡ put from to x (items_under (map child_value children))
-  items-put children i from to offset x k l p is order one e =
+  -- what a write below child i, which then is l, does to the items below the children
+  pub items-put : (children : List (Child T S)) (i from to offset : ℕ) (new : List T) (k l : Child T S) → IsPlaced children i offset to → k ≡ get_or children i k → offset ≤ from → from ≤ to → items_in (child_value l).2 ≡ splice (items_in (child_value k).2) (from - offset) (to - offset) new → items_below (set children i l) ≡ splice (items_below children) from to new
+  items-put children i from to offset new k l p is low order e =
       let cs = map child_value children in
       items-set children i l p.index
       ∙ ap (λ m. items_under (take i cs) ++ (m ++ items_under (drop (i + 1) cs))) e
-      ∙ sym ((below-child children i from to offset x k p is order one).put_is)
+      ∙ sym ((below-child children i from to offset k new p is low order).splice_is)
 
-  pub items-kept : (children : List (Child T S)) (i : ℕ) (k l : Child T S) → i < length children → k ≡ get_or children i k → items_in (child_value l).2 ≡ items_in (child_value k).2 → items_under (map child_value (set children i l)) ≡ items_under (map child_value children)
+  pub items-kept : (children : List (Child T S)) (i : ℕ) (k l : Child T S) → i < length children → k ≡ get_or children i k → items_in (child_value l).2 ≡ items_in (child_value k).2 → items_below (set children i l) ≡ items_below children
   items-kept children i k l lt is e =
       let cs = map child_value children in
       items-set children i l lt
       ∙ ap (λ m. items_under (take i cs) ++ (m ++ items_under (drop (i + 1) cs))) e
       ∙ sym (items-split children i k lt is)
 
-  module _ (empty : S) (joined : S → S → S) (summary : T → S) where
-    pub children-set : (P : Entries T S → Type 0) (children : List (Child T S)) (i : ℕ) (k : Child T S) → i < length children → IsChild empty joined summary P 6 (child_value k) → IsChildList empty joined summary P 6 (map child_value children) → IsChildList empty joined summary P 6 (map child_value (set children i k))
-    children-set P children i k lt here all =
-        let cs = map child_value children in
-        subst (IsChildList empty joined summary P 6) (sym (values-set children i k lt))
-        (children-append empty joined summary P 6 (take i cs) (child_value k ∷ drop (i + 1) cs) (children-take empty joined summary P 6 i cs all)
-        (children-append empty joined summary P 6 (child_value k ∷ []) (drop (i + 1) cs) (children-one empty joined summary P 6 (child_value k) here) (children-drop empty joined summary P 6 (i + 1) cs all)))
+module _ {T S : Type 0} (items : Items T S) (sums : Sums S) where
+  pub children-set : (h : ℕ) (children : List (Child T S)) (i : ℕ) (k : Child T S) → i < length children → IsChildAt items sums h k → AreChildren items sums h children → AreChildren items sums h (set children i k)
+  children-set h children i k lt here all =
+      let P : Entries T S → Type 0 = IsLawful sums.empty sums.joined items.summary h in
+      let cs = map child_value children in
+      subst (IsChildList sums.empty sums.joined items.summary P 6) (sym (values-set children i k lt))
+      (children-append sums.empty sums.joined items.summary P 6 (take i cs) (child_value k ∷ drop (i + 1) cs) (children-take sums.empty sums.joined items.summary P 6 i cs all)
+      (children-append sums.empty sums.joined items.summary P 6 (child_value k ∷ []) (drop (i + 1) cs) (children-one sums.empty sums.joined items.summary P 6 (child_value k) here) (children-drop sums.empty sums.joined items.summary P 6 (i + 1) cs all)))
 
-    pub same-lawful : (h : ℕ) (a b : Entries T S) → contents a ≡ contents b → IsLawful empty joined summary h a → IsLawful empty joined summary h b
-    same-lawful zero a b e l = subst (IsLawfulLeaf empty joined summary) e l
-    same-lawful (suc h) a b e l = subst (IsLawfulInner empty joined summary (IsLawful empty joined summary h)) e l
+  -- a part in which the span lies
+  pub can-below : SummaryLaws sums.empty sums.joined sums.fits → (children : List (Child T S)) (i offset : ℕ) (span : Span) (k : Child T S) (new : List T) → IsPlaced children i offset span.to → k ≡ get_or children i k → offset ≤ span.from → CanRefill items sums (items_below children) span new → CanRefill items sums (items_in (child_value k).2) (record { from = span.from - offset; to = span.to - offset }) new
+  can-below laws children i offset span k new p is low c =
+      let cs = map child_value children in
+      let b = below-child children i span.from span.to offset k new p is low c.order in
+      let B = items_under (take i cs) in
+      let F = items_in (child_value k).2 in
+      let A = items_under (drop (i + 1) cs) in
+      let P = splice F (span.from - offset) (span.to - offset) new in
+      let rest = small-right 4294967296 (items_below children) B (F ++ A) b.split c.small in
+      let put = small-right 4294967296 (splice (items_below children) span.from span.to new) B (P ++ A) b.splice_is c.still_small in
+      record {
+        order = omega (arith, c.order, low);
+        within = b.within;
+        small = small-left 4294967296 (F ++ A) F A refl rest;
+        still_small = small-left 4294967296 (P ++ A) P A refl put;
+        fits = fits-left sums.empty sums.joined sums.fits items.summary laws (P ++ A) P A refl (fits-right sums.empty sums.joined sums.fits items.summary laws _ B (P ++ A) b.splice_is c.fits);
+      }
 
-    pub same-root : (h : ℕ) (a b : Entries T S) → contents a ≡ contents b → IsRoot empty joined summary h a → IsRoot empty joined summary h b
-    same-root h a b e r = record { lawful = same-lawful h a b e r.lawful; two = λ up. omega (arith, r.two up, ap width e) }
+  -- the same of an equal list
+  pub can-same : (held same : List T) (span : Span) (new : List T) → held ≡ same → CanRefill items sums held span new → CanRefill items sums same span new
+  can-same held same span new e c = subst (λ l. CanRefill items sums l span new) e c
 
-    pub leaf-few : (h : ℕ) (e : Entries T S) (xs : List T) → IsLawful empty joined summary h e → contents e ≡ leaf xs → length xs ≤ 12
-    leaf-few zero e xs l is = subst (IsLawfulLeaf empty joined summary) is l
-    leaf-few (suc h) e xs l is = absurd (subst (IsLawfulInner empty joined summary (IsLawful empty joined summary h)) is l)
+  pub refilled-same : {V : Type 0} (held same : List T) (span : Span) (new : List T) (given : V) (after now : List T) (r : Result (S × ℕ) V) → held ≡ same → after ≡ now → IsRefilled items sums held span new given after r → IsRefilled items sums same span new given now r
+  refilled-same held same span new given after now r e f m =
+      subst (λ l. IsRefilled items sums l span new given now r) e (subst (λ l. IsRefilled items sums held span new given l r) f m)
 
-    -- the entries with other addresses
-    pub after-same : (h : ℕ) (e f : Entries T S) → contents f ≡ contents e → IsLawful empty joined summary h e → IsAfter empty joined summary h e (items_in e) f
-    after-same h e f is l =
-        record {
-          lawful = same-lawful h e f (sym is) l;
-          wide = omega (arith, ap width is);
-          items_is = same-items f e is;
-        }
+  same-lawful : (h : ℕ) (a b : Entries T S) → contents a ≡ contents b → IsLawful sums.empty sums.joined items.summary h a → IsLawful sums.empty sums.joined items.summary h b
+  same-lawful zero a b e l = subst (IsLawfulLeaf sums.empty sums.joined items.summary) e l
+  same-lawful (suc h) a b e l = subst (IsLawfulInner sums.empty sums.joined items.summary (IsLawful sums.empty sums.joined items.summary h)) e l
 
-    pub after-leaf : (h : ℕ) (e f : Entries T S) (xs ys items : List T) → IsLawful empty joined summary h e → contents e ≡ leaf xs → contents f ≡ leaf ys → length ys ≤ 12 → length xs ≤ length ys → ys ≡ items → IsAfter empty joined summary h e items f
-    after-leaf zero e f xs ys items l is to few more ye =
-        record {
-          lawful = subst (IsLawfulLeaf empty joined summary) (sym to) few;
-          wide = omega (arith, ap width to, ap width is, more);
-          items_is = items-leaf f ys to ∙ ye;
-        }
-    after-leaf (suc h) e f xs ys items l is to few more ye = absurd (subst (IsLawfulInner empty joined summary (IsLawful empty joined summary h)) is l)
+  -- the entries with other addresses
+  pub node-same : (h least : ℕ) (a b : Entries T S) → contents a ≡ contents b → IsNode items sums h least a → IsNode items sums h least b
+  node-same h least a b e n = record { lawful = same-lawful h a b e n.lawful; wide = omega (arith, n.wide, ap width e); some = n.some }
 
-    pub after-inner : (h : ℕ) (e f : Entries T S) (cs ds : List (S × ℕ × Entries T S)) (items : List T) → 1 ≤ h → IsLawful empty joined summary h e → contents e ≡ inner cs → contents f ≡ inner ds → length ds ≡ length cs → IsChildList empty joined summary (IsLawful empty joined summary (h - 1)) 6 ds → items_under ds ≡ items → IsAfter empty joined summary h e items f
-    after-inner h e f cs ds items high l is to n all de =
-        let b = lawful_below empty joined summary h e cs l is in
-        record {
-          lawful = lawful_above empty joined summary h f ds high to (omega (arith, n, b.0)) all;
-          wide = omega (arith, ap width to, ap width is, n);
-          items_is = items-seen f ds to ∙ de;
-        }
+  pub leaf-few : (h : ℕ) (e : Entries T S) (xs : List T) → IsLawful sums.empty sums.joined items.summary h e → contents e ≡ leaf xs → length xs ≤ 12
+  leaf-few zero e xs l is = subst (IsLawfulLeaf sums.empty sums.joined items.summary) is l
+  leaf-few (suc h) e xs l is = absurd (subst (IsLawfulInner sums.empty sums.joined items.summary (IsLawful sums.empty sums.joined items.summary h)) is l)
 
-    -- what a write below a leaf, below children and below a lent node means for the node
-    pub put-leaf : (r : Result (S × ℕ) T) (h from to : ℕ) (x : T) (e f : Entries T S) (xs ys : List T) → IsLawful empty joined summary h e → contents e ≡ leaf xs → contents f ≡ leaf ys → length ys ≤ 12 → length xs ≤ length ys → MatchResult r (λ s. (ys ≡ put from to x xs) × IsSumOf empty joined summary ys s) (λ i. (ys ≡ xs) × (i ≡ x)) → MatchResult r (λ s. IsAfter empty joined summary h e (put from to x (items_in e)) f × IsSumOf empty joined summary (put from to x (items_in e)) s) (λ i. IsAfter empty joined summary h e (items_in e) f × (i ≡ x))
-    put-leaf (Ok s) h from to x e f xs ys l is at few more m =
-        let ye : ys ≡ put from to x (items_in e) = m.0 ∙ ap (put from to x) (sym (items-leaf e xs is)) in
-        (after-leaf h e f xs ys _ l is at few more ye, subst (λ l. IsSumOf empty joined summary l s) ye m.1)
-    put-leaf (Err i) h from to x e f xs ys l is at few more m =
-        (after-leaf h e f xs ys _ l is at few more (m.0 ∙ sym (items-leaf e xs is)), m.1)
+  -- other items in the place of a leaf's
+  pub node-leaf : (h least : ℕ) (e f : Entries T S) (xs ys : List T) → IsLawful sums.empty sums.joined items.summary h e → contents e ≡ leaf xs → contents f ≡ leaf ys → length ys ≤ 12 → least ≤ length ys → IsNode items sums h least f
+  node-leaf zero least e f xs ys l is to few wide =
+      record {
+        lawful = subst (IsLawfulLeaf sums.empty sums.joined items.summary) (sym to) few;
+        wide = omega (arith, ap width to, wide);
+        some = λ up. absurd (omega (arith, up));
+      }
+  node-leaf (suc h) least e f xs ys l is to few wide =
+      absurd (subst (IsLawfulInner sums.empty sums.joined items.summary (IsLawful sums.empty sums.joined items.summary h)) is l)
 
-    pub put-inner : (r : Result (S × ℕ) T) (h from to : ℕ) (x : T) (e f : Entries T S) (cs ds : List (S × ℕ × Entries T S)) → 1 ≤ h → IsLawful empty joined summary h e → contents e ≡ inner cs → contents f ≡ inner ds → length ds ≡ length cs → IsChildList empty joined summary (IsLawful empty joined summary (h - 1)) 6 ds → MatchResult r (λ s. IsSumOf empty joined summary (put from to x (items_under cs)) s × (items_under ds ≡ put from to x (items_under cs))) (λ i. (items_under ds ≡ items_under cs) × (i ≡ x)) → MatchResult r (λ s. IsAfter empty joined summary h e (put from to x (items_in e)) f × IsSumOf empty joined summary (put from to x (items_in e)) s) (λ i. IsAfter empty joined summary h e (items_in e) f × (i ≡ x))
-    put-inner (Ok s) h from to x e f cs ds high l is at n all m =
-        let same : put from to x (items_under cs) ≡ put from to x (items_in e) = ap (put from to x) (sym (items-seen e cs is)) in
-        (after-inner h e f cs ds _ high l is at n all (m.1 ∙ same), subst (λ l. IsSumOf empty joined summary l s) same m.0)
-    put-inner (Err i) h from to x e f cs ds high l is at n all m =
-        (after-inner h e f cs ds _ high l is at n all (m.0 ∙ sym (items-seen e cs is)), m.1)
-
-    after-from : (h : ℕ) (a b f g : Entries T S) (xs ys : List T) → contents a ≡ contents b → xs ≡ ys → f ≡ g → IsAfter empty joined summary h a xs f → IsAfter empty joined summary h b ys g
-    after-from h a b f g xs ys same is fe w =
-        subst (IsAfter empty joined summary h b ys) fe
-        (record { lawful = w.lawful; wide = omega (arith, w.wide, ap width same); items_is = w.items_is ∙ is })
-
-    pub put-lent : (r : Result (S × ℕ) T) (h from to : ℕ) (x : T) (a b f g : Entries T S) → contents a ≡ contents b → f ≡ g → MatchResult r (λ s. IsAfter empty joined summary h a (put from to x (items_in a)) f × IsSumOf empty joined summary (put from to x (items_in a)) s) (λ i. IsAfter empty joined summary h a (items_in a) f × (i ≡ x)) → MatchResult r (λ s. IsAfter empty joined summary h b (put from to x (items_in b)) g × IsSumOf empty joined summary (put from to x (items_in b)) s) (λ i. IsAfter empty joined summary h b (items_in b) g × (i ≡ x))
-    put-lent (Ok s) h from to x a b f g same fe m =
-        let is : put from to x (items_in a) ≡ put from to x (items_in b) = ap (put from to x) (same-items a b same) in
-        (after-from h a b f g _ _ same is fe m.0, subst (λ l. IsSumOf empty joined summary l s) is m.1)
-    put-lent (Err i) h from to x a b f g same fe m = (after-from h a b f g _ _ same (same-items a b same) fe m.0, m.1)
+  -- as many other children in the place of a node's
+  pub node-inner : (h least : ℕ) (e f : Entries T S) (cs ds : List (Child T S)) → 1 ≤ h → IsNode items sums h least e → contents e ≡ inner (map child_value cs) → contents f ≡ inner (map child_value ds) → length ds ≡ length cs → AreChildren items sums (h - 1) ds → IsNode items sums h least f
+  node-inner h least e f cs ds high n is to same all =
+      let count : length (map child_value ds) ≡ length (map child_value cs) = omega (arith, length-map cs child_value, length-map ds child_value, same) in
+      let room = (lawful_below sums.empty sums.joined items.summary h e (map child_value cs) n.lawful is).0 in
+      record {
+        lawful = lawful_above sums.empty sums.joined items.summary h f (map child_value ds) high to (omega (arith, count, room)) all;
+        wide = omega (arith, ap width to, ap width is, count, n.wide);
+        some = n.some;
+      }

@@ -3,8 +3,8 @@ use Rattle.std.proofs.Common.{◌≡◌, ℕ, zero, suc, ◌+◌, ◌<◌, ◌�
 use Rattle.std.proofs.lemmas.List.{append-nil, nil_from_length}
 use Rattle.sum_core.specs.Nodes.{IsLawful, IsChildList, IsChild, IsRoot, entries_of, items_in, items_under, width, contents}
 use Rattle.sum_core.specs.declared.node.Entries.{Entries}
-use Rattle.sum_tree.specs.Parts.{IsMelded, IsPacked, IsRaisable}
-use Rattle.sum_tree.specs.Trees.{IsTreeOf}
+use Rattle.sum_tree.specs.inside.Parts.{IsMelded, IsPacked, IsRaisable}
+use Rattle.sum_tree.specs.inside.Trees.{IsTreeOf}
 use Rattle.sum_tree.specs.declared.trees.Tree.{Tree}
 use Rattle.sum_core.specs.Sums.{total}
 use Rattle.sum_core.proofs.Children.{children-head, children-weaker}

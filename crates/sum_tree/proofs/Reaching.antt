@@ -8,7 +8,7 @@ use Rattle.cell_units.specs.declared.place.Bias.{Bias}
 use Rattle.cell_units.specs.declared.place.Bias.TheVariants.{Left, Right}
 use Rattle.sum_core.specs.Sums.{SummaryLaws, DimensionLaws, total}
 use Rattle.sum_tree.specs.Cursors.{measure_to, is_reached, IsSought}
-use Rattle.sum_tree.specs.Paths.{is_met, IsFound}
+use Rattle.sum_tree.specs.inside.Paths.{is_met, IsFound}
 use Rattle.sum_tree.specs.declared.path.Aim.TheVariants.{Sum}
 use Rattle.sum_tree.specs.declared.path.Found.{Found}
 use Rattle.sum_tree.proofs.Prefixes.{measure-not_greater}

@@ -1,6 +1,5 @@
 pub mod Bounds
 pub mod Cursors
 pub mod Firsts
-pub mod Parts
-pub mod Paths
-pub mod Trees
+pub mod inside
+pub mod Probes

@@ -4,7 +4,7 @@ ghost use Rattle.std.specs.Option.{option_copied};
 ghost use Rattle.sum_core.specs.Sums.{total};
 ghost use Rattle.sum_tree.specs.Bounds.{TakesAtMost, way};
 ghost use Rattle.sum_tree.specs.Cursors.{IsSought, last_of, measure_to};
-ghost use Rattle.sum_tree.specs.Paths.{IsTreeSeen, IsItem, items_seen};
+ghost use Rattle.sum_tree.specs.inside.Paths.{IsTreeSeen, IsItem, items_seen};
 
 use crate::path::{Aim, Found, Path};
 use crate::trees::Tree;
@@ -26,7 +26,7 @@ pub struct Cursor<'a, T: Item, D: Dimension<T::Sum>> {
 impl<'a, T: Item, D: Dimension<T::Sum>> Model for Cursor<'a, T, D> {
     ghost use Rattle.sum_tree.specs.Bounds.{TakesAtMost, way};
     ghost use Rattle.sum_tree.specs.Cursors.{Standing};
-    ghost use Rattle.sum_tree.specs.Paths.{IsCursor, items_seen};
+    ghost use Rattle.sum_tree.specs.inside.Paths.{IsCursor, items_seen};
 
     ghost Value = { Standing T };
 
@@ -57,7 +57,8 @@ impl<'a, T: Item, D: Dimension<T::Sum>> Cursor<'a, T, D> {
     /// Goes to the first item whose end is at least the target (Left) or greater than it (Right), or past the last item.
     pub fn seek(&mut self, target: D, bias: Bias, steps: &mut Steps)
         ensures items { self.new.items ≡ self.old.items }
-        ensures sought { IsSought T.Sum.empty T.Sum.joined T.summary D.measure D.cmp self.old.items target bias self.new.place }
+        ensures sought { IsSought T.Sum.empty T.Sum.joined T.summary D.measure D.cmp self.old.items
+            target bias self.new.place }
         ensures counted { steps.old ≤ steps.new }
         ensures steps { TakesAtMost way (length self.old.items) steps.old steps.new }
     {
@@ -106,9 +107,11 @@ impl<'a, T: Item, D: Dimension<T::Sum>> Cursor<'a, T, D> {
 
     /// Stands on what was found, or past the last item.
     fn settle(&mut self, found: Option<Found<'a, T, D>>)
-        requires { IfSome found (λ f. IsItem T.Sum.empty T.Sum.joined T.summary D.measure self.old.items f) }
+        requires { IfSome found
+            (λ f. IsItem T.Sum.empty T.Sum.joined T.summary D.measure self.old.items f) }
         ensures items { self.new.items ≡ self.old.items }
-        ensures place { MatchOption found.entry (self.new.place ≡ length self.old.items + 1) (λ f. self.new.place ≡ f.index + 1) }
+        ensures place { MatchOption found.entry (self.new.place ≡ length self.old.items + 1)
+            (λ f. self.new.place ≡ f.index + 1) }
     {
         match found {
             None => {
@@ -143,14 +146,17 @@ impl<'a, T: Item, D: Dimension<T::Sum>> Cursor<'a, T, D> {
 
     /// The sum of the items before the cursor's.
     pub fn start(&self) -> D
-        ensures { result ≡ measure_to T.Sum.empty T.Sum.joined T.summary D.measure self.now.items (self.now.place - 1) }
+        ensures { result ≡
+            measure_to T.Sum.empty T.Sum.joined T.summary D.measure self.now.items
+            (self.now.place - 1) }
     {
         self.start
     }
 
     /// The sum of the items up to and with the cursor's.
     pub fn end(&self) -> D
-        ensures { result ≡ measure_to T.Sum.empty T.Sum.joined T.summary D.measure self.now.items self.now.place }
+        ensures { result ≡
+            measure_to T.Sum.empty T.Sum.joined T.summary D.measure self.now.items self.now.place }
     {
         self.end
     }

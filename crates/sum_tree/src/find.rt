@@ -1,6 +1,7 @@
 //! Finding an item by its place in the list.
 ghost use Rattle.std.specs.Prelude.{◌≡◌, ◌+◌, ◌^◌, ◌<◌, ◌≤◌, Some, map, length, take, slice_get};
-ghost use Rattle.sum_core.specs.Nodes.{IsChildList, IsLawful, entries_of, child_value, items_of, items_under};
+ghost use Rattle.sum_core.specs.Nodes.{child_value, items_of, items_under};
+ghost use Rattle.sum_tree.specs.inside.Nodes.{AreChildren, IsLawfulNode, items_below};
 
 use cell_units::Steps;
 use sum_core::{Child, Entries, Item, Node};
@@ -8,11 +9,12 @@ use sum_core::{Child, Entries, Item, Node};
 /// The child that the place `at` lies in or at the end of, as its index and the number of items before it.
 pub fn find_child<T: Item>(children: &[Child<T>], below: usize, at: usize) -> (usize, usize)
     requires some { 1 ≤ length children.now }
-    requires children { IsChildList T.Sum.empty T.Sum.joined T.summary (IsLawful T.Sum.empty T.Sum.joined T.summary below) 6 (map child_value children.now) }
-    requires within { at ≤ length (items_under (map child_value children.now)) }
-    requires small { length (items_under (map child_value children.now)) < 2 ^ 32 }
+    requires children { AreChildren T.Item T.Sum.Summary below children.now }
+    requires within { at ≤ length (items_below children.now) }
+    requires small { length (items_below children.now) < 2 ^ 32 }
     ensures index { result.0 < length children.now }
-    ensures offset { result.1 ≡ length (items_under (take result.0 (map child_value children.now))) }
+    ensures offset { result.1 ≡
+        length (items_under (take result.0 (map child_value children.now))) }
     ensures low { result.1 ≤ at }
     ensures not_at_start { 0 < at → result.1 < at }
     ensures high { at ≤ length (items_under (take (result.0 + 1) (map child_value children.now))) }
@@ -30,7 +32,7 @@ pub fn find_child<T: Item>(children: &[Child<T>], below: usize, at: usize) -> (u
 
 /// The item at place `at`.
 pub fn item_at<'a, T: Item>(node: &'a Node<T>, height: usize, at: usize, steps: &mut Steps) -> &'a T
-    requires lawful { IsLawful T.Sum.empty T.Sum.joined T.summary height (entries_of node.now) }
+    requires lawful { IsLawfulNode T.Item T.Sum.Summary height node.now }
     requires within { at < length (items_of node.now) }
     requires small { length (items_of node.now) < 2 ^ 32 }
     ensures item { slice_get (items_of node.now) at ≡ Some result.now }

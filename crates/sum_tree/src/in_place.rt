@@ -1,70 +1,79 @@
-//! Writing one item in place: on nodes that nobody else holds, and on copies of those that are shared.
-ghost use Rattle.std.specs.Prelude.{◌≡◌, ◌+◌, ◌-◌, ◌*◌, ◌^◌, ◌<◌, ◌≤◌, MatchResult, map, length};
-ghost use Rattle.sum_core.specs.Sums.{total};
-ghost use Rattle.sum_core.specs.Nodes.{IsLawful, IsChild, IsChildList, IsRoot, entries_of, child_value, items_in, items_of, items_under};
-ghost use Rattle.sum_tree.specs.Parts.{IsAfter, IsSumOf, put};
-ghost use Rattle.sum_tree.specs.Trees.{IsTree, IsTreeOf};
+//! Writing a few items in place: on nodes that nobody else holds, and on copies of those that are shared.
+ghost use Rattle.std.specs.Prelude.{◌≡◌, ◌+◌, ◌-◌, ◌<◌, ◌≤◌, MatchResult, insert, length, vec_capacity, vec_len};
+ghost use Rattle.sum_core.specs.Nodes.{entries_of, items_in, items_of};
+ghost use Rattle.sum_tree.specs.inside.InPlace.{CanRefill, IsNode, IsRefilled, IsRefilledAlone, refilled};
+ghost use Rattle.sum_tree.specs.inside.Nodes.{AreChildren, IsChildAt, IsLawfulTree, items_below};
 
 use crate::find::find_child;
-use crate::pack::{MOST, sum_children, sum_items};
+use crate::pack::{FEWEST, MOST, sum_children, sum_items};
 use crate::trees::Tree;
 use cell_units::Steps;
 use std::alloc::Global;
 use std::mem;
 use sum_core::{Child, Entries, Item, Node};
 
-/// Puts `item` in the place of the items from `from` to `to`, of which there is at most one. `Err` hands the item back:
-/// its leaf has no room, or there is no memory, and the items are as they were.
+/// A range of a list's items, by their places.
+#[derive(Clone, Copy)]
+pub struct Span {
+    pub from: usize,
+    pub to: usize,
+}
+
+/// Puts `items` in the place of those in the span, where one leaf holds them all and is then neither too full nor, below a
+/// root, less than half full. `Err` hands the items back: there is no such leaf, or no memory, and the tree is as it was.
 pub fn put_in_tree<T: Item>(
     alloc: Global,
     tree: &mut Tree<T>,
-    from: usize,
-    to: usize,
-    item: T,
+    span: Span,
+    items: Vec<T>,
     steps: &mut Steps,
-) -> Result<(), T>
-    requires tree { IsTree T.Sum.empty T.Sum.joined T.summary tree.old }
-    requires order { from ≤ to }
-    requires one { to ≤ from + 1 }
-    requires within { to ≤ length (items_of tree.old.node) }
-    requires small { length (items_of tree.old.node) < 2 ^ 32 }
-    requires still_small { length (put from to item (items_of tree.old.node)) < 2 ^ 32 }
-    requires fits { T.Sum.fits (total T.Sum.empty T.Sum.joined T.summary (put from to item (items_of tree.old.node))) }
-    ensures put { MatchResult result (λ _. IsTreeOf T.Sum.empty T.Sum.joined T.summary tree.new (put from to item (items_of tree.old.node))) (λ i. IsTreeOf T.Sum.empty T.Sum.joined T.summary tree.new (items_of tree.old.node) × (i ≡ item)) }
+) -> Result<(), Vec<T>>
+    requires tree { IsLawfulTree T.Item T.Sum.Summary tree.old }
+    requires can { CanRefill T.Item T.Sum.Summary (items_of tree.old.node) span items.items }
+    ensures tree { IsLawfulTree T.Item T.Sum.Summary tree.new }
+    ensures put { let held = items_of tree.old.node in
+        IsRefilledAlone T.Item T.Sum.Summary held span items.items items (items_of tree.new.node) result }
     ensures counted { steps.old ≤ steps.new }
     ensures steps { steps.new ≤ steps.old + tree.old.height + 1 }
 {
-    let summed = put_in_node(alloc, &mut tree.node, tree.height, from, to, item, steps)?;
+    let height = tree.height;
+    let least = fewest_in_root(height);
+    let summed = put_in_node(alloc, &mut tree.node, height, least, span, items, steps)?;
     tree.sum = summed.0;
     tree.count = summed.1;
     Ok(())
 }
 
-/// The same below a node. It gives the sum and the number of the items then.
+/// The least number of entries in a root of this height.
+fn fewest_in_root(height: usize) -> usize
+    ensures leaf { height ≡ 0 → result ≡ 0 }
+    ensures inner { 0 < height → result ≡ 2 }
+{
+    if height == 0 { 0 } else { 2 }
+}
+
+/// The same below a node that may have `least` entries and no fewer. It gives the sum and the number of the items then.
 #[cycle(put)]
 fn put_in_node<T: Item>(
     alloc: Global,
     node: &mut Node<T>,
     height: usize,
-    from: usize,
-    to: usize,
-    item: T,
+    least: usize,
+    span: Span,
+    items: Vec<T>,
     steps: &mut Steps,
-) -> Result<(T::Sum, usize), T>
-    requires root { IsRoot T.Sum.empty T.Sum.joined T.summary height (entries_of node.old) }
-    requires order { from ≤ to }
-    requires one { to ≤ from + 1 }
-    requires within { to ≤ length (items_of node.old) }
-    requires small { length (items_of node.old) < 2 ^ 32 }
-    requires still_small { length (put from to item (items_of node.old)) < 2 ^ 32 }
-    requires fits { T.Sum.fits (total T.Sum.empty T.Sum.joined T.summary (put from to item (items_of node.old))) }
-    ensures put { MatchResult result (λ s. IsAfter T.Sum.empty T.Sum.joined T.summary height (entries_of node.old) (put from to item (items_of node.old)) (entries_of node.new) × IsSumOf T.Sum.empty T.Sum.joined T.summary (put from to item (items_of node.old)) s) (λ i. IsAfter T.Sum.empty T.Sum.joined T.summary height (entries_of node.old) (items_of node.old) (entries_of node.new) × (i ≡ item)) }
+) -> Result<(T::Sum, usize), Vec<T>>
+    requires node { IsNode T.Item T.Sum.Summary height least (entries_of node.old) }
+    requires can { CanRefill T.Item T.Sum.Summary (items_of node.old) span items.items }
+    ensures node { IsNode T.Item T.Sum.Summary height least (entries_of node.new) }
+    ensures put { let held = items_of node.old in
+        IsRefilled T.Item T.Sum.Summary held span items.items items (items_of node.new) result }
     ensures counted { steps.old ≤ steps.new }
     ensures steps { steps.new ≤ steps.old + height + 1 }
 {
     match node.alter(alloc, steps) {
-        Ok(entries) => put_in_entries(alloc, entries, height, from, to, item, steps),
-        Err(_) => Err(item),
+        Ok(entries) => put_in_entries(alloc, entries, height, least, span, items, steps),
+        Err(_) => Err(items),
     }
 }
 
@@ -74,70 +83,69 @@ fn put_in_entries<T: Item>(
     alloc: Global,
     entries: &mut Entries<T>,
     height: usize,
-    from: usize,
-    to: usize,
-    item: T,
+    least: usize,
+    span: Span,
+    items: Vec<T>,
     steps: &mut Steps,
-) -> Result<(T::Sum, usize), T>
-    requires root { IsRoot T.Sum.empty T.Sum.joined T.summary height entries.old }
-    requires order { from ≤ to }
-    requires one { to ≤ from + 1 }
-    requires within { to ≤ length (items_in entries.old) }
-    requires small { length (items_in entries.old) < 2 ^ 32 }
-    requires still_small { length (put from to item (items_in entries.old)) < 2 ^ 32 }
-    requires fits { T.Sum.fits (total T.Sum.empty T.Sum.joined T.summary (put from to item (items_in entries.old))) }
-    ensures put { MatchResult result (λ s. IsAfter T.Sum.empty T.Sum.joined T.summary height entries.old (put from to item (items_in entries.old)) entries.new × IsSumOf T.Sum.empty T.Sum.joined T.summary (put from to item (items_in entries.old)) s) (λ i. IsAfter T.Sum.empty T.Sum.joined T.summary height entries.old (items_in entries.old) entries.new × (i ≡ item)) }
+) -> Result<(T::Sum, usize), Vec<T>>
+    requires node { IsNode T.Item T.Sum.Summary height least entries.old }
+    requires can { CanRefill T.Item T.Sum.Summary (items_in entries.old) span items.items }
+    ensures node { IsNode T.Item T.Sum.Summary height least entries.new }
+    ensures put { let held = items_in entries.old in
+        IsRefilled T.Item T.Sum.Summary held span items.items items (items_in entries.new) result }
     ensures counted { steps.old ≤ steps.new }
     ensures steps { steps.new ≤ steps.old + height }
 {
     match mem::replace(entries, Entries::Leaf(Vec::new(alloc))) {
-        Entries::Leaf(mut items) => {
-            let put = put_in_leaf(&mut items, from, to, item);
-            *entries = Entries::Leaf(items);
+        Entries::Leaf(mut leaf) => {
+            let put = put_in_leaf(&mut leaf, least, span, items);
+            *entries = Entries::Leaf(leaf);
             put
         }
         Entries::Inner(mut children) => {
-            let put = put_in_children(alloc, &mut children, height, from, to, item, steps);
+            let put = put_in_children(alloc, &mut children, height, span, items, steps);
             *entries = Entries::Inner(children);
             put
         }
     }
 }
 
-/// The same below children: in the one that the place `to` lies in or at the end of.
+/// The same below children: in the one that the span's end lies in or at the end of.
 #[cycle(put)]
 fn put_in_children<T: Item>(
     alloc: Global,
     children: &mut Vec<Child<T>>,
     height: usize,
-    from: usize,
-    to: usize,
-    item: T,
+    span: Span,
+    items: Vec<T>,
     steps: &mut Steps,
-) -> Result<(T::Sum, usize), T>
+) -> Result<(T::Sum, usize), Vec<T>>
     requires is_inner { 1 ≤ height }
     requires some { 1 ≤ length children.old.items }
-    requires children { IsChildList T.Sum.empty T.Sum.joined T.summary (IsLawful T.Sum.empty T.Sum.joined T.summary (height - 1)) 6 (map child_value children.old.items) }
-    requires order { from ≤ to }
-    requires one { to ≤ from + 1 }
-    requires within { to ≤ length (items_under (map child_value children.old.items)) }
-    requires small { length (items_under (map child_value children.old.items)) < 2 ^ 32 }
-    requires still_small { length (put from to item (items_under (map child_value children.old.items))) < 2 ^ 32 }
-    requires fits { T.Sum.fits (total T.Sum.empty T.Sum.joined T.summary (put from to item (items_under (map child_value children.old.items)))) }
-    ensures put { MatchResult result (λ s. IsSumOf T.Sum.empty T.Sum.joined T.summary (put from to item (items_under (map child_value children.old.items))) s × (items_under (map child_value children.new.items) ≡ put from to item (items_under (map child_value children.old.items)))) (λ i. (items_under (map child_value children.new.items) ≡ items_under (map child_value children.old.items)) × (i ≡ item)) }
-    ensures children { IsChildList T.Sum.empty T.Sum.joined T.summary (IsLawful T.Sum.empty T.Sum.joined T.summary (height - 1)) 6 (map child_value children.new.items) }
+    requires children { AreChildren T.Item T.Sum.Summary (height - 1) children.old.items }
+    requires can { CanRefill T.Item T.Sum.Summary (items_below children.old.items) span items.items }
+    ensures children { AreChildren T.Item T.Sum.Summary (height - 1) children.new.items }
     ensures len { length children.new.items ≡ length children.old.items }
+    ensures put { let held = items_below children.old.items in
+        let after = items_below children.new.items in
+        IsRefilled T.Item T.Sum.Summary held span items.items items after result }
     ensures counted { steps.old ≤ steps.new }
     ensures steps { steps.new ≤ steps.old + height }
 {
-    let found = find_child(children, height - 1, to);
+    let found = find_child(children, height - 1, span.to);
+    if span.from < found.1 {
+        return Err(items);
+    }
+    let within = Span {
+        from: span.from - found.1,
+        to: span.to - found.1,
+    };
     put_in_child(
         alloc,
         &mut children[found.0],
         height - 1,
-        from - found.1,
-        to - found.1,
-        item,
+        within,
+        items,
         steps,
     )?;
     Ok(sum_children(children, height - 1))
@@ -149,24 +157,19 @@ fn put_in_child<T: Item>(
     alloc: Global,
     child: &mut Child<T>,
     below: usize,
-    from: usize,
-    to: usize,
-    item: T,
+    span: Span,
+    items: Vec<T>,
     steps: &mut Steps,
-) -> Result<(), T>
-    requires child { IsChild T.Sum.empty T.Sum.joined T.summary (IsLawful T.Sum.empty T.Sum.joined T.summary below) 6 (child_value child.old) }
-    requires order { from ≤ to }
-    requires one { to ≤ from + 1 }
-    requires within { to ≤ length (items_of child.old.node) }
-    requires small { length (items_of child.old.node) < 2 ^ 32 }
-    requires still_small { length (put from to item (items_of child.old.node)) < 2 ^ 32 }
-    requires fits { T.Sum.fits (total T.Sum.empty T.Sum.joined T.summary (put from to item (items_of child.old.node))) }
-    ensures child { IsChild T.Sum.empty T.Sum.joined T.summary (IsLawful T.Sum.empty T.Sum.joined T.summary below) 6 (child_value child.new) }
-    ensures put { MatchResult result (λ _. items_of child.new.node ≡ put from to item (items_of child.old.node)) (λ i. (items_of child.new.node ≡ items_of child.old.node) × (i ≡ item)) }
+) -> Result<(), Vec<T>>
+    requires child { IsChildAt T.Item T.Sum.Summary below child.old }
+    requires can { CanRefill T.Item T.Sum.Summary (items_of child.old.node) span items.items }
+    ensures child { IsChildAt T.Item T.Sum.Summary below child.new }
+    ensures put { let held = items_of child.old.node in
+        IsRefilledAlone T.Item T.Sum.Summary held span items.items items (items_of child.new.node) result }
     ensures counted { steps.old ≤ steps.new }
     ensures steps { steps.new ≤ steps.old + below + 1 }
 {
-    let summed = put_in_node(alloc, &mut child.node, below, from, to, item, steps)?;
+    let summed = put_in_node(alloc, &mut child.node, below, FEWEST, span, items, steps)?;
     child.sum = summed.0;
     child.count = summed.1;
     Ok(())
@@ -174,43 +177,77 @@ fn put_in_child<T: Item>(
 
 /// The same among the items of a leaf, with their sum and number.
 fn put_in_leaf<T: Item>(
-    items: &mut Vec<T>,
-    from: usize,
-    to: usize,
-    item: T,
-) -> Result<(T::Sum, usize), T>
-    requires room { length items.old.items ≤ 12 }
-    requires order { from ≤ to }
-    requires one { to ≤ from + 1 }
-    requires within { to ≤ length items.old.items }
-    requires fits { T.Sum.fits (total T.Sum.empty T.Sum.joined T.summary (put from to item items.old.items)) }
-    ensures room { length items.new.items ≤ 12 }
-    ensures longer { length items.old.items ≤ length items.new.items }
-    ensures put { MatchResult result (λ s. (items.new.items ≡ put from to item items.old.items) × IsSumOf T.Sum.empty T.Sum.joined T.summary items.new.items s) (λ i. (items.new.items ≡ items.old.items) × (i ≡ item)) }
+    leaf: &mut Vec<T>,
+    least: usize,
+    span: Span,
+    items: Vec<T>,
+) -> Result<(T::Sum, usize), Vec<T>>
+    requires room { length leaf.old.items ≤ 12 }
+    requires wide { least ≤ length leaf.old.items }
+    requires can { CanRefill T.Item T.Sum.Summary leaf.old.items span items.items }
+    ensures room { length leaf.new.items ≤ 12 }
+    ensures wide { least ≤ length leaf.new.items }
+    ensures put { let held = leaf.old.items in
+        IsRefilled T.Item T.Sum.Summary held span items.items items leaf.new.items result }
 {
-    put_among(items, from, to, item)?;
-    Ok((sum_items(items), items.len()))
+    let count = leaf.len() - (span.to - span.from) + items.len();
+    if count < least || MOST < count {
+        return Err(items);
+    }
+    write_over(leaf, span, items)?;
+    Ok((sum_items(leaf), count))
 }
 
-/// The item alone: in the place of another, or between two where the leaf has room.
-fn put_among<T: Item>(items: &mut Vec<T>, from: usize, to: usize, item: T) -> Result<(), T>
-    requires room { length items.old.items ≤ 12 }
-    requires order { from ≤ to }
-    requires one { to ≤ from + 1 }
-    requires within { to ≤ length items.old.items }
-    ensures room { length items.new.items ≤ 12 }
-    ensures longer { length items.old.items ≤ length items.new.items }
-    ensures put { MatchResult result (λ _. items.new.items ≡ put from to item items.old.items) (λ i. (items.new.items ≡ items.old.items) × (i ≡ item)) }
+/// The items alone. They are handed back where there is no memory.
+fn write_over<T: Item>(leaf: &mut Vec<T>, span: Span, items: Vec<T>) -> Result<(), Vec<T>>
+    requires order { span.from ≤ span.to }
+    requires within { span.to ≤ length leaf.old.items }
+    ensures put { MatchResult result
+        (λ _. leaf.new.items ≡ refilled leaf.old.items span items.items)
+        (λ back. (leaf.new.items ≡ leaf.old.items) × (back ≡ items)) }
 {
-    if from < to {
-        items[from] = item;
-        Ok(())
-    } else if items.len() < MOST {
-        match items.insert(from, item) {
-            Ok(()) => Ok(()),
-            Err(refused) => Err(refused.value),
+    let more = items.len().saturating_sub(span.to - span.from);
+    if leaf.reserve(more).is_err() {
+        return Err(items);
+    }
+    write_reserved(leaf, span, items);
+    Ok(())
+}
+
+/// The same where there is room: over the items in the span as far as they go, and behind those or instead of the last.
+fn write_reserved<T: Item>(leaf: &mut Vec<T>, span: Span, items: Vec<T>)
+    requires order { span.from ≤ span.to }
+    requires within { span.to ≤ length leaf.old.items }
+    requires room { length leaf.old.items + length items.items ≤
+        vec_capacity leaf.old + (span.to - span.from) }
+    ensures { leaf.new.items ≡ refilled leaf.old.items span items.items }
+{
+    let mut at = span.from;
+    let mut end = span.to;
+    for item in items {
+        if at < end {
+            leaf[at] = item;
+        } else {
+            insert_reserved(leaf, at, item);
+            end += 1;
         }
-    } else {
-        Err(item)
+        at += 1;
+    }
+    while at < end {
+        end -= 1;
+        leaf.remove(end);
+    }
+}
+
+/// Inserts an item where there is room.
+fn insert_reserved<T: Item>(leaf: &mut Vec<T>, at: usize, item: T)
+    requires within { at ≤ length leaf.old.items }
+    requires room { vec_len leaf.old < vec_capacity leaf.old }
+    ensures items { leaf.new.items ≡ insert leaf.old.items at item }
+    ensures capacity { vec_capacity leaf.old ≤ vec_capacity leaf.new }
+{
+    match leaf.insert(at, item) {
+        Ok(()) => (),
+        Err(_) => unreachable!(),
     }
 }

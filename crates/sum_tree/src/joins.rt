@@ -1,8 +1,7 @@
 //! Two trees of any heights as one node or two.
 ghost use Rattle.std.specs.Prelude.{◌≡◌, ◌+◌, ◌*◌, ◌-◌, ◌^◌, ◌<◌, ◌≤◌, ◌++◌, IfOk, map, length, min, max};
-ghost use Rattle.sum_core.specs.Sums.{total};
-ghost use Rattle.sum_core.specs.Nodes.{IsLawful, IsRoot, contents, width, entries_of, child_value, items_of};
-ghost use Rattle.sum_tree.specs.Parts.{IsPacked, IsMelded};
+ghost use Rattle.sum_core.specs.Nodes.{items_of};
+ghost use Rattle.sum_tree.specs.inside.Nodes.{AreMelded, ArePacked, IsLawfulNode, IsLawfulRoot, SumFits, entry_count};
 
 use crate::open::{Parted, copy_inner, copy_leaf, take_first, take_last};
 use crate::pack::{pack_items, pack_joined};
@@ -18,11 +17,13 @@ pub fn meld_level<T: Item>(
     height: usize,
     steps: &mut Steps,
 ) -> Result<Vec<Child<T>>, NoMemory>
-    requires left { IsLawful T.Sum.empty T.Sum.joined T.summary height (entries_of left.now) }
-    requires right { IsLawful T.Sum.empty T.Sum.joined T.summary height (entries_of right.now) }
-    requires fits { T.Sum.fits (total T.Sum.empty T.Sum.joined T.summary (items_of left.now ++ items_of right.now)) }
+    requires left { IsLawfulNode T.Item T.Sum.Summary height left.now }
+    requires right { IsLawfulNode T.Item T.Sum.Summary height right.now }
+    requires fits { SumFits T.Item T.Sum.Summary (items_of left.now ++ items_of right.now) }
     requires small { length (items_of left.now ++ items_of right.now) < 2 ^ 32 }
-    ensures packed { IfOk result (λ v. IsPacked T.Sum.empty T.Sum.joined T.summary height (min 6 (width (contents (entries_of left.now)) + width (contents (entries_of right.now)))) (items_of left.now ++ items_of right.now) (map child_value v.items)) }
+    ensures packed { IfOk result
+        (λ v. ArePacked T.Item T.Sum.Summary height (entry_count left.now + entry_count right.now)
+        (items_of left.now ++ items_of right.now) v.items) }
     ensures counted { steps.old ≤ steps.new }
     ensures steps { steps.new ≤ steps.old + 4 }
 {
@@ -47,13 +48,15 @@ pub fn meld<T: Item>(
     right_height: usize,
     steps: &mut Steps,
 ) -> Result<Vec<Child<T>>, NoMemory>
-    requires left { IsRoot T.Sum.empty T.Sum.joined T.summary left_height (entries_of left.now) }
-    requires right { IsRoot T.Sum.empty T.Sum.joined T.summary right_height (entries_of right.now) }
-    requires fits { T.Sum.fits (total T.Sum.empty T.Sum.joined T.summary (items_of left.now ++ items_of right.now)) }
+    requires left { IsLawfulRoot T.Item T.Sum.Summary left_height left.now }
+    requires right { IsLawfulRoot T.Item T.Sum.Summary right_height right.now }
+    requires fits { SumFits T.Item T.Sum.Summary (items_of left.now ++ items_of right.now) }
     requires small { length (items_of left.now ++ items_of right.now) < 2 ^ 32 }
-    ensures melded { IfOk result (λ v. IsMelded T.Sum.empty T.Sum.joined T.summary left_height (entries_of left.now) right_height (entries_of right.now) (map child_value v.items)) }
+    ensures melded { IfOk result
+        (λ v. AreMelded T.Item T.Sum.Summary left_height left.now right_height right.now v.items) }
     ensures counted { steps.old ≤ steps.new }
-    ensures steps { steps.new + 3 * min left_height right_height ≤ steps.old + 3 * max left_height right_height + 4 }
+    ensures steps { steps.new + 3 * min left_height right_height ≤ steps.old +
+        3 * max left_height right_height + 4 }
 {
     if left_height == right_height {
         meld_level(alloc, left, right, left_height, steps)

@@ -4,7 +4,9 @@ ghost use Rattle.std.specs.Option.{option_copied};
 ghost use Rattle.sum_core.specs.Sums.{total};
 ghost use Rattle.sum_tree.specs.Bounds.{TakesAtMost, way};
 ghost use Rattle.sum_tree.specs.Firsts.{IsFirst};
-ghost use Rattle.sum_tree.specs.Paths.{IsPath, items_seen, height_seen};
+ghost use Rattle.sum_tree.specs.inside.Paths.{items_seen, height_seen};
+ghost use Rattle.sum_tree.specs.inside.Nodes.{sum_of};
+ghost use Rattle.sum_tree.specs.inside.Ways.{IsWay};
 
 use crate::path::{Aim, Path};
 use crate::sum_tree::SumTree;
@@ -42,10 +44,13 @@ impl<'a, T: Item> Path<'a, T> {
         bias: Bias,
         steps: &mut Steps,
     ) -> Found<'a, T>
-        requires path { IsPath T.Sum.empty T.Sum.joined T.summary T.Sum.fits self }
-        ensures first { IsFirst T.Sum.empty T.Sum.joined T.summary M.number (items_seen self.entry.root) target bias result.index }
-        ensures before { result.before ≡ total T.Sum.empty T.Sum.joined T.summary (take result.index (items_seen self.entry.root)) }
-        ensures item { option_copied result.item ≡ slice_get (items_seen self.entry.root) result.index }
+        requires path { IsWay T.Item T.Sum.Summary self }
+        ensures first { IsFirst T.Sum.empty T.Sum.joined T.summary M.number
+            (items_seen self.entry.root) target bias result.index }
+        ensures before { result.before ≡
+            sum_of T.Item T.Sum.Summary (take result.index (items_seen self.entry.root)) }
+        ensures item { option_copied result.item ≡
+            slice_get (items_seen self.entry.root) result.index }
         ensures counted { steps.old ≤ steps.new }
         ensures steps { steps.new ≤ steps.old + height_seen self.entry.root + 1 }
     {
@@ -69,10 +74,12 @@ impl<'a, T: Item> Path<'a, T> {
 impl<'a, T: Item> Path<'a, T> {
     /// The item of this index, or the end.
     pub fn find_at(self, index: u32, steps: &mut Steps) -> Found<'a, T>
-        requires path { IsPath T.Sum.empty T.Sum.joined T.summary T.Sum.fits self }
+        requires path { IsWay T.Item T.Sum.Summary self }
         ensures index { result.index ≡ min index (length (items_seen self.entry.root)) }
-        ensures before { result.before ≡ total T.Sum.empty T.Sum.joined T.summary (take result.index (items_seen self.entry.root)) }
-        ensures item { option_copied result.item ≡ slice_get (items_seen self.entry.root) result.index }
+        ensures before { result.before ≡
+            sum_of T.Item T.Sum.Summary (take result.index (items_seen self.entry.root)) }
+        ensures item { option_copied result.item ≡
+            slice_get (items_seen self.entry.root) result.index }
         ensures counted { steps.old ≤ steps.new }
         ensures steps { steps.new ≤ steps.old + height_seen self.entry.root + 1 }
     {
@@ -97,7 +104,8 @@ impl<T: Item> SumTree<T> {
     /// The item of this index and the sum of those before it, or the end and the sum of all.
     pub fn find_at(&self, index: u32, steps: &mut Steps) -> Found<'_, T>
         ensures index { result.index ≡ min index (length self.now) }
-        ensures before { result.before ≡ total T.Sum.empty T.Sum.joined T.summary (take result.index self.now) }
+        ensures before { result.before ≡
+            total T.Sum.empty T.Sum.joined T.summary (take result.index self.now) }
         ensures item { option_copied result.item ≡ slice_get self.now result.index }
         ensures counted { steps.old ≤ steps.new }
         ensures steps { TakesAtMost way (length self.now) steps.old steps.new }
@@ -112,8 +120,10 @@ impl<T: Item> SumTree<T> {
         bias: Bias,
         steps: &mut Steps,
     ) -> Found<'_, T>
-        ensures first { IsFirst T.Sum.empty T.Sum.joined T.summary M.number self.now target bias result.index }
-        ensures before { result.before ≡ total T.Sum.empty T.Sum.joined T.summary (take result.index self.now) }
+        ensures first { IsFirst T.Sum.empty T.Sum.joined T.summary M.number self.now target bias
+            result.index }
+        ensures before { result.before ≡
+            total T.Sum.empty T.Sum.joined T.summary (take result.index self.now) }
         ensures item { option_copied result.item ≡ slice_get self.now result.index }
         ensures counted { steps.old ≤ steps.new }
         ensures steps { TakesAtMost way (length self.now) steps.old steps.new }

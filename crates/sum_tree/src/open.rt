@@ -1,7 +1,7 @@
 //! A node's entries, copied out of it.
 ghost use Rattle.std.specs.Prelude.{◌≡◌, ◌+◌, ◌-◌, ◌≤◌, ◌++◌, IfOk, map};
-ghost use Rattle.sum_core.specs.Nodes.{IsLawful, leaf, contents, width, entries_of, child_value, items_of, items_under};
-ghost use Rattle.sum_tree.specs.Parts.{IsInner, IsParted};
+ghost use Rattle.sum_core.specs.Nodes.{leaf, contents, width, entries_of, items_of};
+ghost use Rattle.sum_tree.specs.inside.Nodes.{AreChildrenOf, IsLawfulNode, IsPartedNode, items_below};
 
 use cell_units::{NoMemory, Steps};
 use std::alloc::Global;
@@ -20,7 +20,7 @@ pub fn copy_leaf<T: Item>(
     node: &Node<T>,
     steps: &mut Steps,
 ) -> Result<Vec<T>, NoMemory>
-    requires { IsLawful T.Sum.empty T.Sum.joined T.summary 0 (entries_of node.now) }
+    requires { IsLawfulNode T.Item T.Sum.Summary 0 node.now }
     ensures opened { IfOk result (λ v. contents (entries_of node.now) ≡ leaf v.items) }
     ensures counted { steps.old ≤ steps.new }
     ensures steps { steps.new ≤ steps.old + 1 }
@@ -38,9 +38,9 @@ pub fn copy_inner<T: Item>(
     height: usize,
     steps: &mut Steps,
 ) -> Result<Vec<Child<T>>, NoMemory>
-    requires lawful { IsLawful T.Sum.empty T.Sum.joined T.summary height (entries_of node.now) }
+    requires lawful { IsLawfulNode T.Item T.Sum.Summary height node.now }
     requires is_inner { 1 ≤ height }
-    ensures opened { IfOk result (λ v. IsInner T.Sum.empty T.Sum.joined T.summary height (entries_of node.now) (map child_value v.items)) }
+    ensures opened { IfOk result (λ v. AreChildrenOf T.Item T.Sum.Summary height node.now v.items) }
     ensures counted { steps.old ≤ steps.new }
     ensures steps { steps.new ≤ steps.old + 1 }
 {
@@ -57,10 +57,12 @@ pub fn take_last<T: Item>(
     height: usize,
     steps: &mut Steps,
 ) -> Result<Parted<T>, NoMemory>
-    requires lawful { IsLawful T.Sum.empty T.Sum.joined T.summary height (entries_of node.now) }
+    requires lawful { IsLawfulNode T.Item T.Sum.Summary height node.now }
     requires is_inner { 1 ≤ height }
     requires some { 1 ≤ width (contents (entries_of node.now)) }
-    ensures parted { IfOk result (λ p. IsParted T.Sum.empty T.Sum.joined T.summary height (entries_of node.now) (map child_value p.rest.items) (entries_of p.node) (items_under (map child_value p.rest.items) ++ items_of p.node)) }
+    ensures parted { IfOk result
+        (λ p. IsPartedNode T.Item T.Sum.Summary height node.now
+        (items_below p.rest.items ++ items_of p.node) p) }
     ensures counted { steps.old ≤ steps.new }
     ensures steps { steps.new ≤ steps.old + 1 }
 {
@@ -81,10 +83,12 @@ pub fn take_first<T: Item>(
     height: usize,
     steps: &mut Steps,
 ) -> Result<Parted<T>, NoMemory>
-    requires lawful { IsLawful T.Sum.empty T.Sum.joined T.summary height (entries_of node.now) }
+    requires lawful { IsLawfulNode T.Item T.Sum.Summary height node.now }
     requires is_inner { 1 ≤ height }
     requires some { 1 ≤ width (contents (entries_of node.now)) }
-    ensures parted { IfOk result (λ p. IsParted T.Sum.empty T.Sum.joined T.summary height (entries_of node.now) (map child_value p.rest.items) (entries_of p.node) (items_of p.node ++ items_under (map child_value p.rest.items))) }
+    ensures parted { IfOk result
+        (λ p. IsPartedNode T.Item T.Sum.Summary height node.now
+        (items_of p.node ++ items_below p.rest.items) p) }
     ensures counted { steps.old ≤ steps.new }
     ensures steps { steps.new ≤ steps.old + 1 }
 {

@@ -1,8 +1,7 @@
 //! One node or two from at most 24 entries.
 ghost use Rattle.std.specs.Prelude.{◌≡◌, ◌+◌, ◌-◌, ◌^◌, ◌<◌, ◌≤◌, ◌++◌, ◌∷◌, [], IfOk, map, length, vec_len, min};
-ghost use Rattle.sum_core.specs.Sums.{total};
-ghost use Rattle.sum_core.specs.Nodes.{IsLawful, IsChildList, IsChild, contents, width, entries_of, child_value, items_in, items_under};
-ghost use Rattle.sum_tree.specs.Parts.{IsPacked};
+ghost use Rattle.sum_core.specs.Nodes.{child_value, items_in};
+ghost use Rattle.sum_tree.specs.inside.Nodes.{AreChildren, ArePacked, IsWideChild, SumFits, items_below, sum_of};
 
 use cell_units::{NoMemory, Steps};
 use std::alloc::Global;
@@ -11,10 +10,13 @@ use sum_core::{Child, Entries, Item, Node, Summary};
 /// The greatest number of entries in a node.
 pub const MOST: usize = 12;
 
+/// The least number of entries in a node that is no root.
+pub const FEWEST: usize = 6;
+
 /// The sum of the items.
 pub fn sum_items<T: Item>(items: &[T]) -> T::Sum
-    requires { T.Sum.fits (total T.Sum.empty T.Sum.joined T.summary items.now) }
-    ensures { result ≡ total T.Sum.empty T.Sum.joined T.summary items.now }
+    requires { SumFits T.Item T.Sum.Summary items.now }
+    ensures { result ≡ sum_of T.Item T.Sum.Summary items.now }
 {
     let mut sum = T::Sum::zero();
     for item in items {
@@ -25,11 +27,11 @@ pub fn sum_items<T: Item>(items: &[T]) -> T::Sum
 
 /// The sum and the number of the items below the children.
 pub fn sum_children<T: Item>(children: &[Child<T>], below: usize) -> (T::Sum, usize)
-    requires children { IsChildList T.Sum.empty T.Sum.joined T.summary (IsLawful T.Sum.empty T.Sum.joined T.summary below) 6 (map child_value children.now) }
-    requires fits { T.Sum.fits (total T.Sum.empty T.Sum.joined T.summary (items_under (map child_value children.now))) }
-    requires small { length (items_under (map child_value children.now)) < 2 ^ 32 }
-    ensures sum { result.0 ≡ total T.Sum.empty T.Sum.joined T.summary (items_under (map child_value children.now)) }
-    ensures count { result.1 ≡ length (items_under (map child_value children.now)) }
+    requires children { AreChildren T.Item T.Sum.Summary below children.now }
+    requires fits { SumFits T.Item T.Sum.Summary (items_below children.now) }
+    requires small { length (items_below children.now) < 2 ^ 32 }
+    ensures sum { result.0 ≡ sum_of T.Item T.Sum.Summary (items_below children.now) }
+    ensures count { result.1 ≡ length (items_below children.now) }
 {
     let mut sum = T::Sum::zero();
     let mut count = 0;
@@ -47,8 +49,8 @@ pub fn make_leaf<T: Item>(
     steps: &mut Steps,
 ) -> Result<Child<T>, NoMemory>
     requires room { vec_len items ≤ 12 }
-    requires fits { T.Sum.fits (total T.Sum.empty T.Sum.joined T.summary items.items) }
-    ensures kept { IfOk result (λ c. IsChild T.Sum.empty T.Sum.joined T.summary (IsLawful T.Sum.empty T.Sum.joined T.summary 0) (vec_len items) (child_value c)) }
+    requires fits { SumFits T.Item T.Sum.Summary items.items }
+    ensures kept { IfOk result (λ c. IsWideChild T.Item T.Sum.Summary 0 (vec_len items) c) }
     ensures items { IfOk result (λ c. items_in (child_value c).2 ≡ items.items) }
     ensures counted { steps.old ≤ steps.new }
     ensures steps { steps.new ≤ steps.old + 1 }
@@ -69,12 +71,12 @@ pub fn make_inner<T: Item>(
     steps: &mut Steps,
 ) -> Result<Child<T>, NoMemory>
     requires is_inner { 1 ≤ height }
-    requires children { IsChildList T.Sum.empty T.Sum.joined T.summary (IsLawful T.Sum.empty T.Sum.joined T.summary (height - 1)) 6 (map child_value children.items) }
+    requires children { AreChildren T.Item T.Sum.Summary (height - 1) children.items }
     requires room { vec_len children ≤ 12 }
-    requires fits { T.Sum.fits (total T.Sum.empty T.Sum.joined T.summary (items_under (map child_value children.items))) }
-    requires small { length (items_under (map child_value children.items)) < 2 ^ 32 }
-    ensures kept { IfOk result (λ c. IsChild T.Sum.empty T.Sum.joined T.summary (IsLawful T.Sum.empty T.Sum.joined T.summary height) (vec_len children) (child_value c)) }
-    ensures items { IfOk result (λ c. items_in (child_value c).2 ≡ items_under (map child_value children.items)) }
+    requires fits { SumFits T.Item T.Sum.Summary (items_below children.items) }
+    requires small { length (items_below children.items) < 2 ^ 32 }
+    ensures kept { IfOk result (λ c. IsWideChild T.Item T.Sum.Summary height (vec_len children) c) }
+    ensures items { IfOk result (λ c. items_in (child_value c).2 ≡ items_below children.items) }
     ensures counted { steps.old ≤ steps.new }
     ensures steps { steps.new ≤ steps.old + 1 }
 {
@@ -98,7 +100,8 @@ fn one<T: Item>(alloc: Global, only: Child<T>) -> Result<Vec<Child<T>>, NoMemory
 }
 
 fn two<T: Item>(alloc: Global, left: Child<T>, right: Child<T>) -> Result<Vec<Child<T>>, NoMemory>
-    ensures { IfOk result (λ v. map child_value v.items ≡ child_value left ∷ child_value right ∷ []) }
+    ensures { IfOk result
+        (λ v. map child_value v.items ≡ child_value left ∷ child_value right ∷ []) }
 {
     let mut pieces = Vec::with_capacity(alloc, 2)?;
     pieces.push(left)?;
@@ -113,8 +116,9 @@ pub fn pack_items<T: Item>(
     steps: &mut Steps,
 ) -> Result<Vec<Child<T>>, NoMemory>
     requires room { vec_len items ≤ 24 }
-    requires fits { T.Sum.fits (total T.Sum.empty T.Sum.joined T.summary items.items) }
-    ensures packed { IfOk result (λ v. IsPacked T.Sum.empty T.Sum.joined T.summary 0 (min 6 (vec_len items)) items.items (map child_value v.items)) }
+    requires fits { SumFits T.Item T.Sum.Summary items.items }
+    ensures packed { IfOk result
+        (λ v. ArePacked T.Item T.Sum.Summary 0 (vec_len items) items.items v.items) }
     ensures counted { steps.old ≤ steps.new }
     ensures steps { steps.new ≤ steps.old + 2 }
 {
@@ -138,11 +142,13 @@ pub fn pack_children<T: Item>(
     steps: &mut Steps,
 ) -> Result<Vec<Child<T>>, NoMemory>
     requires is_inner { 1 ≤ height }
-    requires children { IsChildList T.Sum.empty T.Sum.joined T.summary (IsLawful T.Sum.empty T.Sum.joined T.summary (height - 1)) 6 (map child_value children.items) }
+    requires children { AreChildren T.Item T.Sum.Summary (height - 1) children.items }
     requires room { vec_len children ≤ 24 }
-    requires fits { T.Sum.fits (total T.Sum.empty T.Sum.joined T.summary (items_under (map child_value children.items))) }
-    requires small { length (items_under (map child_value children.items)) < 2 ^ 32 }
-    ensures packed { IfOk result (λ v. IsPacked T.Sum.empty T.Sum.joined T.summary height (min 6 (vec_len children)) (items_under (map child_value children.items)) (map child_value v.items)) }
+    requires fits { SumFits T.Item T.Sum.Summary (items_below children.items) }
+    requires small { length (items_below children.items) < 2 ^ 32 }
+    ensures packed { IfOk result
+        (λ v. ArePacked T.Item T.Sum.Summary height (vec_len children) (items_below children.items)
+        v.items) }
     ensures counted { steps.old ≤ steps.new }
     ensures steps { steps.new ≤ steps.old + 2 }
 {
@@ -167,12 +173,15 @@ pub fn pack_joined<T: Item>(
     steps: &mut Steps,
 ) -> Result<Vec<Child<T>>, NoMemory>
     requires is_inner { 1 ≤ height }
-    requires front { IsChildList T.Sum.empty T.Sum.joined T.summary (IsLawful T.Sum.empty T.Sum.joined T.summary (height - 1)) 6 (map child_value front.items) }
-    requires back { IsChildList T.Sum.empty T.Sum.joined T.summary (IsLawful T.Sum.empty T.Sum.joined T.summary (height - 1)) 6 (map child_value back.items) }
+    requires front { AreChildren T.Item T.Sum.Summary (height - 1) front.items }
+    requires back { AreChildren T.Item T.Sum.Summary (height - 1) back.items }
     requires room { vec_len front + vec_len back ≤ 24 }
-    requires fits { T.Sum.fits (total T.Sum.empty T.Sum.joined T.summary (items_under (map child_value front.items) ++ items_under (map child_value back.items))) }
-    requires small { length (items_under (map child_value front.items) ++ items_under (map child_value back.items)) < 2 ^ 32 }
-    ensures packed { IfOk result (λ v. IsPacked T.Sum.empty T.Sum.joined T.summary height (min 6 (vec_len front + vec_len back)) (items_under (map child_value front.items) ++ items_under (map child_value back.items)) (map child_value v.items)) }
+    requires fits { SumFits T.Item T.Sum.Summary (items_below front.items ++
+        items_below back.items) }
+    requires small { length (items_below front.items ++ items_below back.items) < 2 ^ 32 }
+    ensures packed { IfOk result
+        (λ v. ArePacked T.Item T.Sum.Summary height (vec_len front + vec_len back)
+        (items_below front.items ++ items_below back.items) v.items) }
     ensures counted { steps.old ≤ steps.new }
     ensures steps { steps.new ≤ steps.old + 2 }
 {

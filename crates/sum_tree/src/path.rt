@@ -1,10 +1,10 @@
 //! The way from the root of a tree down to an item.
 ghost use Rattle.std.specs.Prelude.{◌≡◌, ◌+◌, ◌^◌, ◌<◌, ◌≤◌, ◌++◌, true, false, Some, slice_get, [], length, map, MatchOption, IfSome, IsTrue, ◌↔◌};
-ghost use Rattle.sum_core.specs.Sums.{total};
 ghost use Rattle.sum_core.specs.Nodes.{inner, contents, child_value, items_in};
-ghost use Rattle.sum_tree.specs.Cursors.{measure_to};
-ghost use Rattle.sum_tree.specs.Paths.{is_met, items_seen, height_seen, IsTreeSeen, IsPlace, IsPath, IsAhead, IsFound};
+ghost use Rattle.sum_tree.specs.inside.Paths.{is_met, items_seen, height_seen, IsTreeSeen};
 ghost use Rattle.smallvec.specs.SmallVec.{small_vec_len};
+ghost use Rattle.sum_tree.specs.inside.Nodes.{SumFits, sum_of};
+ghost use Rattle.sum_tree.specs.inside.Ways.{FindsItem, FindsPlace, IsPlaceIn, IsWay, measure_at};
 
 use crate::find::find_child;
 use crate::trees::Tree;
@@ -47,7 +47,8 @@ pub struct Place<'a, T: Item> {
 impl<'a, T: Item> Place<'a, T> {
     /// The item of this index lies below.
     fn holds(&self, index: usize) -> bool
-        ensures { IsTrue result ↔ ((self.now.first ≤ index) × (index < self.now.first + self.now.count)) }
+        ensures { IsTrue result ↔
+            ((self.now.first ≤ index) × (index < self.now.first + self.now.count)) }
     {
         self.first <= index && index - self.first < self.count
     }
@@ -86,12 +87,14 @@ impl<'a, T: Item> Path<'a, T> {
         items: &'a [T],
         aim: &Aim<D>,
     ) -> Option<Found<'a, T, D>>
-        requires path { IsPath T.Sum.empty T.Sum.joined T.summary T.Sum.fits self.now }
-        requires place { IsPlace T.Sum.empty T.Sum.joined T.summary (items_seen self.now.root) top.now }
+        requires path { IsWay T.Item T.Sum.Summary self.now }
+        requires place { IsPlaceIn T.Item T.Sum.Summary (items_seen self.now.root) top.now }
         requires items { items_in top.now.entries.now ≡ items.now }
-        requires start { start ≡ measure_to T.Sum.empty T.Sum.joined T.summary D.measure (items_seen self.now.root) top.now.first }
+        requires start { start ≡
+            measure_at T.Item T.Sum.Summary D.measure (items_seen self.now.root) top.now.first }
         requires not_before { 0 < top.now.first → is_met D.cmp aim.now top.now.first start ≡ false }
-        ensures found { MatchOption result (0 < top.now.first + top.now.count → is_met D.cmp aim.now (top.now.first + top.now.count) (measure_to T.Sum.empty T.Sum.joined T.summary D.measure (items_seen self.now.root) (top.now.first + top.now.count)) ≡ false) (λ f. IsFound T.Sum.empty T.Sum.joined T.summary D.measure D.cmp (items_seen self.now.root) aim.now f) }
+        ensures found { FindsItem T.Item T.Sum.Summary D.measure D.cmp (items_seen self.now.root)
+            aim.now (top.now.first + top.now.count) result }
     {
         let mut start = start;
         for (offset, item) in items.iter().enumerate() {
@@ -119,12 +122,14 @@ impl<'a, T: Item> Path<'a, T> {
         aim: &Aim<D>,
         steps: &mut Steps,
     ) -> Option<Ahead<'a, T, D>>
-        requires path { IsPath T.Sum.empty T.Sum.joined T.summary T.Sum.fits self.now }
-        requires place { IsPlace T.Sum.empty T.Sum.joined T.summary (items_seen self.now.root) top.now }
+        requires path { IsWay T.Item T.Sum.Summary self.now }
+        requires place { IsPlaceIn T.Item T.Sum.Summary (items_seen self.now.root) top.now }
         requires children { contents top.now.entries.now ≡ inner (map child_value children.now) }
-        requires start { start ≡ measure_to T.Sum.empty T.Sum.joined T.summary D.measure (items_seen self.now.root) top.now.first }
+        requires start { start ≡
+            measure_at T.Item T.Sum.Summary D.measure (items_seen self.now.root) top.now.first }
         requires not_before { 0 < top.now.first → is_met D.cmp aim.now top.now.first start ≡ false }
-        ensures found { MatchOption result (0 < top.now.first + top.now.count → is_met D.cmp aim.now (top.now.first + top.now.count) (measure_to T.Sum.empty T.Sum.joined T.summary D.measure (items_seen self.now.root) (top.now.first + top.now.count)) ≡ false) (λ a. IsAhead T.Sum.empty T.Sum.joined T.summary D.measure D.cmp (items_seen self.now.root) aim.now a) }
+        ensures found { FindsPlace T.Item T.Sum.Summary D.measure D.cmp (items_seen self.now.root)
+            aim.now (top.now.first + top.now.count) result }
         ensures height { IfSome result (λ a. a.place.height + 1 ≡ top.now.height) }
         ensures counted { steps.old ≤ steps.new }
         ensures steps { steps.new ≤ steps.old + 1 }
@@ -152,9 +157,9 @@ impl<'a, T: Item> Path<'a, T> {
     /// The path of a tree, with no node on it yet.
     pub fn new(alloc: Global, root: Option<&'a Tree<T>>) -> Path<'a, T>
         requires tree { IsTreeSeen T.Sum.empty T.Sum.joined T.summary root }
-        requires fits { T.Sum.fits (total T.Sum.empty T.Sum.joined T.summary (items_seen root)) }
+        requires fits { SumFits T.Item T.Sum.Summary (items_seen root) }
         requires small { length (items_seen root) < 2 ^ 32 }
-        ensures path { IsPath T.Sum.empty T.Sum.joined T.summary T.Sum.fits result }
+        ensures path { IsWay T.Item T.Sum.Summary result }
         ensures root { result.root ≡ root.entry }
     {
         Path {
@@ -165,7 +170,7 @@ impl<'a, T: Item> Path<'a, T> {
 
     /// The number of items in the tree.
     pub fn count(&self) -> usize
-        requires path { IsPath T.Sum.empty T.Sum.joined T.summary T.Sum.fits self.now }
+        requires path { IsWay T.Item T.Sum.Summary self.now }
         ensures { result ≡ length (items_seen self.now.root) }
     {
         match self.root {
@@ -176,8 +181,8 @@ impl<'a, T: Item> Path<'a, T> {
 
     /// The sum of all items of the tree.
     pub fn sum<D: Dimension<T::Sum>>(&self) -> D
-        requires path { IsPath T.Sum.empty T.Sum.joined T.summary T.Sum.fits self.now }
-        ensures { result ≡ D.measure (total T.Sum.empty T.Sum.joined T.summary (items_seen self.now.root)) }
+        requires path { IsWay T.Item T.Sum.Summary self.now }
+        ensures { result ≡ D.measure (sum_of T.Item T.Sum.Summary (items_seen self.now.root)) }
     {
         match self.root {
             None => D::of(T::Sum::zero()),
@@ -187,10 +192,12 @@ impl<'a, T: Item> Path<'a, T> {
 
     /// The place of the root.
     fn top(&self, steps: &mut Steps) -> Option<Place<'a, T>>
-        requires path { IsPath T.Sum.empty T.Sum.joined T.summary T.Sum.fits self.now }
-        ensures place { MatchOption result (items_seen self.now.root ≡ []) (λ p. IsPlace T.Sum.empty T.Sum.joined T.summary (items_seen self.now.root) p) }
+        requires path { IsWay T.Item T.Sum.Summary self.now }
+        ensures place { MatchOption result (items_seen self.now.root ≡ [])
+            (λ p. IsPlaceIn T.Item T.Sum.Summary (items_seen self.now.root) p) }
         ensures height { IfSome result (λ p. p.height ≡ height_seen self.now.root) }
-        ensures whole { IfSome result (λ p. (p.first ≡ 0) × (p.count ≡ length (items_seen self.now.root))) }
+        ensures whole { IfSome result
+            (λ p. (p.first ≡ 0) × (p.count ≡ length (items_seen self.now.root))) }
         ensures counted { steps.old ≤ steps.new }
         ensures steps { steps.new ≤ steps.old + 1 }
     {
@@ -213,12 +220,14 @@ impl<'a, T: Item> Path<'a, T> {
         aim: &Aim<D>,
         steps: &mut Steps,
     ) -> Option<Ahead<'a, T, D>>
-        requires path { IsPath T.Sum.empty T.Sum.joined T.summary T.Sum.fits self.now }
-        requires place { IsPlace T.Sum.empty T.Sum.joined T.summary (items_seen self.now.root) top.now }
+        requires path { IsWay T.Item T.Sum.Summary self.now }
+        requires place { IsPlaceIn T.Item T.Sum.Summary (items_seen self.now.root) top.now }
         requires is_inner { 1 ≤ top.now.height }
-        requires start { start ≡ measure_to T.Sum.empty T.Sum.joined T.summary D.measure (items_seen self.now.root) top.now.first }
+        requires start { start ≡
+            measure_at T.Item T.Sum.Summary D.measure (items_seen self.now.root) top.now.first }
         requires not_before { 0 < top.now.first → is_met D.cmp aim.now top.now.first start ≡ false }
-        ensures found { MatchOption result (0 < top.now.first + top.now.count → is_met D.cmp aim.now (top.now.first + top.now.count) (measure_to T.Sum.empty T.Sum.joined T.summary D.measure (items_seen self.now.root) (top.now.first + top.now.count)) ≡ false) (λ a. IsAhead T.Sum.empty T.Sum.joined T.summary D.measure D.cmp (items_seen self.now.root) aim.now a) }
+        ensures found { FindsPlace T.Item T.Sum.Summary D.measure D.cmp (items_seen self.now.root)
+            aim.now (top.now.first + top.now.count) result }
         ensures height { IfSome result (λ a. a.place.height + 1 ≡ top.now.height) }
         ensures counted { steps.old ≤ steps.new }
         ensures steps { steps.new ≤ steps.old + 1 }
@@ -236,12 +245,14 @@ impl<'a, T: Item> Path<'a, T> {
         start: D,
         aim: &Aim<D>,
     ) -> Option<Found<'a, T, D>>
-        requires path { IsPath T.Sum.empty T.Sum.joined T.summary T.Sum.fits self.now }
-        requires place { IsPlace T.Sum.empty T.Sum.joined T.summary (items_seen self.now.root) top.now }
+        requires path { IsWay T.Item T.Sum.Summary self.now }
+        requires place { IsPlaceIn T.Item T.Sum.Summary (items_seen self.now.root) top.now }
         requires is_leaf { top.now.height ≡ 0 }
-        requires start { start ≡ measure_to T.Sum.empty T.Sum.joined T.summary D.measure (items_seen self.now.root) top.now.first }
+        requires start { start ≡
+            measure_at T.Item T.Sum.Summary D.measure (items_seen self.now.root) top.now.first }
         requires not_before { 0 < top.now.first → is_met D.cmp aim.now top.now.first start ≡ false }
-        ensures found { MatchOption result (0 < top.now.first + top.now.count → is_met D.cmp aim.now (top.now.first + top.now.count) (measure_to T.Sum.empty T.Sum.joined T.summary D.measure (items_seen self.now.root) (top.now.first + top.now.count)) ≡ false) (λ f. IsFound T.Sum.empty T.Sum.joined T.summary D.measure D.cmp (items_seen self.now.root) aim.now f) }
+        ensures found { FindsItem T.Item T.Sum.Summary D.measure D.cmp (items_seen self.now.root)
+            aim.now (top.now.first + top.now.count) result }
     {
         match top.entries {
             Entries::Leaf(items) => self.find_item(top, start, items, aim),
@@ -257,14 +268,16 @@ impl<'a, T: Item> Path<'a, T> {
         aim: &Aim<D>,
         steps: &mut Steps,
     ) -> Option<Found<'a, T, D>>
-        requires path { IsPath T.Sum.empty T.Sum.joined T.summary T.Sum.fits self.old }
-        requires place { IsPlace T.Sum.empty T.Sum.joined T.summary (items_seen self.old.root) top }
+        requires path { IsWay T.Item T.Sum.Summary self.old }
+        requires place { IsPlaceIn T.Item T.Sum.Summary (items_seen self.old.root) top }
         requires height { top.height + small_vec_len self.old.places ≡ height_seen self.old.root }
-        requires start { start ≡ measure_to T.Sum.empty T.Sum.joined T.summary D.measure (items_seen self.old.root) top.first }
+        requires start { start ≡
+            measure_at T.Item T.Sum.Summary D.measure (items_seen self.old.root) top.first }
         requires not_before { 0 < top.first → is_met D.cmp aim.now top.first start ≡ false }
-        ensures path { IsPath T.Sum.empty T.Sum.joined T.summary T.Sum.fits self.new }
+        ensures path { IsWay T.Item T.Sum.Summary self.new }
         ensures root { self.new.root ≡ self.old.root }
-        ensures found { MatchOption result (0 < top.entry.first + top.entry.count → is_met D.cmp aim.now (top.entry.first + top.entry.count) (measure_to T.Sum.empty T.Sum.joined T.summary D.measure (items_seen self.old.root) (top.entry.first + top.entry.count)) ≡ false) (λ f. IsFound T.Sum.empty T.Sum.joined T.summary D.measure D.cmp (items_seen self.old.root) aim.now f) }
+        ensures found { FindsItem T.Item T.Sum.Summary D.measure D.cmp (items_seen self.old.root)
+            aim.now (top.entry.first + top.entry.count) result }
         ensures counted { steps.old ≤ steps.new }
         ensures steps { steps.new ≤ steps.old + top.entry.height }
     {
@@ -288,11 +301,13 @@ impl<'a, T: Item> Path<'a, T> {
 
     /// Up to the lowest place on the path that has the item of this index below it.
     fn climb(&mut self, index: usize) -> Option<Place<'a, T>>
-        requires path { IsPath T.Sum.empty T.Sum.joined T.summary T.Sum.fits self.old }
-        ensures path { IsPath T.Sum.empty T.Sum.joined T.summary T.Sum.fits self.new }
+        requires path { IsWay T.Item T.Sum.Summary self.old }
+        ensures path { IsWay T.Item T.Sum.Summary self.new }
         ensures root { self.new.root ≡ self.old.root }
-        ensures place { IfSome result (λ p. IsPlace T.Sum.empty T.Sum.joined T.summary (items_seen self.old.root) p) }
-        ensures height { IfSome result (λ p. p.height + small_vec_len self.new.places ≡ height_seen self.old.root) }
+        ensures place { IfSome result
+            (λ p. IsPlaceIn T.Item T.Sum.Summary (items_seen self.old.root) p) }
+        ensures height { IfSome result
+            (λ p. p.height + small_vec_len self.new.places ≡ height_seen self.old.root) }
         ensures around { IfSome result (λ p. (p.first ≤ index) × (index < p.first + p.count)) }
     {
         while let Some(Some(place)) = self.places.pop() {
@@ -305,11 +320,11 @@ impl<'a, T: Item> Path<'a, T> {
 
     /// The child below an inner node that has the item of this index below it.
     fn child_with(&self, top: &Place<'a, T>, index: usize, steps: &mut Steps) -> Place<'a, T>
-        requires path { IsPath T.Sum.empty T.Sum.joined T.summary T.Sum.fits self.now }
-        requires place { IsPlace T.Sum.empty T.Sum.joined T.summary (items_seen self.now.root) top.now }
+        requires path { IsWay T.Item T.Sum.Summary self.now }
+        requires place { IsPlaceIn T.Item T.Sum.Summary (items_seen self.now.root) top.now }
         requires is_inner { 1 ≤ top.now.height }
         requires around { (top.now.first ≤ index) × (index < top.now.first + top.now.count) }
-        ensures place { IsPlace T.Sum.empty T.Sum.joined T.summary (items_seen self.now.root) result }
+        ensures place { IsPlaceIn T.Item T.Sum.Summary (items_seen self.now.root) result }
         ensures height { result.height + 1 ≡ top.now.height }
         ensures around { (result.first ≤ index) × (index < result.first + result.count) }
         ensures counted { steps.old ≤ steps.new }
@@ -332,8 +347,8 @@ impl<'a, T: Item> Path<'a, T> {
 
     /// The item of this index in a leaf.
     fn item_of(&self, top: &Place<'a, T>, index: usize) -> &'a T
-        requires path { IsPath T.Sum.empty T.Sum.joined T.summary T.Sum.fits self.now }
-        requires place { IsPlace T.Sum.empty T.Sum.joined T.summary (items_seen self.now.root) top.now }
+        requires path { IsWay T.Item T.Sum.Summary self.now }
+        requires place { IsPlaceIn T.Item T.Sum.Summary (items_seen self.now.root) top.now }
         requires is_leaf { top.now.height ≡ 0 }
         requires around { (top.now.first ≤ index) × (index < top.now.first + top.now.count) }
         ensures item { slice_get (items_seen self.now.root) index ≡ Some result.now }
@@ -346,11 +361,11 @@ impl<'a, T: Item> Path<'a, T> {
 
     /// From a place on down to the item of this index.
     fn down_to(&mut self, top: Place<'a, T>, index: usize, steps: &mut Steps) -> &'a T
-        requires path { IsPath T.Sum.empty T.Sum.joined T.summary T.Sum.fits self.old }
-        requires place { IsPlace T.Sum.empty T.Sum.joined T.summary (items_seen self.old.root) top }
+        requires path { IsWay T.Item T.Sum.Summary self.old }
+        requires place { IsPlaceIn T.Item T.Sum.Summary (items_seen self.old.root) top }
         requires height { top.height + small_vec_len self.old.places ≡ height_seen self.old.root }
         requires around { (top.first ≤ index) × (index < top.first + top.count) }
-        ensures path { IsPath T.Sum.empty T.Sum.joined T.summary T.Sum.fits self.new }
+        ensures path { IsWay T.Item T.Sum.Summary self.new }
         ensures root { self.new.root ≡ self.old.root }
         ensures item { slice_get (items_seen self.old.root) index ≡ Some result.now }
         ensures counted { steps.old ≤ steps.new }
@@ -369,9 +384,9 @@ impl<'a, T: Item> Path<'a, T> {
 
     /// The item of this index, from where the path ends, or else from the root.
     pub fn go_to(&mut self, index: usize, steps: &mut Steps) -> &'a T
-        requires path { IsPath T.Sum.empty T.Sum.joined T.summary T.Sum.fits self.old }
+        requires path { IsWay T.Item T.Sum.Summary self.old }
         requires within { index < length (items_seen self.old.root) }
-        ensures path { IsPath T.Sum.empty T.Sum.joined T.summary T.Sum.fits self.new }
+        ensures path { IsWay T.Item T.Sum.Summary self.new }
         ensures root { self.new.root ≡ self.old.root }
         ensures item { slice_get (items_seen self.old.root) index ≡ Some result.now }
         ensures counted { steps.old ≤ steps.new }
@@ -393,10 +408,11 @@ impl<'a, T: Item> Path<'a, T> {
         aim: &Aim<D>,
         steps: &mut Steps,
     ) -> Option<Found<'a, T, D>>
-        requires path { IsPath T.Sum.empty T.Sum.joined T.summary T.Sum.fits self.old }
-        ensures path { IsPath T.Sum.empty T.Sum.joined T.summary T.Sum.fits self.new }
+        requires path { IsWay T.Item T.Sum.Summary self.old }
+        ensures path { IsWay T.Item T.Sum.Summary self.new }
         ensures root { self.new.root ≡ self.old.root }
-        ensures found { MatchOption result (0 < length (items_seen self.old.root) → is_met D.cmp aim.now (length (items_seen self.old.root)) (measure_to T.Sum.empty T.Sum.joined T.summary D.measure (items_seen self.old.root) (length (items_seen self.old.root))) ≡ false) (λ f. IsFound T.Sum.empty T.Sum.joined T.summary D.measure D.cmp (items_seen self.old.root) aim.now f) }
+        ensures found { FindsItem T.Item T.Sum.Summary D.measure D.cmp (items_seen self.old.root)
+            aim.now (length (items_seen self.old.root)) result }
         ensures counted { steps.old ≤ steps.new }
         ensures steps { steps.new ≤ steps.old + height_seen self.old.root + 1 }
     {

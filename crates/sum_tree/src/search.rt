@@ -1,20 +1,31 @@
-//! Finding the first item that passes a test, in one look at each.
+//! Finding the first item that passes a test, in at most one look at each.
 ghost use Rattle.std.specs.Prelude.{Bool, ◌≡◌, ◌+◌, ◌*◌, ◌^◌, ◌<◌, ◌≤◌, map, length};
 ghost use Rattle.std.specs.List.{position_or_len};
 ghost use Rattle.sum_tree.specs.Bounds.{Searches};
-ghost use Rattle.sum_core.specs.Nodes.{IsChildList, IsLawful, entries_of, child_value, contents, items_of, items_under, width};
+ghost use Rattle.sum_tree.specs.Probes.{MaySkip};
+ghost use Rattle.sum_core.specs.Nodes.{IsChild, IsChildList, IsLawful, entries_of, child_value, contents, items_in, items_of, items_under, width};
 
 use cell_units::Steps;
 use sum_core::{Child, Entries, Item, Node};
 
-/// A test of items.
-pub trait Probe<T> {
+/// A test of items, which tells from the sum of several whether it is worth while to look at each.
+pub trait Probe<T: Item> {
     // whether the item passes
     ghost is_passed: { Self → T → Bool };
+
+    // whether one of the items of this sum may pass
+    ghost may_pass: { Self → T.Sum → Bool };
 
     /// Whether the item passes.
     fn passes(&self, item: &T) -> bool
         ensures { result ≡ is_passed self.now item.now };
+
+    /// Whether one of the items of this sum may pass. Where none may, a search skips them.
+    fn may_pass_in(&self, sum: T::Sum) -> bool
+        ensures { result ≡ may_pass self.now sum };
+
+    // where none may, none does
+    ghost may_skip: { MaySkip T.Sum.empty T.Sum.joined T.summary is_passed may_pass };
 }
 
 /// The number of items before the first that passes, which is all of them where none does.
@@ -37,21 +48,49 @@ fn before_under<T: Item, Q: Probe<T>>(
     probe: &Q,
     steps: &mut Steps,
 ) -> usize
-    requires children { IsChildList T.Sum.empty T.Sum.joined T.summary (IsLawful T.Sum.empty T.Sum.joined T.summary below) 6 (map child_value children.now) }
+    requires children { let lawful = IsLawful T.Sum.empty T.Sum.joined T.summary below in
+        let values = map child_value children.now in
+        IsChildList T.Sum.empty T.Sum.joined T.summary lawful 6 values }
     requires small { length (items_under (map child_value children.now)) < 2 ^ 32 }
-    ensures place { result ≡ position_or_len (Q.is_passed probe.now) (items_under (map child_value children.now)) }
+    ensures place { let items = items_under (map child_value children.now) in
+        result ≡ position_or_len (Q.is_passed probe.now) items }
     ensures counted { steps.old ≤ steps.new }
-    ensures steps { 5 * steps.new + length children.now ≤ 5 * steps.old + length (items_under (map child_value children.now)) }
+    ensures steps { let n = length (items_under (map child_value children.now)) in
+        5 * steps.new + length children.now ≤ 5 * steps.old + n }
 {
     let mut before = 0;
     for child in children {
-        let within = before_below(&child.node, below, probe, steps);
+        let within = before_in(child, below, probe, steps);
         if within < child.count {
             return before + within;
         }
         before += child.count;
     }
     before
+}
+
+/// The same of the items below a child, which isn't opened where its sum tells that none passes.
+#[cycle(search)]
+fn before_in<T: Item, Q: Probe<T>>(
+    child: &Child<T>,
+    below: usize,
+    probe: &Q,
+    steps: &mut Steps,
+) -> usize
+    requires child { let lawful = IsLawful T.Sum.empty T.Sum.joined T.summary below in
+        IsChild T.Sum.empty T.Sum.joined T.summary lawful 6 (child_value child.now) }
+    requires small { length (items_in (child_value child.now).2) < 2 ^ 32 }
+    ensures place { let items = items_in (child_value child.now).2 in
+        result ≡ position_or_len (Q.is_passed probe.now) items }
+    ensures counted { steps.old ≤ steps.new }
+    ensures steps { let n = length (items_in (child_value child.now).2) in
+        5 * steps.new + 1 ≤ 5 * steps.old + n }
+{
+    if probe.may_pass_in(child.sum) {
+        before_below(&child.node, below, probe, steps)
+    } else {
+        child.count
+    }
 }
 
 /// The same of the items below a node.
@@ -67,7 +106,8 @@ pub fn before_below<T: Item, Q: Probe<T>>(
     ensures place { result ≡ position_or_len (Q.is_passed probe.now) (items_of node.now) }
     ensures counted { steps.old ≤ steps.new }
     ensures steps { Searches (length (items_of node.now)) steps.old steps.new }
-    ensures wide { 6 ≤ width (contents (entries_of node.now)) → 5 * steps.new + 1 ≤ 5 * steps.old + length (items_of node.now) }
+    ensures wide { let n = length (items_of node.now) in
+        6 ≤ width (contents (entries_of node.now)) → 5 * steps.new + 1 ≤ 5 * steps.old + n }
 {
     match node.entries(steps) {
         Entries::Leaf(items) => items_before(items, probe),

@@ -1,9 +1,7 @@
 //! Cutting a tree in two.
 ghost use Rattle.std.specs.Prelude.{◌≡◌, ◌+◌, ◌*◌, ◌-◌, ◌^◌, ◌<◌, ◌≤◌, ◌++◌, IfOk, map, length, vec_len, take, drop};
-ghost use Rattle.sum_core.specs.Sums.{total};
-ghost use Rattle.sum_core.specs.Nodes.{IsRoot, IsChildList, IsLawful, entries_of, child_value, items_of, items_under};
-ghost use Rattle.sum_tree.specs.Parts.{IsCut};
-ghost use Rattle.sum_tree.specs.Trees.{IsTree, IsTreeOf};
+ghost use Rattle.sum_core.specs.Nodes.{items_of};
+ghost use Rattle.sum_tree.specs.inside.Nodes.{AreChildren, IsCutNode, IsLawfulRoot, IsLawfulTree, IsTreeHolding, SumFits, items_below};
 
 use crate::find::find_child;
 use crate::open::{copy_inner, copy_leaf};
@@ -30,11 +28,11 @@ pub fn cut_children<T: Item>(
     at: usize,
     steps: &mut Steps,
 ) -> Result<Cut<T>, NoMemory>
-    requires tree { IsRoot T.Sum.empty T.Sum.joined T.summary height (entries_of node.now) }
+    requires tree { IsLawfulRoot T.Item T.Sum.Summary height node.now }
     requires is_inner { 1 ≤ height }
     requires within { at ≤ length (items_of node.now) }
     requires small { length (items_of node.now) < 2 ^ 32 }
-    ensures cut { IfOk result (λ u. IsCut T.Sum.empty T.Sum.joined T.summary height (entries_of node.now) (map child_value u.before.items) (entries_of u.node) (map child_value u.after.items) at u.offset) }
+    ensures cut { IfOk result (λ u. IsCutNode T.Item T.Sum.Summary height node.now at u) }
     ensures counted { steps.old ≤ steps.new }
     ensures steps { steps.new ≤ steps.old + 1 }
 {
@@ -58,13 +56,16 @@ pub fn join_before<T: Item>(
     tree: Tree<T>,
     steps: &mut Steps,
 ) -> Result<Tree<T>, NoMemory>
-    requires children { IsChildList T.Sum.empty T.Sum.joined T.summary (IsLawful T.Sum.empty T.Sum.joined T.summary below) 6 (map child_value children.items) }
+    requires children { AreChildren T.Item T.Sum.Summary below children.items }
     requires room { vec_len children ≤ 12 }
     requires low { below < 2 ^ 32 }
-    requires tree { IsTree T.Sum.empty T.Sum.joined T.summary tree }
-    requires fits { T.Sum.fits (total T.Sum.empty T.Sum.joined T.summary (items_under (map child_value children.items) ++ items_of tree.node)) }
-    requires small { length (items_under (map child_value children.items) ++ items_of tree.node) < 2 ^ 32 }
-    ensures put { IfOk result (λ t. IsTreeOf T.Sum.empty T.Sum.joined T.summary t (items_under (map child_value children.items) ++ items_of tree.node)) }
+    requires tree { IsLawfulTree T.Item T.Sum.Summary tree }
+    requires fits { SumFits T.Item T.Sum.Summary (items_below children.items ++
+        items_of tree.node) }
+    requires small { length (items_below children.items ++ items_of tree.node) < 2 ^ 32 }
+    ensures put { IfOk result
+        (λ t. IsTreeHolding T.Item T.Sum.Summary t
+        (items_below children.items ++ items_of tree.node)) }
     ensures counted { steps.old ≤ steps.new }
     ensures steps { steps.new ≤ steps.old + 39 }
 {
@@ -84,13 +85,16 @@ pub fn join_after<T: Item>(
     below: usize,
     steps: &mut Steps,
 ) -> Result<Tree<T>, NoMemory>
-    requires children { IsChildList T.Sum.empty T.Sum.joined T.summary (IsLawful T.Sum.empty T.Sum.joined T.summary below) 6 (map child_value children.items) }
+    requires children { AreChildren T.Item T.Sum.Summary below children.items }
     requires room { vec_len children ≤ 12 }
     requires low { below < 2 ^ 32 }
-    requires tree { IsTree T.Sum.empty T.Sum.joined T.summary tree }
-    requires fits { T.Sum.fits (total T.Sum.empty T.Sum.joined T.summary (items_of tree.node ++ items_under (map child_value children.items))) }
-    requires small { length (items_of tree.node ++ items_under (map child_value children.items)) < 2 ^ 32 }
-    ensures put { IfOk result (λ t. IsTreeOf T.Sum.empty T.Sum.joined T.summary t (items_of tree.node ++ items_under (map child_value children.items))) }
+    requires tree { IsLawfulTree T.Item T.Sum.Summary tree }
+    requires fits { SumFits T.Item T.Sum.Summary (items_of tree.node ++
+        items_below children.items) }
+    requires small { length (items_of tree.node ++ items_below children.items) < 2 ^ 32 }
+    ensures put { IfOk result
+        (λ t. IsTreeHolding T.Item T.Sum.Summary t
+        (items_of tree.node ++ items_below children.items)) }
     ensures counted { steps.old ≤ steps.new }
     ensures steps { steps.new ≤ steps.old + 39 }
 {
@@ -117,12 +121,14 @@ pub fn split_at<T: Item>(
     at: usize,
     steps: &mut Steps,
 ) -> Result<Halves<T>, NoMemory>
-    requires tree { IsRoot T.Sum.empty T.Sum.joined T.summary height (entries_of node.now) }
+    requires tree { IsLawfulRoot T.Item T.Sum.Summary height node.now }
     requires within { at ≤ length (items_of node.now) }
-    requires fits { T.Sum.fits (total T.Sum.empty T.Sum.joined T.summary (items_of node.now)) }
+    requires fits { SumFits T.Item T.Sum.Summary (items_of node.now) }
     requires small { length (items_of node.now) < 2 ^ 32 }
-    ensures left { IfOk result (λ p. IsTreeOf T.Sum.empty T.Sum.joined T.summary p.left (take at (items_of node.now))) }
-    ensures right { IfOk result (λ p. IsTreeOf T.Sum.empty T.Sum.joined T.summary p.right (drop at (items_of node.now))) }
+    ensures left { IfOk result
+        (λ p. IsTreeHolding T.Item T.Sum.Summary p.left (take at (items_of node.now))) }
+    ensures right { IfOk result
+        (λ p. IsTreeHolding T.Item T.Sum.Summary p.right (drop at (items_of node.now))) }
     ensures counted { steps.old ≤ steps.new }
     ensures steps { steps.new ≤ steps.old + 79 * height + 3 }
 {
@@ -145,11 +151,13 @@ fn split_leaf<T: Item>(
     at: usize,
     steps: &mut Steps,
 ) -> Result<Halves<T>, NoMemory>
-    requires tree { IsRoot T.Sum.empty T.Sum.joined T.summary 0 (entries_of node.now) }
+    requires tree { IsLawfulRoot T.Item T.Sum.Summary 0 node.now }
     requires within { at ≤ length (items_of node.now) }
-    requires fits { T.Sum.fits (total T.Sum.empty T.Sum.joined T.summary (items_of node.now)) }
-    ensures left { IfOk result (λ p. IsTreeOf T.Sum.empty T.Sum.joined T.summary p.left (take at (items_of node.now))) }
-    ensures right { IfOk result (λ p. IsTreeOf T.Sum.empty T.Sum.joined T.summary p.right (drop at (items_of node.now))) }
+    requires fits { SumFits T.Item T.Sum.Summary (items_of node.now) }
+    ensures left { IfOk result
+        (λ p. IsTreeHolding T.Item T.Sum.Summary p.left (take at (items_of node.now))) }
+    ensures right { IfOk result
+        (λ p. IsTreeHolding T.Item T.Sum.Summary p.right (drop at (items_of node.now))) }
     ensures counted { steps.old ≤ steps.new }
     ensures steps { steps.new ≤ steps.old + 3 }
 {

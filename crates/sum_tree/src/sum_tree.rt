@@ -1,16 +1,16 @@
 //! The tree as a list of items.
 ghost use Rattle.std.specs.Prelude.{ℕ, ◌≡◌, ◌+◌, ◌*◌, ◌^◌, ◌<◌, ◌≤◌, ◌++◌, ◌∷◌, [], IfOk, OnOk, OnErr, MatchResult, length, vec_len, take, drop, slice_get};
-ghost use Rattle.std.specs.List.{position};
+ghost use Rattle.std.specs.List.{position, splice};
 ghost use Rattle.std.specs.Option.{option_copied};
 ghost use Rattle.sum_core.specs.Sums.{total};
 ghost use Rattle.sum_tree.specs.Bounds.{ChangesAtMost, Searches, TakesAtMost, building, cutting, joining, pushing, replacing, way};
-ghost use Rattle.sum_tree.specs.Parts.{put};
-ghost use Rattle.sum_tree.specs.Paths.{IsPath, items_seen};
+ghost use Rattle.sum_tree.specs.inside.Paths.{items_seen};
+ghost use Rattle.sum_tree.specs.inside.Ways.{IsWay};
 
 use crate::cursor::Cursor;
 use crate::find::item_at;
-use crate::in_place::put_in_tree;
-use crate::pack::make_leaf;
+use crate::in_place::{Span, put_in_tree};
+use crate::pack::{MOST, make_leaf};
 use crate::path::Path;
 use crate::search::{Probe, before_below};
 use crate::splits::split_at;
@@ -33,7 +33,7 @@ pub struct SumTree<T: Item> {
 
 impl<T: Item> Model for SumTree<T> {
     ghost use Rattle.std.specs.Prelude.{List};
-    ghost use Rattle.sum_tree.specs.Trees.{items_held, IsHeld};
+    ghost use Rattle.sum_tree.specs.inside.Trees.{items_held, IsHeld};
 
     ghost Value = { List T };
 
@@ -102,8 +102,8 @@ impl<T: Item> SumTree<T> {
         }
     }
 
-    /// The place of the first item that passes, and `None` exactly where none does. Each node is opened at most once, and
-    /// there are fewer nodes than items but for a lone root.
+    /// The place of the first item that passes, and `None` exactly where none does. A node is opened only where the probe
+    /// says of its sum that an item may pass, and at most once; there are fewer nodes than items but for a lone root.
     pub fn position<Q: Probe<T>>(&self, probe: &Q, steps: &mut Steps) -> Option<u32>
         ensures place { result ≡ position (Q.is_passed probe.now) self.now }
         ensures counted { steps.old ≤ steps.new }
@@ -112,6 +112,9 @@ impl<T: Item> SumTree<T> {
         match &self.tree {
             None => None,
             Some(tree) => {
+                if !probe.may_pass_in(tree.sum) {
+                    return None;
+                }
                 let before = before_below(&tree.node, tree.height, probe, steps);
                 if before < tree.count {
                     Some(before as u32)
@@ -154,15 +157,14 @@ impl<T: Item> SumTree<T> {
         }
     }
 
-    /// A list of one item.
-    fn single(alloc: Global, item: T, steps: &mut Steps) -> Result<SumTree<T>, NoMemory>
-        requires { T.Sum.fits (total T.Sum.empty T.Sum.joined T.summary (item ∷ [])) }
-        ensures ok { IfOk result (λ t. t ≡ item ∷ []) }
+    /// A list of at most 12 items, in one leaf.
+    fn in_one_leaf(alloc: Global, items: Vec<T>, steps: &mut Steps) -> Result<SumTree<T>, NoMemory>
+        requires room { vec_len items ≤ 12 }
+        requires fits { T.Sum.fits (total T.Sum.empty T.Sum.joined T.summary items.items) }
+        ensures ok { IfOk result (λ t. t ≡ items.items) }
         ensures counted { steps.old ≤ steps.new }
         ensures steps { steps.new ≤ steps.old + 1 }
     {
-        let mut items = Vec::new(alloc);
-        items.push(item)?;
         let leaf = make_leaf(alloc, items, steps)?;
         Ok(SumTree {
             alloc,
@@ -172,19 +174,22 @@ impl<T: Item> SumTree<T> {
 
     /// Adds an item at the end: in place where the last leaf has room, and else by a join.
     pub fn push(&mut self, alloc: Global, item: T, steps: &mut Steps) -> Result<(), NoMemory>
-        requires fits { T.Sum.fits (total T.Sum.empty T.Sum.joined T.summary (self.old ++ item ∷ [])) }
+        requires fits { T.Sum.fits
+            (total T.Sum.empty T.Sum.joined T.summary (self.old ++ item ∷ [])) }
         requires small { length (self.old ++ item ∷ []) < 2 ^ 32 }
         ensures ok { OnOk result (self.new ≡ self.old ++ item ∷ []) }
         ensures err { OnErr result (self.new ≡ self.old) }
         ensures counted { steps.old ≤ steps.new }
         ensures steps { steps.new ≤ steps.old + pushing }
     {
+        let mut items = Vec::new(alloc);
+        items.push(item)?;
         let end = self.len();
-        match self.put_in_place(alloc, end, end, item, steps) {
+        match self.put_in_place(alloc, end, end, items, steps) {
             Ok(()) => Ok(()),
-            Err(item) => {
-                let single = SumTree::single(alloc, item, steps)?;
-                self.concat(alloc, single, steps)
+            Err(items) => {
+                let last = SumTree::in_one_leaf(alloc, items, steps)?;
+                self.concat(alloc, last, steps)
             }
         }
     }
@@ -254,51 +259,58 @@ impl<T: Item> SumTree<T> {
     ) -> Result<(), NoMemory>
         requires order { from ≤ to }
         requires within { to ≤ length self.old }
-        requires fits { T.Sum.fits (total T.Sum.empty T.Sum.joined T.summary (take from self.old ++ items.items ++ drop to self.old)) }
+        requires fits { T.Sum.fits
+            (total T.Sum.empty T.Sum.joined T.summary
+            (take from self.old ++ items.items ++ drop to self.old)) }
         requires small { length (take from self.old ++ items.items ++ drop to self.old) < 2 ^ 32 }
-        ensures ok { OnOk result (self.new ≡ take from self.old ++ items.items ++ drop to self.old) }
+        ensures ok { OnOk result
+            (self.new ≡ take from self.old ++ items.items ++ drop to self.old) }
         ensures err { OnErr result (self.new ≡ self.old) }
         ensures counted { steps.old ≤ steps.new }
-        ensures steps { ChangesAtMost (replacing (length items.items)) (length self.old) (length (take from self.old ++ items.items ++ drop to self.old)) steps.old steps.new }
+        ensures steps { ChangesAtMost (replacing (length items.items)) (length self.old)
+            (length (take from self.old ++ items.items ++ drop to self.old)) steps.old steps.new }
     {
-        let mut items = items;
-        if to - from > 1 || items.len() != 1 {
-            let middle = SumTree::from_vec(alloc, items, steps)?;
-            return self.splice(alloc, from, to, middle, steps);
-        }
-        let item = items.remove(0);
-        match self.put_in_place(alloc, from, to, item, steps) {
+        match self.put_in_place(alloc, from, to, items, steps) {
             Ok(()) => Ok(()),
-            Err(item) => {
-                let middle = SumTree::single(alloc, item, steps)?;
+            Err(items) => {
+                let middle = SumTree::from_vec(alloc, items, steps)?;
                 self.splice(alloc, from, to, middle, steps)
             }
         }
     }
 
-    /// Puts `item` in the place of the items from `from` to `to`, of which there is at most one, on the nodes that lead
-    /// there. `Err` hands the item back: its leaf has no room, or there is no memory, and the list is as it was.
+    /// The same on the nodes that lead there alone. `Err` hands the items back: no leaf holds the range and has room for
+    /// them, or there is no memory, and the list is as it was.
     fn put_in_place(
         &mut self,
         alloc: Global,
         from: u32,
         to: u32,
-        item: T,
+        items: Vec<T>,
         steps: &mut Steps,
-    ) -> Result<(), T>
+    ) -> Result<(), Vec<T>>
         requires order { from ≤ to }
-        requires one { to ≤ from + 1 }
         requires within { to ≤ length self.old }
-        requires fits { T.Sum.fits (total T.Sum.empty T.Sum.joined T.summary (put from to item self.old)) }
-        requires small { length (put from to item self.old) < 2 ^ 32 }
-        ensures put { MatchResult result (λ _. self.new ≡ put from to item self.old) (λ i. (self.new ≡ self.old) × (i ≡ item)) }
+        requires fits { T.Sum.fits
+            (total T.Sum.empty T.Sum.joined T.summary (splice self.old from to items.items)) }
+        requires small { length (splice self.old from to items.items) < 2 ^ 32 }
+        ensures put { MatchResult result (λ _. self.new ≡ splice self.old from to items.items)
+            (λ back. (self.new ≡ self.old) × (back ≡ items)) }
         ensures counted { steps.old ≤ steps.new }
-        ensures steps { steps.new ≤ steps.old + 12 }
+        ensures few { steps.new ≤ steps.old + 12 }
+        ensures steps { TakesAtMost way (length self.old) steps.old steps.new }
     {
+        if items.len() > MOST {
+            return Err(items);
+        }
         let Some(mut tree) = self.tree.take() else {
-            return Err(item);
+            return Err(items);
         };
-        let put = put_in_tree(alloc, &mut tree, from as usize, to as usize, item, steps);
+        let span = Span {
+            from: from as usize,
+            to: to as usize,
+        };
+        let put = put_in_tree(alloc, &mut tree, span, items, steps);
         self.tree = Some(tree);
         put
     }
@@ -314,12 +326,15 @@ impl<T: Item> SumTree<T> {
     ) -> Result<(), NoMemory>
         requires order { from ≤ to }
         requires within { to ≤ length self.old }
-        requires fits { T.Sum.fits (total T.Sum.empty T.Sum.joined T.summary (take from self.old ++ middle ++ drop to self.old)) }
+        requires fits { T.Sum.fits
+            (total T.Sum.empty T.Sum.joined T.summary
+            (take from self.old ++ middle ++ drop to self.old)) }
         requires small { length (take from self.old ++ middle ++ drop to self.old) < 2 ^ 32 }
         ensures ok { OnOk result (self.new ≡ take from self.old ++ middle ++ drop to self.old) }
         ensures err { OnErr result (self.new ≡ self.old) }
         ensures counted { steps.old ≤ steps.new }
-        ensures steps { (h : ℕ) → length self.old < 2 * 6 ^ (h + 1) → steps.new ≤ steps.old + 158 * h + 82 }
+        ensures steps { (h : ℕ) → length self.old < 2 * 6 ^ (h + 1) →
+            steps.new ≤ steps.old + 158 * h + 82 }
     {
         let mut front = self.share()?;
         let mut back = front.split_off(alloc, from, steps)?;
@@ -332,7 +347,7 @@ impl<T: Item> SumTree<T> {
 
     /// A path with no node on it.
     pub(crate) fn path(&self) -> Path<'_, T>
-        ensures path { IsPath T.Sum.empty T.Sum.joined T.summary T.Sum.fits result }
+        ensures path { IsWay T.Item T.Sum.Summary result }
         ensures items { items_seen result.root ≡ self.now }
     {
         let root = match &self.tree {

@@ -1,9 +1,8 @@
 //! Whole trees: made of pieces, joined, and built from a list.
 ghost use Rattle.std.specs.Prelude.{◌≡◌, ◌+◌, ◌*◌, ◌^◌, ◌<◌, ◌≤◌, ◌++◌, IfOk, map, length, vec_len, min, max};
-ghost use Rattle.sum_core.specs.Sums.{total};
-ghost use Rattle.sum_core.specs.Nodes.{child_value, entries_of, items_of, items_under};
-ghost use Rattle.sum_tree.specs.Parts.{IsRaisable};
-ghost use Rattle.sum_tree.specs.Trees.{IsSameTree, IsTree, IsTreeOf};
+ghost use Rattle.sum_core.specs.Nodes.{child_value, entries_of, items_of};
+ghost use Rattle.sum_tree.specs.inside.Trees.{IsSameTree};
+ghost use Rattle.sum_tree.specs.inside.Nodes.{AreRaisable, IsLawfulTree, IsTreeHolding, SumFits, items_below};
 
 use crate::joins::meld;
 use crate::pack::{make_inner, pack_items};
@@ -54,11 +53,12 @@ pub fn raise<T: Item>(
     height: usize,
     steps: &mut Steps,
 ) -> Result<Tree<T>, NoMemory>
-    requires pieces { IsRaisable T.Sum.empty T.Sum.joined T.summary height (map child_value pieces.items) }
+    requires pieces { AreRaisable T.Item T.Sum.Summary height pieces.items }
     requires low { height < 2 ^ 32 }
-    requires fits { T.Sum.fits (total T.Sum.empty T.Sum.joined T.summary (items_under (map child_value pieces.items))) }
-    requires small { length (items_under (map child_value pieces.items)) < 2 ^ 32 }
-    ensures raised { IfOk result (λ t. IsTreeOf T.Sum.empty T.Sum.joined T.summary t (items_under (map child_value pieces.items))) }
+    requires fits { SumFits T.Item T.Sum.Summary (items_below pieces.items) }
+    requires small { length (items_below pieces.items) < 2 ^ 32 }
+    ensures raised { IfOk result
+        (λ t. IsTreeHolding T.Item T.Sum.Summary t (items_below pieces.items)) }
     ensures height { IfOk result (λ t. (height ≤ t.height) × (t.height ≤ height + 1)) }
     ensures counted { steps.old ≤ steps.new }
     ensures steps { steps.new ≤ steps.old + 1 }
@@ -80,13 +80,19 @@ pub fn join<T: Item>(
     right: &Tree<T>,
     steps: &mut Steps,
 ) -> Result<Tree<T>, NoMemory>
-    requires left { IsTree T.Sum.empty T.Sum.joined T.summary left.now }
-    requires right { IsTree T.Sum.empty T.Sum.joined T.summary right.now }
-    requires fits { T.Sum.fits (total T.Sum.empty T.Sum.joined T.summary (items_of left.now.node ++ items_of right.now.node)) }
+    requires left { IsLawfulTree T.Item T.Sum.Summary left.now }
+    requires right { IsLawfulTree T.Item T.Sum.Summary right.now }
+    requires fits { SumFits T.Item T.Sum.Summary (items_of left.now.node ++
+        items_of right.now.node) }
     requires small { length (items_of left.now.node ++ items_of right.now.node) < 2 ^ 32 }
-    ensures joined { IfOk result (λ t. IsTreeOf T.Sum.empty T.Sum.joined T.summary t (items_of left.now.node ++ items_of right.now.node)) }
-    ensures height { IfOk result (λ t. (max left.now.height right.now.height ≤ t.height) × (t.height ≤ max left.now.height right.now.height + 1)) }
-    ensures climb { steps.new + 3 * min left.now.height right.now.height ≤ steps.old + 3 * max left.now.height right.now.height + 5 }
+    ensures joined { IfOk result
+        (λ t. IsTreeHolding T.Item T.Sum.Summary t
+        (items_of left.now.node ++ items_of right.now.node)) }
+    ensures height { IfOk result
+        (λ t. (max left.now.height right.now.height ≤ t.height) ×
+        (t.height ≤ max left.now.height right.now.height + 1)) }
+    ensures climb { steps.new + 3 * min left.now.height right.now.height ≤ steps.old +
+        3 * max left.now.height right.now.height + 5 }
     ensures counted { steps.old ≤ steps.new }
     ensures steps { steps.new ≤ steps.old + 38 }
 {
@@ -109,9 +115,9 @@ pub fn build_last<T: Item>(
     steps: &mut Steps,
 ) -> Result<Tree<T>, NoMemory>
     requires within { count ≤ vec_len items.old }
-    requires fits { T.Sum.fits (total T.Sum.empty T.Sum.joined T.summary items.old.items) }
+    requires fits { SumFits T.Item T.Sum.Summary items.old.items }
     requires small { vec_len items.old < 2 ^ 32 }
-    ensures tree { IfOk result (λ t. IsTree T.Sum.empty T.Sum.joined T.summary t) }
+    ensures tree { IfOk result (λ t. IsLawfulTree T.Item T.Sum.Summary t) }
     ensures items { IfOk result (λ t. items.old.items ≡ items.new.items ++ items_of t.node) }
     ensures count { IfOk result (λ t. length (items_of t.node) ≡ count) }
     ensures counted { steps.old ≤ steps.new }

@@ -1,12 +1,12 @@
 //! How a range of a text is replaced: by making anew the one chunk in which it lies, where that chunk stays neither short
 //! nor too long, and else the chunks that it meets, with a neighbour on each side.
-ghost use Rattle.std.specs.Prelude.{◌≡◌, ◌+◌, ◌*◌, ◌≤◌, ◌<◌, ◌++◌, ◌^◌, ◌↔◌, [], ◌⊎◌, ℕ, length, slice_index_or, string_bytes, IfOk, IfErr, IfNone, IfSome, IsTrue};
+ghost use Rattle.std.specs.Prelude.{◌≡◌, ◌+◌, ◌*◌, ◌≤◌, ◌<◌, ◌++◌, ◌^◌, ◌↔◌, [], ℕ, length, slice_index_or, string_bytes, IfOk, IfErr, IfNone, IfSome, IsTrue};
 ghost use Rattle.std.specs.List.{concat};
 ghost use Rattle.cell_units.specs.Text.{IsBoundary};
 ghost use Rattle.edit_patch.specs.Fits.{replacement};
 ghost use Rattle.sum_tree.specs.Bounds.{way};
 ghost use Rattle.text_rope.specs.Bounds.{TakesOnText, ways};
-ghost use Rattle.text_rope.specs.Chunks.{IsChunk};
+ghost use Rattle.text_rope.specs.Chunks.{IsChunk, IsNoChunk};
 ghost use Rattle.text_rope.specs.Edits.{IsNeighbourBefore, IsNeighbourBehind, IsPartBefore, IsPartBehind, IsRange, IsRenewed};
 ghost use Rattle.text_rope.specs.Finds.{IsBefore};
 ghost use Rattle.text_rope.specs.Ropes.{IsRope};
@@ -142,7 +142,8 @@ fn joined_chunk(
     ensures whole { IfOk result (λ o. IfSome o (λ c. c ≡ front.now ++ text.now ++ back.now)) }
     ensures chunk { IfOk result (λ o. IfSome o (λ c. IsChunk c)) }
     ensures least { IfOk result (λ o. IfSome o (λ c. least ≤ length c)) }
-    ensures none { IfOk result (λ o. IfNone o ((length (front.now ++ text.now ++ back.now) < least) ⊎ (CHUNK_BYTES < length (front.now ++ text.now ++ back.now)))) }
+    ensures none { IfOk result (λ o.
+        IfNone o (IsNoChunk least (front.now ++ text.now ++ back.now))) }
 {
     let kept = front.len() + back.len();
     if text.len() > CHUNK_BYTES - kept || kept + text.len() < least {

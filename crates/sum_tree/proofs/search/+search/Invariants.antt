@@ -4,10 +4,13 @@ use Rattle.sum_core.specs.Nodes.{items_under, child_value}
 use Rattle.sum_tree.proofs.search.+search.Given as goal
 
 abbrev pub decreases-before_below : goal.decreases-before_below
-decreases-before_below g l = 2 * l.height + 1
+decreases-before_below g l = 3 * l.height
+
+abbrev pub decreases-before_in : goal.decreases-before_in
+decreases-before_in g l = 3 * l.below + 1
 
 abbrev pub decreases-before_under : goal.decreases-before_under
-decreases-before_under g l = 2 * l.below + 2
+decreases-before_under g l = 3 * l.below + 2
 
 abbrev pub invariant-before_under-loop-child : goal.invariant-before_under-loop-child
 invariant-before_under-loop-child g l =

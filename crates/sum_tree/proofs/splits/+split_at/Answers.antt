@@ -2,7 +2,7 @@ use Rattle.std.proofs.Common.{◌≡◌, ◌-◌, ◌∙◌, ◌++◌, ap, sym, 
 use Rattle.std.proofs.lemmas.List.{take-append-drop}
 use Rattle.sum_core.specs.Sums.{total}
 use Rattle.sum_core.specs.Nodes.{entries_of, child_value, items_under, items_of}
-use Rattle.sum_tree.specs.Trees.{IsTreeOf}
+use Rattle.sum_tree.specs.inside.Trees.{IsTreeOf}
 use Rattle.sum_core.proofs.Children.{cut-middle, fits-left, fits-right}
 use Rattle.sum_tree.proofs.Melds.{tree-below, small-left, small-right}
 use Rattle.sum_core.proofs.Heights.{low-root}

@@ -1,7 +1,7 @@
 use Rattle.std.proofs.Common.{sym, subst, arith, map, refl}
 use Rattle.sum_tree.proofs.Melds.{small-left, small-right}
 use Rattle.sum_core.specs.Nodes.{child_value, entries_of, items_of}
-use Rattle.sum_tree.specs.Parts.{IsRaisable}
+use Rattle.sum_tree.specs.inside.Parts.{IsRaisable}
 use Rattle.sum_tree.proofs.Raises.{raisable}
 use Rattle.sum_core.proofs.Heights.{low-root}
 use Rattle.sum_tree.proofs.trees.join.Goals as goal

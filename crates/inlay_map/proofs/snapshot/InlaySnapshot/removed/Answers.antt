@@ -1,16 +1,13 @@
 use Rattle.std.proofs.Common.{◌≡◌, ◌<◌, ◌≤◌, ◌+◌, ◌*◌, ◌^◌, ◌∙◌, ℕ, List, ap, sym, subst, length, length-append, length-drop, take, drop, arith}
 use Rattle.std.specs.List.{slice_get}
-use Rattle.std.specs.Option.{IfSome}
 use Rattle.std.proofs.lemmas.List.{length-take}
 use Rattle.cell_units.specs.Layers.{Source}
-use Rattle.cell_units.specs.Record.{Inlay}
 use Rattle.text_rope.specs.Ropes.{HasHeight}
-use Rattle.inlay_map.specs.Bounds.{SearchesOnce, putting}
+use Rattle.inlay_map.specs.Bounds.{TakesInlaid, putting}
 use Rattle.sum_core.specs.declared.load.NoLoad.{NoLoad}
 use Rattle.splice_tree.specs.Splices.{Piece, with_first_gap}
 use Rattle.inlay_map.specs.declared.amount.Amount.{Amount}
-use Rattle.inlay_map.specs.Splices.{splices_from}
-use Rattle.inlay_map.proofs.MovedInlays.{offset-of}
+use Rattle.inlay_map.specs.Splices.{splices_from, without_at}
 use Rattle.inlay_map.proofs.SpliceLists.{length-splices, run-front, run-rest, taken-front, taken-rest}
 use Rattle.inlay_map.proofs.snapshot.InlaySnapshot.removed.Goals as goal
 use Rattle.inlay_map.proofs.snapshot.InlaySnapshot.removed.Goals.{After-respliced}
@@ -21,79 +18,76 @@ respliced-requires-clause-within c =
     omega (
       arith,
       c.new.ensures.end,
-      c.in_ok-at.ensures.taken.within,
-      ap (λ (v : Source). length v.inlays) c.in_ok-inlaid.ensures,
+      c.requires,
+      ap (λ (v : Source). length v.inlays) c.self.view_is,
       length-splices s.text 0 s.inlays,
       ap (λ (l : List (Piece Amount NoLoad)). length l) c.self.invariant,
     )
 
 pub respliced-requires-clause-reaches : goal.respliced-requires-clause-reaches
 respliced-requires-clause-reaches c =
-    let at = c.in_ok-at.at in
+    let at = c.args.at in
     let is = c.in_ok-inlaid.inlaid.inlays in
+    let within : at < length is = subst (λ (s : Source). c.args.at < length s.inlays) (sym (c.in_ok-inlaid.ensures ∙ c.self.view_is)) c.requires in
     omega (
       arith,
       c.new.ensures.start,
       c.new.ensures.count,
-      c.in_ok-at.ensures.taken.within,
-      ap (λ (l : List Inlay). length l) c.in_ok-at.ensures.taken.place,
+      within,
+      ap (λ (v : Source). length v.inlays) c.in_ok-offset.ensures.ok,
       length-append (take at is) (drop (at + 1) is),
       length-take at is,
     )
 
 pub respliced-requires-clause-front : goal.respliced-requires-clause-front
 respliced-requires-clause-front c =
-    let at = c.in_ok-at.at in
+    let at = c.args.at in
     let s = c.in_ok-inlaid.inlaid in
     let new = c.take.new.self in
-    let le : at ≤ length s.inlays = omega (arith, c.in_ok-at.ensures.taken.within) in
-    let text : s.text ≡ new.text = sym (ap (λ (v : Source). v.text) c.in_ok-at.ensures.ok) in
+    let within : at < length s.inlays = subst (λ (s : Source). c.args.at < length s.inlays) (sym (c.in_ok-inlaid.ensures ∙ c.self.view_is)) c.requires in
+    let le : at ≤ length s.inlays = omega (arith, within) in
+    let place : new.inlays ≡ without_at at s.inlays = ap (λ (v : Source). v.inlays) c.in_ok-offset.ensures.ok in
+    let text : s.text ≡ new.text = sym (ap (λ (v : Source). v.text) c.in_ok-offset.ensures.ok) in
     ap (λ k. take k c.self.inside.splices) c.new.ensures.start
     ∙ ap (take at) (c.self.invariant ∙ ap (λ (v : Source). splices_from v.text 0 v.inlays) (sym c.in_ok-inlaid.ensures))
-    ∙ run-front s.text s.inlays new.inlays at (taken-front s.inlays new.inlays at le c.in_ok-at.ensures.taken.place)
+    ∙ run-front s.text s.inlays new.inlays at (taken-front s.inlays new.inlays at le place)
     ∙ (λ i. take (sym c.new.ensures.start i) (splices_from (text i) 0 new.inlays))
 
 pub respliced-requires-clause-rest : goal.respliced-requires-clause-rest
 respliced-requires-clause-rest c gap =
-    let at = c.in_ok-at.at in
+    let at = c.args.at in
     let s = c.in_ok-inlaid.inlaid in
     let new = c.take.new.self in
-    let le : at ≤ length s.inlays = omega (arith, c.in_ok-at.ensures.taken.within) in
-    let text : s.text ≡ new.text = sym (ap (λ (v : Source). v.text) c.in_ok-at.ensures.ok) in
+    let within : at < length s.inlays = subst (λ (s : Source). c.args.at < length s.inlays) (sym (c.in_ok-inlaid.ensures ∙ c.self.view_is)) c.requires in
+    let le : at ≤ length s.inlays = omega (arith, within) in
+    let place : new.inlays ≡ without_at at s.inlays = ap (λ (v : Source). v.inlays) c.in_ok-offset.ensures.ok in
+    let text : s.text ≡ new.text = sym (ap (λ (v : Source). v.text) c.in_ok-offset.ensures.ok) in
     let size : at ≡ c.new.result.start + c.new.result.count = omega (arith, c.new.ensures.start, c.new.ensures.count) in
     ap (λ k. with_first_gap gap (drop k c.self.inside.splices)) c.new.ensures.end
     ∙ ap (λ l. with_first_gap gap (drop (at + 1) l)) (c.self.invariant ∙ ap (λ (v : Source). splices_from v.text 0 v.inlays) (sym c.in_ok-inlaid.ensures))
-    ∙ run-rest s.text s.inlays new.inlays (at + 1) at gap (taken-rest s.inlays new.inlays at le c.in_ok-at.ensures.taken.place)
+    ∙ run-rest s.text s.inlays new.inlays (at + 1) at gap (taken-rest s.inlays new.inlays at le place)
     ∙ (λ i. with_first_gap gap (drop (size i) (splices_from (text i) 0 new.inlays)))
 
--- no two inlays have one id
 pub returns-clause-offset : goal.returns-clause-offset
-returns-clause-offset c i has same =
-    let v = c.args.self.now in
-    let at = c.in_ok-at.at in
-    let offset = c.in_ok-at.offset in
-    let is : c.in_ok-inlaid.inlaid ≡ v = c.in_ok-inlaid.ensures ∙ c.self.view_is in
-    offset-of c.args.id v.inlays at offset (c.text_len-len.ensures.lawful.inlays.distinct c.args.id)
-    (subst (λ (s : Source). at < length s.inlays) is c.in_ok-at.ensures.taken.within)
-    (subst (λ (s : Source). IfSome (slice_get s.inlays at) (λ j. (j.id ≡ c.args.id) × (j.offset ≡ offset))) is c.in_ok-at.ensures.taken.found)
-    i has same
+returns-clause-offset c i is =
+    c.in_ok-offset.ensures.offset i (ap (λ (s : Source). slice_get s.inlays c.args.at) (c.in_ok-inlaid.ensures ∙ c.self.view_is) ∙ is)
 
 -- ---- steps
 
-pub returns-in_err-at-clause-steps : goal.returns-in_err-at-clause-steps
-returns-in_err-at-clause-steps c h high =
+pub returns-in_err-offset-clause-steps : goal.returns-in_err-offset-clause-steps
+returns-in_err-offset-clause-steps c h high =
     let same : length c.in_ok-inlaid.inlaid.inlays ≡ length c.args.self.now.inlays = ap (λ (s : Source). length s.inlays) (c.in_ok-inlaid.ensures ∙ c.self.view_is) in
     omega (arith, c.take.ensures.steps h (omega (arith, high.1, same)), same)
 
-whole : (c : After-respliced) → SearchesOnce putting c.args.self.now.text (length c.args.self.now.inlays) c.args.steps.now c.respliced.new.steps
+whole : (c : After-respliced) → TakesInlaid putting c.args.self.now c.args.steps.now c.respliced.new.steps
 whole c h high =
     let was = c.in_ok-inlaid.ensures ∙ c.self.view_is in
-    let at = c.in_ok-at.at in
+    let at = c.args.at in
     let is = c.in_ok-inlaid.inlaid.inlays in
     let same : length is ≡ length c.args.self.now.inlays = ap (λ (s : Source). length s.inlays) was in
     let less : length c.take.new.self.inlays ≤ length c.args.self.now.inlays =
-    omega (arith, same, c.in_ok-at.ensures.taken.within, ap (λ (l : List Inlay). length l) c.in_ok-at.ensures.taken.place, length-append (take at is) (drop (at + 1) is), length-take at is, length-drop (at + 1) is) in
-    let text : c.take.new.self.text ≡ c.args.self.now.text = ap (λ (s : Source). s.text) c.in_ok-at.ensures.ok ∙ ap (λ (s : Source). s.text) was in
+    omega (arith, same, c.requires, ap (λ (v : Source). length v.inlays) c.in_ok-offset.ensures.ok, length-append (take at is) (drop (at + 1) is), length-take at is, length-drop (at + 1) is) in
+    let text : c.take.new.self.text ≡ c.args.self.now.text = ap (λ (s : Source). s.text) c.in_ok-offset.ensures.ok ∙ ap (λ (s : Source). s.text) was in
     let few : length c.self.inside.splices < 2 * 6 ^ (h + 1) =
     omega (
       arith,

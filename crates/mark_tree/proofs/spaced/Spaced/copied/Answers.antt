@@ -1,4 +1,4 @@
-use Rattle.std.proofs.Common.{◌+◌, ◌-◌, ◌*◌, ◌++◌, ◌∷◌, [], ◌∙◌, ap, sym, arith}
+use Rattle.std.proofs.Common.{◌+◌, ◌-◌, ◌++◌, ◌∷◌, [], ◌∙◌, ap, sym, arith}
 use Rattle.mark_tree.proofs.Finding.{copied-more, steps-more}
 use Rattle.mark_tree.proofs.spaced.Spaced.copied.Goals as goal
 

@@ -1,19 +1,10 @@
-use Rattle.std.proofs.Common.{◌≡◌, ◌≤◌, ◌∙◌, false, ap, sym, subst, length, arith, position}
-use Rattle.std.specs.List.{list_any}
+use Rattle.std.proofs.Common.{◌≡◌, ◌∙◌, ap, sym, length, arith, position}
 use Rattle.std.specs.Option.{is_some}
-use Rattle.mark_tree.specs.Entries.{extent_over, placed_from}
+use Rattle.mark_tree.specs.Entries.{placed_from}
 use Rattle.mark_tree.specs.Order.{has_placed_id}
-use Rattle.mark_tree.proofs.Coding.{id-absent, length-placed, position-placed}
-use Rattle.mark_tree.proofs.Finding.{position-absent, position-any}
+use Rattle.mark_tree.proofs.Coding.{length-placed, position-placed}
+use Rattle.mark_tree.proofs.Finding.{position-any}
 use Rattle.mark_tree.proofs.spaced.Spaced.find_id.Goals as goal
-
-pub returns-then-id-sum-clause-any : goal.returns-then-id-sum-clause-any
-returns-then-id-sum-clause-any g c =
-    let above : (extent_over c.self.inside.entries).ids ≤ c.args.id = omega (arith, ap (λ s. s.ids) c.sum.ensures, c.if-id-sum.true) in
-    sym (subst (λ ps. list_any (has_placed_id c.args.id) ps ≡ false) c.self.view_is (id-absent c.args.id 0 c.self.inside.entries above))
-
-pub returns-then-id-sum-clause-found : goal.returns-then-id-sum-clause-found
-returns-then-id-sum-clause-found g c = position-absent (has_placed_id c.args.id) c.args.self.now (sym (returns-then-id-sum-clause-any g c))
 
 pub returns-clause-found : goal.returns-clause-found
 returns-clause-found g c =

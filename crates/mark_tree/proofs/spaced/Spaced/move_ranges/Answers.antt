@@ -114,7 +114,7 @@ returns-clause-steps g c h few =
     let same = length-same s first last old places c.move_before.new.self before in
     let all = whole s first last old places c.move_before.new.self before in
     let copy : length c.in_ok-moved.moved < 2 * 6 ^ (h + 1) = omega (arith, few, ap length c.in_ok-moved.ensures) in
-    let rounds = subst (λ l. c.move_before.new.steps ≤ c.first_at-last.new.steps + 250 * (h + 1) * count_by (meets_extent s) (take first l) + 81 * (h + 1)) c.in_ok-moved.ensures (c.in_ok-move_before.ensures.steps h copy) in
+    let rounds = subst (λ l. c.move_before.new.steps ≤ c.first_at-last.new.steps + (250 * (h + 1) * count_by (meets_extent s) (take first l) + 81 * (h + 1))) c.in_ok-moved.ensures (c.in_ok-move_before.ensures.steps h copy) in
     whole-steps h (count_by (meets_extent s) (take first old)) (last - first) (count_by (meets_extent s) old) c.args.steps.now c.first_at-first.new.steps c.first_at-last.new.steps c.move_before.new.steps c.move_run.new.steps (met-parts s first last old places)
     (c.first_at-first.ensures.steps h few) (c.first_at-last.ensures.steps h few) rounds (c.in_ok-dropped.ensures.steps h (omega (arith, few, same)) (omega (arith, few, ap length all, length-moved s old)))
 
@@ -129,6 +129,18 @@ returns-in_err-dropped-clause-steps g c h few =
     let same = length-same s first last old places c.move_before.new.self before in
     let all = whole s first last old places c.move_before.new.self before in
     let copy : length c.in_ok-moved.moved < 2 * 6 ^ (h + 1) = omega (arith, few, ap length c.in_ok-moved.ensures) in
-    let rounds = subst (λ l. c.move_before.new.steps ≤ c.first_at-last.new.steps + 250 * (h + 1) * count_by (meets_extent s) (take first l) + 81 * (h + 1)) c.in_ok-moved.ensures (c.in_ok-move_before.ensures.steps h copy) in
+    let rounds = subst (λ l. c.move_before.new.steps ≤ c.first_at-last.new.steps + (250 * (h + 1) * count_by (meets_extent s) (take first l) + 81 * (h + 1))) c.in_ok-moved.ensures (c.in_ok-move_before.ensures.steps h copy) in
     whole-steps h (count_by (meets_extent s) (take first old)) (last - first) (count_by (meets_extent s) old) c.args.steps.now c.first_at-first.new.steps c.first_at-last.new.steps c.move_before.new.steps c.move_run.new.steps (met-parts s first last old places)
     (c.first_at-first.ensures.steps h few) (c.first_at-last.ensures.steps h few) rounds (c.move_run.ensures.steps h (omega (arith, few, same)) (omega (arith, few, ap length all, length-moved s old)))
+
+pub returns-in_err-move_before-clause-steps : goal.returns-in_err-move_before-clause-steps
+returns-in_err-move_before-clause-steps g c h few =
+    let s = c.args.shift.now in
+    let old = c.args.self.now in
+    let first = c.first_at-first.result in
+    let last = c.first_at-last.result in
+    let places = placed s first last old c.args.shift.now.ordered c.requires.ranges c.requires.fits c.first_at-first.ensures.within c.first_at-first.ensures.before c.first_at-first.ensures.from c.first_at-last.ensures.within c.first_at-last.ensures.before c.first_at-last.ensures.from in
+    let copy : length c.in_ok-moved.moved < 2 * 6 ^ (h + 1) = omega (arith, few, ap length c.in_ok-moved.ensures) in
+    let rounds = subst (λ l. c.move_before.new.steps ≤ c.first_at-last.new.steps + (250 * (h + 1) * count_by (meets_extent s) (take first l) + 81 * (h + 1))) c.in_ok-moved.ensures (c.move_before.ensures.steps h copy) in
+    whole-steps h (count_by (meets_extent s) (take first old)) (last - first) (count_by (meets_extent s) old) c.args.steps.now c.first_at-first.new.steps c.first_at-last.new.steps c.move_before.new.steps c.move_before.new.steps (met-parts s first last old places)
+    (c.first_at-first.ensures.steps h few) (c.first_at-last.ensures.steps h few) rounds (omega arith)

@@ -1,6 +1,6 @@
 use Rattle.std.proofs.Common.{◌≡◌, ◌*◌, ◌^◌, ◌+◌, ◌-◌, ◌<◌, ◌∙◌, ap, sym, subst, arith, length}
 use Rattle.sum_tree.specs.Cursors.{last_of, measure_to}
-use Rattle.sum_tree.specs.Paths.{items_seen}
+use Rattle.sum_tree.specs.inside.Paths.{items_seen}
 use Rattle.sum_tree.proofs.PlaceLists.{seen-at}
 use Rattle.sum_tree.proofs.Places.{last_of-next}
 use Rattle.sum_tree.proofs.Prefixes.{measure-next, measure-next-fits}

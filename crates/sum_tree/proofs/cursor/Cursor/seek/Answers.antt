@@ -1,6 +1,6 @@
 use Rattle.std.proofs.Common.{◌≡◌, ◌*◌, ◌^◌, ◌+◌, ◌<◌, ap, subst, arith, length, MatchOption}
 use Rattle.sum_tree.specs.Cursors.{IsSought}
-use Rattle.sum_tree.specs.Paths.{items_seen}
+use Rattle.sum_tree.specs.inside.Paths.{items_seen}
 use Rattle.sum_tree.proofs.PlaceLists.{seen-at}
 use Rattle.sum_tree.proofs.Reaching.{sought-by}
 use Rattle.sum_tree.proofs.cursor.Cursor.seek.Goals as goal

@@ -1,6 +1,6 @@
 use Rattle.std.proofs.Common.{◌≡◌, ◌+◌, ◌-◌, ◌∙◌, ap, sym, subst, arith}
 use Rattle.sum_tree.specs.Cursors.{measure_to}
-use Rattle.sum_tree.specs.Paths.{IsItem, items_seen}
+use Rattle.sum_tree.specs.inside.Paths.{IsItem, items_seen}
 use Rattle.sum_tree.proofs.Places.{last_of-next}
 use Rattle.sum_tree.proofs.cursor.Cursor.settle.Goals as goal
 

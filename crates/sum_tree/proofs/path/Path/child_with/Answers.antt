@@ -2,7 +2,7 @@ use Rattle.std.proofs.Common.{◌≡◌, ◌+◌, ◌-◌, ◌++◌, ◌∙◌, 
 use Rattle.sum_core.specs.Nodes.{contents, inner, child_value, items_in, items_under, IsLawful}
 use Rattle.sum_core.proofs.Children.{children-at, items-taken}
 use Rattle.sum_core.proofs.Levels.{contents-Inner, items-seen, lawful_below}
-use Rattle.sum_tree.specs.Paths.{items_seen}
+use Rattle.sum_tree.specs.inside.Paths.{items_seen}
 use Rattle.sum_tree.proofs.Descents.{child-ahead, child-within}
 use Rattle.sum_tree.proofs.Prefixes.{drop-past}
 use Rattle.sum_tree.proofs.path.Path.child_with.Goals as goal

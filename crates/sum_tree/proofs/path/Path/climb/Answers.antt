@@ -1,5 +1,5 @@
 use Rattle.std.proofs.Common.{◌∙◌, ap, subst}
-use Rattle.sum_tree.specs.Paths.{IsPlace, items_seen, height_seen}
+use Rattle.sum_tree.specs.inside.Paths.{IsPlace, items_seen, height_seen}
 use Rattle.sum_tree.proofs.PlaceLists.{path-pop, path-last}
 use Rattle.sum_tree.proofs.path.Path.climb.Goals as goal
 

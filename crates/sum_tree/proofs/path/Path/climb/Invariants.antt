@@ -1,6 +1,6 @@
 use Rattle.std.proofs.Common.{◌≡◌}
 use Rattle.smallvec.specs.SmallVec.{small_vec_len}
-use Rattle.sum_tree.specs.Paths.{IsPath}
+use Rattle.sum_tree.specs.inside.Paths.{IsPath}
 use Rattle.sum_tree.proofs.path.Path.climb.Given as goal
 
 abbrev pub invariant-loop-place : goal.invariant-loop-place

@@ -1,7 +1,7 @@
 use Rattle.std.proofs.Common.{◌≡◌, ◌+◌, ◌<◌, ◌≤◌, false}
 use Rattle.smallvec.specs.SmallVec.{small_vec_len}
 use Rattle.sum_tree.specs.Cursors.{measure_to}
-use Rattle.sum_tree.specs.Paths.{IsPath, IsPlace, is_met, items_seen, height_seen}
+use Rattle.sum_tree.specs.inside.Paths.{IsPath, IsPlace, is_met, items_seen, height_seen}
 use Rattle.sum_tree.proofs.path.Path.descend.Given as goal
 
 abbrev pub invariant-loop-top : goal.invariant-loop-top

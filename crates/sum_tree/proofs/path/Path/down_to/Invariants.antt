@@ -1,6 +1,6 @@
 use Rattle.std.proofs.Common.{◌≡◌, ◌+◌, ◌<◌, ◌≤◌}
 use Rattle.smallvec.specs.SmallVec.{small_vec_len}
-use Rattle.sum_tree.specs.Paths.{IsPath, IsPlace, items_seen, height_seen}
+use Rattle.sum_tree.specs.inside.Paths.{IsPath, IsPlace, items_seen, height_seen}
 use Rattle.sum_tree.proofs.path.Path.down_to.Given as goal
 
 abbrev pub invariant-loop-top : goal.invariant-loop-top

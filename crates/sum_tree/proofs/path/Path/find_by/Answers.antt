@@ -4,7 +4,7 @@ use Rattle.sum_core.specs.ByMeasures.{by_sum}
 use Rattle.sum_core.specs.declared.measure.By.{By}
 use Rattle.sum_tree.specs.Cursors.{measure_to}
 use Rattle.sum_tree.specs.Firsts.{IsFirst, IsShort, IsReaching, number_to}
-use Rattle.sum_tree.specs.Paths.{items_seen}
+use Rattle.sum_tree.specs.inside.Paths.{items_seen}
 use Rattle.sum_tree.proofs.Firsts.{short-from_test, reaching-from_test}
 use Rattle.sum_tree.proofs.path.Path.find_by.Goals as goal
 

@@ -1,6 +1,6 @@
 use Rattle.std.proofs.Common.{◌≡◌, ◌+◌, ◌++◌, ◌∙◌, ap, sym, subst, arith, length, drop}
 use Rattle.sum_tree.specs.Cursors.{measure_to}
-use Rattle.sum_tree.specs.Paths.{is_met, items_seen}
+use Rattle.sum_tree.specs.inside.Paths.{is_met, items_seen}
 use Rattle.sum_tree.proofs.Prefixes.{measure-item, measure-item-fits, item-ahead}
 use Rattle.sum_tree.proofs.Places.{slice_get-ahead}
 use Rattle.sum_tree.proofs.path.Path.find_item.Goals as goal

@@ -1,6 +1,6 @@
 use Rattle.std.proofs.Common.{◌≡◌, ◌<◌, ◌+◌, false}
 use Rattle.sum_tree.specs.Cursors.{measure_to}
-use Rattle.sum_tree.specs.Paths.{is_met, items_seen}
+use Rattle.sum_tree.specs.inside.Paths.{is_met, items_seen}
 use Rattle.sum_tree.proofs.path.Path.find_item.Given as goal
 
 abbrev pub invariant-loop-offset : goal.invariant-loop-offset

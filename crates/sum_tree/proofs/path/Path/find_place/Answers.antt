@@ -6,7 +6,7 @@ use Rattle.sum_core.proofs.Children.{children-at}
 use Rattle.sum_core.proofs.Heights.{some-below}
 use Rattle.sum_core.proofs.Levels.{lawful_below, inner-high, items-seen}
 use Rattle.sum_tree.specs.Cursors.{measure_to}
-use Rattle.sum_tree.specs.Paths.{is_met, items_seen}
+use Rattle.sum_tree.specs.inside.Paths.{is_met, items_seen}
 use Rattle.sum_tree.proofs.Descents.{child-ahead, child-end, child-within}
 use Rattle.sum_tree.proofs.Prefixes.{measure-more, measure-more-fits, drop-past}
 use Rattle.sum_tree.proofs.path.Path.find_place.Goals as goal

@@ -1,7 +1,7 @@
 use Rattle.std.proofs.Common.{◌≡◌, ◌<◌, ◌≤◌, ◌+◌, false, length, map, take}
 use Rattle.sum_core.specs.Nodes.{child_value, items_under}
 use Rattle.sum_tree.specs.Cursors.{measure_to}
-use Rattle.sum_tree.specs.Paths.{is_met, items_seen}
+use Rattle.sum_tree.specs.inside.Paths.{is_met, items_seen}
 use Rattle.sum_tree.proofs.path.Path.find_place.Given as goal
 
 abbrev pub invariant-loop-child : goal.invariant-loop-child

@@ -2,7 +2,7 @@ use Rattle.std.proofs.Common.{◌≡◌, ◌+◌, ◌-◌, ◌<◌, ◌++◌, �
 use Rattle.std.specs.List.{slice_get}
 use Rattle.sum_core.specs.Nodes.{contents, items_in}
 use Rattle.sum_core.proofs.Levels.{contents-Leaf, items-leaf}
-use Rattle.sum_tree.specs.Paths.{items_seen}
+use Rattle.sum_tree.specs.inside.Paths.{items_seen}
 use Rattle.sum_tree.proofs.Places.{slice_get-ahead}
 use Rattle.sum_tree.proofs.Prefixes.{item-ahead}
 use Rattle.sum_tree.proofs.path.Path.item_of.Goals as goal

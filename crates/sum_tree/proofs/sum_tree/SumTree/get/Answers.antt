@@ -2,7 +2,7 @@ use Rattle.std.proofs.Common.{◌<◌, ◌^◌, ◌*◌, ◌+◌, ap, sym, subst
 use Rattle.std.proofs.lemmas.Option.{slice_get_past}
 use Rattle.sum_core.specs.Nodes.{entries_of, items_of}
 use Rattle.sum_core.proofs.Heights.{low-at}
-use Rattle.sum_tree.specs.Trees.{IsHeld, items_held}
+use Rattle.sum_tree.specs.inside.Trees.{IsHeld, items_held}
 use Rattle.sum_tree.proofs.sum_tree.SumTree.get.Goals as goal
 
 pub returns-then-at-tree-clause-steps : goal.returns-then-at-tree-clause-steps

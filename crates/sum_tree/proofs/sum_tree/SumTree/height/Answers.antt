@@ -1,7 +1,7 @@
 use Rattle.std.proofs.Common.{◌<◌, ◌^◌, ◌*◌, ◌+◌, ap, subst, arith, length}
 use Rattle.sum_core.specs.Nodes.{entries_of, items_of}
 use Rattle.sum_core.proofs.Heights.{low-at, low-root, at-most}
-use Rattle.sum_tree.specs.Trees.{IsHeld, items_held}
+use Rattle.sum_tree.specs.inside.Trees.{IsHeld, items_held}
 use Rattle.sum_tree.proofs.sum_tree.SumTree.height.Goals as goal
 
 pub overflow_cast-result : goal.overflow_cast-result

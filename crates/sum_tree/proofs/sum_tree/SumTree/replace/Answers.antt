@@ -1,7 +1,7 @@
-use Rattle.std.proofs.Common.{◌∷◌, [], ◌++◌, ◌∙◌, sym, subst, take, drop, refl, arith, ap}
+use Rattle.std.proofs.Common.{◌++◌, sym, subst, take, drop, refl, ap}
+use Rattle.std.specs.Vec.{vec_items}
 use Rattle.sum_core.specs.Sums.{total}
 use Rattle.sum_core.proofs.Children.{fits-left, fits-right}
-use Rattle.sum_tree.proofs.Puts.{only-item}
 use Rattle.sum_tree.proofs.sum_tree.SumTree.replace.Goals as goal
 
 pub from_vec-requires-clause-fits : goal.from_vec-requires-clause-fits
@@ -9,12 +9,5 @@ from_vec-requires-clause-fits g c =
     let m = g.T.Sum.Summary in
     let front = take c.args.from c.args.self.now in
     let most = fits-left m.empty m.joined m.fits g.T.Item.summary g.met.T.Sum.Summary.laws _ (front ++ c.args.items.items) (drop c.args.to c.args.self.now) refl c.requires.fits in
-    fits-right m.empty m.joined m.fits g.T.Item.summary g.met.T.Sum.Summary.laws _ front c.args.items.items refl most
-
-pub single-requires : goal.single-requires
-single-requires g c =
-    let m = g.T.Sum.Summary in
-    let front = take c.args.from c.args.self.now in
-    let most = fits-left m.empty m.joined m.fits g.T.Item.summary g.met.T.Sum.Summary.laws _ (front ++ c.args.items.items) (drop c.args.to c.args.self.now) refl c.requires.fits in
-    let one = only-item c.args.items.items c.remove-item.result (omega (arith, c.len.ensures, c.if-len-ne1.false)) c.remove-item.ensures.value ∙ ap (λ x. x ∷ []) (sym c.in-Err.ensures.put.1) in
-    subst (λ l. m.fits (total m.empty m.joined g.T.Item.summary l)) one (fits-right m.empty m.joined m.fits g.T.Item.summary g.met.T.Sum.Summary.laws _ front c.args.items.items refl most)
+    subst (λ l. m.fits (total m.empty m.joined g.T.Item.summary l)) (sym (ap vec_items c.in-Err.ensures.put.1))
+    (fits-right m.empty m.joined m.fits g.T.Item.summary g.met.T.Sum.Summary.laws _ front c.args.items.items refl most)

@@ -4,7 +4,7 @@ use Rattle.sum_core.specs.Sums.{total}
 use Rattle.sum_core.specs.Nodes.{entries_of, items_of}
 use Rattle.sum_core.proofs.Children.{fits-left, fits-right}
 use Rattle.sum_core.proofs.Heights.{low-at}
-use Rattle.sum_tree.specs.Trees.{IsHeld, items_held}
+use Rattle.sum_tree.specs.inside.Trees.{IsHeld, items_held}
 use Rattle.sum_tree.proofs.Melds.{small-left, small-right}
 use Rattle.sum_tree.proofs.sum_tree.SumTree.split_off.Goals as goal
 

@@ -7,7 +7,7 @@ use Rattle.std.specs.declared.cmp.Ordering.{Ordering}
 use Rattle.sum_core.specs.Sums.{total}
 use Rattle.sum_core.specs.Nodes.{IsLawful, items_in, items_of}
 use Rattle.sum_tree.specs.Cursors.{measure_to, is_reached, last_of}
-use Rattle.sum_tree.specs.Trees.{IsTree}
+use Rattle.sum_tree.specs.inside.Trees.{IsTree}
 use Rattle.sum_tree.specs.declared.trees.Tree.{Tree}
 use Rattle.sum_tree.specs.declared.path.Aim.{Aim}
 use Rattle.sum_tree.specs.declared.path.Aim.TheVariants.{Item, Sum}

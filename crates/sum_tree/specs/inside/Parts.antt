@@ -1,12 +1,7 @@
 -- What the parts of joining and cutting hand on. A child is shown as its stored sum, its stored count and what its node holds.
-use Rattle.std.specs.Prelude.{◌≡◌, ℕ, ◌+◌, ◌-◌, ◌<◌, ◌≤◌, List, ◌∷◌, length, take, drop, ◌++◌, max}
-use Rattle.sum_core.specs.Sums.{total}
+use Rattle.std.specs.Prelude.{◌≡◌, ℕ, ◌+◌, ◌-◌, ◌<◌, ◌≤◌, List, length, ◌++◌, max}
 use Rattle.sum_core.specs.Nodes.{IsLawful, IsChildList, inner, width, contents, items_in, items_under}
 use Rattle.sum_core.specs.declared.node.Entries.{Entries}
-
--- the list with x in the place of the items from `from` to `to`
-abbrev pub put : {T : Type 0} → ℕ → ℕ → T → List T → List T
-put from to x items = take from items ++ x ∷ drop to items
 
 module _ {T S : Type 0} (empty : S) (joined : S → S → S) (summary : T → S) where
   -- The entries e of a lawful inner node of this height are these children.
@@ -58,14 +53,3 @@ module _ {T S : Type 0} (empty : S) (joined : S → S → S) (summary : T → S)
     pub offset_is : offset ≡ length (items_under before)
     pub low : offset ≤ at
     pub high : at ≤ offset + length (items_in f)
-
-  -- The entries f in the place of e: lawful as they were, no fewer, and with these items.
-  pub record IsAfter (height : ℕ) (e : Entries T S) (items : List T) (f : Entries T S) : Type 0 where
-    pub lawful : IsLawful empty joined summary height f
-    pub wide : width (contents e) ≤ width (contents f)
-    pub items_is : items_in f ≡ items
-
-  -- A sum and a number are those of these items.
-  pub record IsSumOf (items : List T) (s : S × ℕ) : Type 0 where
-    pub sum_is : s.0 ≡ total empty joined summary items
-    pub count_is : s.1 ≡ length items

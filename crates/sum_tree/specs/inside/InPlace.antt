@@ -1,0 +1,44 @@
+-- What a write in place asks of a list and of the nodes that hold it, and what it leaves. `items` and `sums` are what the
+-- bounds on items and on their sums say.
+use Rattle.std.specs.Prelude.{◌≡◌, ℕ, ◌^◌, ◌<◌, ◌≤◌, List, length, Result, MatchResult}
+use Rattle.std.specs.List.{splice}
+use Rattle.sum_core.specs.Nodes.{IsLawful, width, contents}
+use Rattle.sum_core.specs.declared.node.Entries.{Entries}
+use Rattle.sum_core.specs.declared.summary.Item.{Ghosts as Items}
+use Rattle.sum_core.specs.declared.summary.Summary.{Ghosts as Sums}
+use Rattle.sum_tree.specs.declared.in_place.Span.{Span}
+use Rattle.sum_tree.specs.inside.Nodes.{SumFits, sum_of}
+
+-- the list with `new` in the place of the items in the span
+abbrev pub refilled : {T : Type 0} → List T → Span → List T → List T
+refilled held span new = splice held span.from span.to new
+
+module _ {T S : Type 0} (items : Items T S) (sums : Sums S) where
+  -- The span lies in the list, and `new` may stand in its place.
+  pub record CanRefill (held : List T) (span : Span) (new : List T) : Type 0 where
+    pub order : span.from ≤ span.to
+    pub within : span.to ≤ length held
+    pub small : length held < 2 ^ 32
+    pub still_small : length (refilled held span new) < 2 ^ 32
+    pub fits : SumFits items sums (refilled held span new)
+
+  -- A lawful node of this height with at least `least` entries, which is one or more where it is no leaf.
+  pub record IsNode (height least : ℕ) (e : Entries T S) : Type 0 where
+    pub lawful : IsLawful sums.empty sums.joined items.summary height e
+    pub wide : least ≤ width (contents e)
+    pub some : 0 < height → 1 ≤ least
+
+  -- A sum and a number are those of these items.
+  pub record IsSumOf (held : List T) (s : S × ℕ) : Type 0 where
+    pub sum_is : s.0 ≡ sum_of items sums held
+    pub count_is : s.1 ≡ length held
+
+  -- `held` became `after`, whose sum and number are known, or stayed as it was, with what was given handed back.
+  abbrev pub IsRefilled : {V : Type 0} → List T → Span → List T → V → List T → Result (S × ℕ) V → Type 0
+  IsRefilled held span new given after result =
+      MatchResult result (λ s. (after ≡ refilled held span new) × IsSumOf after s) (λ back. (after ≡ held) × (back ≡ given))
+
+  -- the same without the sum
+  abbrev pub IsRefilledAlone : {V : Type 0} → List T → Span → List T → V → List T → Result (Unit {0}) V → Type 0
+  IsRefilledAlone held span new given after result =
+      MatchResult result (λ _. after ≡ refilled held span new) (λ back. (after ≡ held) × (back ≡ given))
