@@ -1,0 +1,5 @@
+pub mod Alike
+pub mod JoinedLists
+pub mod Meeting
+pub mod Sweeps
+pub mod Windows

@@ -1,0 +1,3 @@
+pub mod JoinedLists
+pub mod Sweeps
+pub mod Windows
