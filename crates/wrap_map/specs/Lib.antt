@@ -1,0 +1,9 @@
+pub mod Leads
+pub mod Stood
+pub mod Standing
+pub mod Waiting
+pub mod Landing
+pub mod Items
+pub mod Bounds
+pub mod Worked
+pub mod inside

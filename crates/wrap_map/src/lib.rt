@@ -1,0 +1,22 @@
+//! The rows of lines by the width at which each line stands.
+//!
+//! A `WrapMap` is seen as its lines, the mark of each and the width that they are to stand at. It keeps one tree of
+//! stretches: a line with its cuts, or a maximal run of lines without cuts at one mark. The sums of the tree count lines,
+//! rows and changes of the mark, so that a line, a row, or the next line that stands at another width is one seek.
+#![tactic(auto)]
+
+mod extent;
+mod gathering;
+mod landing;
+mod map;
+pub mod marks;
+mod replacing;
+mod snapshot;
+mod stretch;
+mod stretches;
+mod waiting;
+pub mod worked;
+
+pub use map::WrapMap;
+pub use marks::MarkRun;
+pub use snapshot::WrapSnapshot;

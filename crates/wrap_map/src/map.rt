@@ -1,0 +1,196 @@
+//! The map from lines to rows.
+ghost use Rattle.std.specs.Prelude.{◌≡◌, ◌+◌, ◌≤◌, [], length, map, IfErr, IfOk, OnErr, OnOk};
+ghost use Rattle.cell_units.specs.Lawful.{IsWidth};
+ghost use Rattle.edit_patch.specs.Fits.{Fits};
+ghost use Rattle.sum_tree.specs.Bounds.{ChangesAtMost, TakesAtMost};
+ghost use Rattle.wrap_map.specs.Bounds.{finding, landing, syncing};
+ghost use Rattle.wrap_map.specs.Leads.{LeadsBy};
+ghost use Rattle.wrap_map.specs.Items.{items_of};
+ghost use Rattle.wrap_map.specs.Landing.{IsLanded, cuts_of_run};
+ghost use Rattle.wrap_map.specs.Standing.{HaveRoom, IsSynced, all_at};
+ghost use Rattle.wrap_map.specs.Waiting.{AreApart, IsNextIfAny};
+
+use crate::landing::Landing;
+use crate::replacing::replaced_if_any;
+use crate::snapshot::WrapSnapshot;
+use crate::stretches::Stretches;
+use crate::waiting::next_run;
+use cell_line::{Cuts, Lines, Run};
+use cell_units::limits::{LEAST_WIDTH, WIDTH_LIMIT};
+use cell_units::{NoMemory, Refusal, Shift, Steps};
+use edit_patch::Patch;
+use std::alloc::Global;
+use std::marker::Model;
+
+/// Lines that stand wrapped, and the width that they are to stand at.
+#[derive(Drop)]
+pub struct WrapMap<N: Lines> {
+    lines: N,
+    stretches: Stretches,
+    width: u32,
+}
+
+impl<N: Lines> Model for WrapMap<N> {
+    ghost use Rattle.cell_units.specs.Lawful.{IsWidth};
+    ghost use Rattle.wrap_map.specs.Standing.{StandSo, Wrapped, standing_of};
+
+    ghost Value = { Wrapped };
+
+    ghost view = { λ m.
+        record { standing = standing_of (N.elements_by_line m.lines) m.stretches; width = m.width } };
+
+    ghost invariant = { λ m. StandSo (N.elements_by_line m.lines) m.stretches × IsWidth m.width };
+}
+
+impl<N: Lines> WrapMap<N> {
+    /// A map of lines that stand in one row each.
+    pub fn new(
+        alloc: Global,
+        lines: N,
+        width: u32,
+        steps: &mut Steps,
+    ) -> Result<WrapMap<N>, NoMemory>
+        requires lawful { IsWidth width }
+        requires room { HaveRoom (N.elements_by_line lines) }
+        ensures made { let standing = all_at 0 (N.elements_by_line lines) in
+            IfOk result (λ map. map ≡ record { standing = standing; width = width }) }
+        ensures counted { steps.old ≤ steps.new }
+        ensures steps { steps.new ≤ steps.old + 64 }
+    {
+        let stretches = Stretches::new(alloc, lines.lines(), steps)?;
+        Ok(WrapMap {
+            lines,
+            stretches,
+            width,
+        })
+    }
+
+    /// Sets the width that the lines are to stand at. `BadNumber` where it is neither 0 nor 2 to 10,000.
+    pub fn set_width(&mut self, width: u32) -> Result<(), Refusal>
+        ensures set { OnOk result (self.new ≡ record self.old { width = width }) }
+        ensures accepted { OnOk result (IsWidth width) }
+        ensures refused { IfErr result (λ refusal. (refusal ≡ Refusal.BadNumber) × (¬ IsWidth width)) }
+        ensures unchanged { OnErr result (self.new ≡ self.old) }
+    {
+        if width != 0 && (width < LEAST_WIDTH || width > WIDTH_LIMIT) {
+            return Err(Refusal::BadNumber);
+        }
+        self.width = width;
+        Ok(())
+    }
+
+    /// The lines as they are now, and the rows that were replaced. The lines that `below` replaced stand in one row each,
+    /// and all others stand as they did.
+    pub fn sync(
+        &mut self,
+        alloc: Global,
+        lines: N,
+        below: Option<Shift>,
+        steps: &mut Steps,
+    ) -> Result<(WrapSnapshot<N>, Option<Shift>), NoMemory>
+        requires leads { LeadsBy self.old.standing.lines (N.elements_by_line lines) below }
+        requires room { HaveRoom (N.elements_by_line lines) }
+        // The lines, and the rows of those that were replaced.
+        ensures synced { let now = N.elements_by_line lines in
+            IfOk result (λ made. IsSynced self.old now below self.new made.0 made.1) }
+        ensures unchanged { OnErr result (self.new ≡ self.old) }
+
+        // The work.
+        ensures counted { steps.old ≤ steps.new }
+        ensures steps { let before = length self.old.standing.lines in
+            ChangesAtMost syncing before (length (N.elements_by_line lines)) steps.old steps.new }
+    {
+        let (stretches, rows) = replaced_if_any(alloc, &self.stretches, below, steps)?;
+        let snapshot = WrapSnapshot {
+            lines: lines.share()?,
+            stretches: stretches.share()?,
+        };
+        self.lines = lines;
+        self.stretches = stretches;
+        Ok((snapshot, rows))
+    }
+
+    /// The first line that doesn't stand at the width and that no run of `out` has, with the lines behind it of the same
+    /// kind, up to 128. `None` exactly where there is no such line.
+    pub fn next_run(&self, out: &[Run], steps: &mut Steps) -> Option<Run>
+        requires { AreApart out.now }
+        ensures next { IsNextIfAny self.now.standing.marks self.now.width out.now result }
+        ensures counted { steps.old ≤ steps.new }
+        ensures steps { let lines = self.now.standing.lines in
+            TakesAtMost (finding (length out.now)) (length lines) steps.old steps.new }
+    {
+        next_run(&self.stretches, self.width, out, steps)
+    }
+
+    /// Gives each line that `since` carries from the run its cuts and mark, and answers the rows that were replaced. Where
+    /// the width isn't the present one, nothing changes.
+    pub fn land(
+        &mut self,
+        alloc: Global,
+        old: &N,
+        since: &Patch,
+        run: Run,
+        width: u32,
+        wraps: &[Cuts],
+        steps: &mut Steps,
+    ) -> Result<Patch, NoMemory>
+        requires since { Fits since.now (N.elements_by_line old.now) self.old.standing.lines }
+        requires within { run.first + run.count ≤ length (N.elements_by_line old.now) }
+        requires wraps { let lines = N.elements_by_line old.now in
+            map (λ cuts. cuts.items) wraps.now ≡ cuts_of_run lines run width }
+        // At the present width the lines that the run still has stand at it; at another nothing changes.
+        ensures landed { width ≡ self.old.width → IfOk result (IsLanded self.old since.now run self.new) }
+        ensures other_width { (width ≡ self.old.width → ⊥) → IfOk result (λ patch. patch ≡ []) }
+        ensures kept { (width ≡ self.old.width → ⊥) → self.new ≡ self.old }
+        ensures unchanged { OnErr result (self.new ≡ self.old) }
+
+        // The work.
+        ensures counted { steps.old ≤ steps.new }
+        ensures steps { let lines = self.old.standing.lines in
+            TakesAtMost (landing run.count) (length lines) steps.old steps.new }
+    {
+        // The lines of the run are u32, and what `since` keeps in its type is what its edits ensure.
+        let _lines = old.lines();
+        let _edits = since.edits();
+        if width != self.width {
+            return Ok(Patch::none(alloc));
+        }
+        let mut landing = Landing::new(alloc, self.stretches.share()?);
+        for (place, cuts) in wraps.iter().enumerate() {
+            let line = run.first + place as u32;
+            landing.carry(alloc, &self.stretches, since, line, width, cuts, steps)?;
+        }
+        let (stretches, patch) = landing.finish(alloc, &self.stretches, steps)?;
+        self.stretches = stretches;
+        Ok(patch)
+    }
+
+    /// The lines as they stand. It takes no memory: `NoMemory` is one holder too many.
+    pub fn snapshot(&self) -> Result<WrapSnapshot<N>, NoMemory>
+        ensures { IfOk result (λ snapshot. snapshot ≡ self.now.standing) }
+    {
+        Ok(WrapSnapshot {
+            lines: self.lines.share()?,
+            stretches: self.stretches.share()?,
+        })
+    }
+
+    /// An equal map. It takes no memory: `NoMemory` is one holder too many.
+    pub fn share(&self) -> Result<WrapMap<N>, NoMemory>
+        ensures { IfOk result (λ shared. shared ≡ self.now) }
+    {
+        Ok(WrapMap {
+            lines: self.lines.share()?,
+            stretches: self.stretches.share()?,
+            width: self.width,
+        })
+    }
+
+    /// How many items the map keeps: each line with cuts is one, and so is each maximal run of lines without cuts at one
+    /// mark.
+    pub fn items(&self) -> u32
+        ensures { result ≡ items_of self.now.standing }
+    {
+        self.stretches.items()
+    }
+}

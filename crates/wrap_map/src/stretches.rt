@@ -1,0 +1,294 @@
+//! How each line stands, kept as one tree of stretches.
+ghost use Rattle.std.specs.Prelude.{◌≡◌, ◌+◌, ◌*◌, ◌^◌, ◌<◌, ◌≤◌, ◌++◌, [], length, take, replicate, IfOk, OnOk, OnErr};
+ghost use Rattle.sum_tree.specs.Bounds.{TakesAtMost, way};
+ghost use Rattle.wrap_map.specs.Bounds.{ListsAtMost};
+ghost use Rattle.wrap_map.specs.Standing.{runs_from};
+ghost use Rattle.wrap_map.specs.Stood.{IsOtherIfAny, marks_in, put_in, rows_in, runs_in, stood_at, unwrapped};
+ghost use Rattle.wrap_map.specs.inside.Bounds.{PutsAtMost, two_ways};
+ghost use Rattle.wrap_map.specs.inside.Gathering.{IsHead, IsTail};
+ghost use Rattle.wrap_map.specs.inside.Stretches.{AreStretches, spread, stretched};
+
+use crate::extent::{ByLines, ByRows, BySwitches, switch_between};
+use crate::gathering::gather;
+use crate::marks::MarkRun;
+use crate::stretch::Stretch;
+use cell_line::Cuts;
+use cell_units::{Bias, NoMemory, Steps};
+use std::alloc::Global;
+use std::marker::Model;
+use std::sync::Arc;
+use sum_tree::SumTree;
+
+/// A list of lines, each as it stands. Copies share what they have in common.
+#[derive(Drop)]
+pub struct Stretches {
+    tree: SumTree<Stretch>,
+    /// The cuts of every line without cuts.
+    none: Arc<Cuts>,
+}
+
+impl Model for Stretches {
+    ghost use Rattle.std.specs.Arc.{arc_value};
+    ghost use Rattle.std.specs.Prelude.{◌≡◌, [], List};
+    ghost use Rattle.wrap_map.specs.Stood.{Stood};
+    ghost use Rattle.wrap_map.specs.inside.Stretches.{AreStretches, spread, stretched};
+
+    ghost Value = { List Stood };
+
+    ghost view = { λ s. spread s.tree };
+
+    ghost invariant = { λ s. AreStretches s.tree × ((arc_value s.none).items ≡ []) };
+}
+
+/// The stretch of a line.
+fn stretch_of<'a>(tree: &'a SumTree<Stretch>, line: u32, steps: &mut Steps) -> &'a Stretch
+    requires { line < length (spread tree.now) }
+    ensures stood { result.now.stood ≡ stood_at (spread tree.now) line }
+    ensures counted { steps.old ≤ steps.new }
+    ensures steps { TakesAtMost way (length tree.now) steps.old steps.new }
+{
+    match tree.find::<ByLines>(line as u64, Bias::Right, steps).item {
+        Some(stretch) => stretch,
+        None => unreachable!(),
+    }
+}
+
+/// A part of one stretch, or nothing, and the place where the stretches that stay end or begin.
+#[derive(Drop)]
+struct Part {
+    stretches: Vec<Stretch>,
+    at: u32,
+}
+
+/// What lies before a line of the stretch that ends there or has it.
+fn part_before(
+    alloc: Global,
+    tree: &SumTree<Stretch>,
+    line: u32,
+    steps: &mut Steps,
+) -> Result<Part, NoMemory>
+    requires stretches { AreStretches tree.now }
+    requires within { line ≤ length (spread tree.now) }
+    ensures head { IfOk result (λ part. IsHead tree.now line part.stretches.items part.at) }
+    ensures counted { steps.old ≤ steps.new }
+    ensures steps { TakesAtMost way (length tree.now) steps.old steps.new }
+{
+    let found = tree.find::<ByLines>(line as u64, Bias::Left, steps);
+    let mut stretches = Vec::new(alloc);
+    if let Some(first) = found.item {
+        let lines = line - found.before.lines;
+        if lines > 0 {
+            stretches.push(first.part(lines)?)?;
+        }
+    }
+    Ok(Part {
+        stretches,
+        at: found.index,
+    })
+}
+
+/// What lies from a line on of the stretch that has it.
+fn part_behind(
+    alloc: Global,
+    tree: &SumTree<Stretch>,
+    line: u32,
+    steps: &mut Steps,
+) -> Result<Part, NoMemory>
+    requires stretches { AreStretches tree.now }
+    requires within { line ≤ length (spread tree.now) }
+    ensures tail { IfOk result (λ part. IsTail tree.now line part.stretches.items part.at) }
+    ensures counted { steps.old ≤ steps.new }
+    ensures steps { TakesAtMost way (length tree.now) steps.old steps.new }
+{
+    // The number of stretches is a u32, and so is each place.
+    let _count = tree.len();
+    let found = tree.find::<ByLines>(line as u64, Bias::Right, steps);
+    let mut stretches = Vec::new(alloc);
+    let Some(last) = found.item else {
+        return Ok(Part {
+            stretches,
+            at: found.index,
+        });
+    };
+    let lines = last.lines() - (line - found.before.lines);
+    stretches.push(last.part(lines)?)?;
+    Ok(Part {
+        stretches,
+        at: found.index + 1,
+    })
+}
+
+impl Stretches {
+    /// So many lines in one row each.
+    pub fn new(alloc: Global, count: u32, steps: &mut Steps) -> Result<Stretches, NoMemory>
+        ensures made { IfOk result (λ lines. lines ≡ replicate count unwrapped) }
+        ensures counted { steps.old ≤ steps.new }
+        ensures steps { steps.new ≤ steps.old + 64 }
+    {
+        let none = Arc::new(alloc, Cuts::new(alloc))?;
+        let mut stretches = Vec::new(alloc);
+        if count > 0 {
+            stretches.push(Stretch::uncut(0, count, &none)?)?;
+        }
+        Ok(Stretches {
+            tree: SumTree::from_vec(alloc, stretches, steps)?,
+            none,
+        })
+    }
+
+    /// An equal list. It takes no memory: `NoMemory` is one holder too many.
+    pub fn share(&self) -> Result<Stretches, NoMemory>
+        ensures { IfOk result (λ shared. shared ≡ self.now) }
+    {
+        Ok(Stretches {
+            tree: self.tree.share()?,
+            none: Arc::try_clone(&self.none)?,
+        })
+    }
+
+    pub fn lines(&self) -> u32
+        ensures { result ≡ length self.now }
+    {
+        self.tree.sum().lines
+    }
+
+    /// How many rows all lines have.
+    pub fn rows(&self) -> u32
+        ensures { result ≡ rows_in self.now }
+    {
+        self.tree.sum().rows
+    }
+
+    /// How many items the list makes: each line with cuts is one, and so is each maximal run of lines
+    /// without cuts at one mark.
+    pub fn items(&self) -> u32
+        ensures { result ≡ runs_in self.now }
+    {
+        self.tree.len()
+    }
+
+    /// The width at which a line stands wrapped, 0 where it stands in one row.
+    pub fn mark(&self, line: u32, steps: &mut Steps) -> u32
+        requires { line < length self.now }
+        ensures mark { result ≡ (stood_at self.now line).mark }
+        ensures counted { steps.old ≤ steps.new }
+        ensures steps { TakesAtMost way (length self.now) steps.old steps.new }
+    {
+        stretch_of(&self.tree, line, steps).mark()
+    }
+
+    /// Where a line is cut at its mark.
+    pub fn cuts(&self, line: u32, steps: &mut Steps) -> &Cuts
+        requires { line < length self.now }
+        ensures cuts { result.now.items ≡ (stood_at self.now line).cuts }
+        ensures counted { steps.old ≤ steps.new }
+        ensures steps { TakesAtMost way (length self.now) steps.old steps.new }
+    {
+        stretch_of(&self.tree, line, steps).cuts()
+    }
+
+    /// How many rows stand before a line, and before the end.
+    pub fn rows_before(&self, line: u32, steps: &mut Steps) -> u32
+        requires { line ≤ length self.now }
+        ensures rows { result ≡ rows_in (take line self.now) }
+        ensures counted { steps.old ≤ steps.new }
+        ensures steps { TakesAtMost way (length self.now) steps.old steps.new }
+    {
+        let found = self.tree.find::<ByLines>(line as u64, Bias::Right, steps);
+        // Before a line each line of its own stretch has one row.
+        found.before.rows + (line - found.before.lines)
+    }
+
+    /// The line that has a row.
+    pub fn line_at(&self, row: u32, steps: &mut Steps) -> u32
+        requires { row < rows_in self.now }
+        ensures within { result < length self.now }
+        ensures begun { rows_in (take result self.now) ≤ row }
+        ensures ends { row < rows_in (take (result + 1) self.now) }
+        ensures counted { steps.old ≤ steps.new }
+        ensures steps { TakesAtMost way (length self.now) steps.old steps.new }
+    {
+        let found = self.tree.find::<ByRows>(row as u64, Bias::Right, steps);
+        let Some(stretch) = found.item else {
+            unreachable!()
+        };
+        found.before.lines + (row - found.before.rows).min(stretch.lines() - 1)
+    }
+
+    /// The first line from `line` on that stands at another mark than `width`, and `None` exactly where
+    /// there is none.
+    pub fn next_other(&self, line: u32, width: u32, steps: &mut Steps) -> Option<u32>
+        ensures other { IsOtherIfAny self.now line width result }
+        ensures counted { steps.old ≤ steps.new }
+        ensures steps { TakesAtMost two_ways (length self.now) steps.old steps.new }
+    {
+        let found = self.tree.find::<ByLines>(line as u64, Bias::Right, steps);
+        let Some(stretch) = found.item else {
+            return None;
+        };
+        if stretch.mark() != width {
+            return Some(line);
+        }
+        let change = switch_between(found.before.ends, Some(stretch.ends()));
+        let changes = found.before.switches as u64 + change as u64;
+        let other = self.tree.find::<BySwitches>(changes, Bias::Right, steps);
+        match other.item {
+            Some(_) => Some(other.before.lines),
+            None => None,
+        }
+    }
+
+    /// The maximal runs of lines of one mark other than 0, in order.
+    pub fn marks(&self, alloc: Global, steps: &mut Steps) -> Result<Vec<MarkRun>, NoMemory>
+        ensures runs { IfOk result (λ runs. runs.items ≡ runs_from 0 (marks_in self.now)) }
+        ensures counted { steps.old ≤ steps.new }
+        ensures steps { ListsAtMost (marks_in self.now) steps.old steps.new }
+    {
+        let mut runs = Vec::new(alloc);
+        let count = self.lines();
+        let mut line = 0;
+        while let Some(first) = self.next_other(line, 0, steps) {
+            let width = self.mark(first, steps);
+            line = self.next_other(first, width, steps).unwrap_or(count);
+            runs.push(MarkRun {
+                first,
+                last: line - 1,
+                width,
+            })?;
+        }
+        Ok(runs)
+    }
+
+    /// So many lines without cuts, to be put into this list or a share of it.
+    pub fn uncut(&self, mark: u32, lines: u32) -> Result<Stretch, NoMemory>
+        requires { 1 ≤ lines }
+        ensures { IfOk result (λ s. s ≡ stretched mark lines []) }
+    {
+        Stretch::uncut(mark, lines, &self.none)
+    }
+
+    /// Puts the lines of stretches in the place of those from `start` to `end`.
+    pub fn put(
+        &mut self,
+        alloc: Global,
+        start: u32,
+        end: u32,
+        fresh: Vec<Stretch>,
+        steps: &mut Steps,
+    ) -> Result<(), NoMemory>
+        requires order { start ≤ end }
+        requires within { end ≤ length self.old }
+        requires rows_fit { rows_in (put_in start end (spread fresh.items) self.old) < 2 ^ 32 }
+        ensures put { OnOk result (self.new ≡ put_in start end (spread fresh.items) self.old) }
+        ensures unchanged { OnErr result (self.new ≡ self.old) }
+        ensures counted { steps.old ≤ steps.new }
+        ensures steps { PutsAtMost start end fresh.items self.old steps.old steps.new }
+    {
+        let head = part_before(alloc, &self.tree, start, steps)?;
+        let tail = part_behind(alloc, &self.tree, end, steps)?;
+        let mut stretches = head.stretches;
+        gather(&mut stretches, fresh)?;
+        gather(&mut stretches, tail.stretches)?;
+        self.tree.replace(alloc, head.at, tail.at, stretches, steps)
+    }
+}
