@@ -151,8 +151,7 @@ fn replace_one_of_a_million(
     requires million { length tree.old ≡ 1000000 }
     requires at { at + 1 ≤ 1000000 }
     requires one { length items.items ≡ 1 }
-    requires fits {
-        let after = take at tree.old ++ items.items ++ drop (at + 1) tree.old in
+    requires fits { let after = take at tree.old ++ items.items ++ drop (at + 1) tree.old in
         let tally = ⟦<Tally as Summary>⟧ in
         tally.fits (total tally.empty tally.joined ⟦<Weight as Item>⟧.summary after) }
     ensures { steps.new ≤ steps.old + 6408 }
