@@ -1,24 +1,25 @@
--- What the total of weights tells of each.
-use Rattle.std.specs.Prelude.{◌≡◌, ℕ, ◌+◌, ◌||◌, nat_le, Bool, false, List, [], ◌∷◌, refl}
+-- What the sum of a list tells of each of its items.
+use Rattle.std.specs.Prelude.{◌≡◌, ℕ, ◌+◌, ◌||◌, nat_le, false, List, [], ◌∷◌, refl}
 use Rattle.std.specs.List.{list_any}
 use Rattle.std.proofs.Common.{ap, ◌∙◌, arith}
 use Rattle.std.proofs.lemmas.Bool.Decides.{nat_tests}
 use Rattle.sum_core.specs.Sums.{total}
-use Rattle.map_rows.specs.declared.weights.Tally.{Tally}
-use Rattle.map_rows.specs.declared.weights.Weight.{Weight}
 
-abbrev pub tally : List Weight → Tally
-tally ws =
-    total (record { items = 0; total = 0 }) (λ a b. record { items = a.items + b.items; total = a.total + b.total }) (λ w. record { items = 1; total = w.0 }) ws
+light-first : (w n x s t : ℕ) → n ≡ s + t → s ≡ x → nat_le w n ≡ false → nat_le w x ≡ false
+light-first w n x s t whole first light = grind (arith, nat_tests)
 
-light-first : (w x t : ℕ) → nat_le w (x + t) ≡ false → nat_le w x ≡ false
-light-first w x t light = grind (arith, nat_tests)
-
-light-rest : (w x t : ℕ) → nat_le w (x + t) ≡ false → nat_le w t ≡ false
-light-rest w x t light = grind (arith, nat_tests)
+light-rest : (w n s t : ℕ) → n ≡ s + t → nat_le w n ≡ false → nat_le w t ≡ false
+light-rest w n s t whole light = grind (arith, nat_tests)
 
 -- where all together are lighter, each is
-pub all-lighter : (w : ℕ) (ws : List Weight) → nat_le w (tally ws).total ≡ false → list_any (λ x. nat_le w x.0) ws ≡ false
-all-lighter w [] light = refl
-all-lighter w (x ∷ xs) light =
-    ap (λ b. b || list_any (λ y. nat_le w y.0) xs) (light-first w x.0 (tally xs).total light) ∙ all-lighter w xs (light-rest w x.0 (tally xs).total light)
+pub all-lighter : {X S : Type 0} (empty : S) (joined : S → S → S) (summary : X → S) (number : S → ℕ) (weight : X → ℕ)
+    → ((a b : S) → number (joined a b) ≡ number a + number b) → ((x : X) → number (summary x) ≡ weight x)
+    → (w : ℕ) (xs : List X) → nat_le w (number (total empty joined summary xs)) ≡ false → list_any (λ x. nat_le w (weight x)) xs ≡ false
+all-lighter empty joined summary number weight adds of w [] light = refl
+all-lighter empty joined summary number weight adds of w (x ∷ xs) light =
+    let rest = total empty joined summary xs in
+    let whole = adds (summary x) rest in
+    ap (λ b. b || list_any (λ y. nat_le w (weight y)) xs)
+    (light-first w (number (joined (summary x) rest)) (weight x) (number (summary x)) (number rest) whole (of x) light)
+    ∙ all-lighter empty joined summary number weight adds of w xs
+    (light-rest w (number (joined (summary x) rest)) (number (summary x)) (number rest) whole light)

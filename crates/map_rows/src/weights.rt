@@ -92,14 +92,17 @@ impl Dimension<Tally> for u64 {
 pub struct AtLeast(pub u32);
 
 impl Probe<Weight> for AtLeast {
-    ghost use Rattle.std.specs.Prelude.{nat_le};
+    ghost use Rattle.std.specs.Prelude.{nat_le, refl};
     ghost use Rattle.map_rows.specs.Weights.{all-lighter};
+    ghost use Rattle.map_rows.specs.declared.weights.Tally.{Tally};
+    ghost use Rattle.map_rows.specs.declared.weights.Weight.{Weight};
 
     ghost is_passed = { λ probe item. nat_le probe.0 item.0 };
 
     ghost may_pass = { λ probe sum. nat_le probe.0 sum.total };
 
-    ghost may_skip = { λ probe items light. all-lighter probe.0 items light };
+    ghost may_skip = { λ probe items light.
+        all-lighter _ _ _ (λ (s : Tally). s.total) (λ (w : Weight). w.0) (λ a b. refl) (λ w. refl) probe.0 items light };
 
     fn passes(&self, item: &Weight) -> bool {
         self.0 <= item.0
