@@ -37,7 +37,7 @@ length-texts_at s i h e =
     ∙ ap (λ st. 1 + length st.cuts) (sym (stood-at s.lines s.marks i h e))
 
 -- a line that did not land has the rows that it had
-texts-kept : (s : Standing) (since : List Edit) (run : Run) (width i : ℕ) → i < length s.lines → length s.marks ≡ length s.lines
+pub texts-kept : (s : Standing) (since : List Edit) (run : Run) (width i : ℕ) → i < length s.lines → length s.marks ≡ length s.lines
     → is_landed since run i ≡ false → line_rows (shown_rows (landed_standing s since run width)) i ≡ line_rows (shown_rows s) i
 texts-kept s since run width i h e f =
     texts-at s.lines (marks_landed since run width s.marks) i h (length-marks_landed since run width s.marks ∙ e)

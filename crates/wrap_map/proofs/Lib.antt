@@ -18,3 +18,5 @@ pub mod LandingSteps
 pub mod StepSums
 pub mod Calls
 pub mod WorkedRows
+pub mod Clearings
+pub mod Rooms

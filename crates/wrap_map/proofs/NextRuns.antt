@@ -1,13 +1,14 @@
 -- The run that is to be wrapped next, found from line to line.
-use Rattle.std.proofs.Common.{◌≡◌, ◌≢◌, ⊎_elim, ℕ, ◌+◌, ◌-◌, ◌<◌, ◌≤◌, ◌^◌, min, max, true, false, ◌&&◌, not, nat_lt, nat_le, ◌==◌, List, length, get_or, None, sym, subst, ◌∙◌, arith}
+use Rattle.std.proofs.Common.{◌≡◌, ◌≢◌, ⊎_elim, ℕ, ◌+◌, ◌-◌, ◌<◌, ◌≤◌, ◌^◌, min, max, true, false, ◌&&◌, not, nat_lt, nat_le, ◌==◌, List, length, get_or, None, Option, Some, sym, subst, ◌∙◌, arith}
+use Rattle.std.specs.Prelude.{IfSome}
 use Rattle.std.specs.List.{list_any}
 use Rattle.std.proofs.Math.ListN.{get_or-map}
-use Rattle.std.proofs.lemmas.Bool.{and_from, and_left, and_right, cases_lt, eq-eqb, le-leb, le-ltb, lt-leb, lt-ltb, ne_eqb, not_from_false, not_from_true}
+use Rattle.std.proofs.lemmas.Bool.{and_from, and_left, and_parts, and_right, cases_lt, eq-eqb, le-leb, le-ltb, lt-leb, lt-ltb, ltb-true, ne_eqb, not_from_false, not_from_true}
 use Rattle.std.proofs.lemmas.List.{get_or_default, length-map}
 use Rattle.std.proofs.lemmas.List.Folds.{list_any-from_Any, list_any_none}
 use Rattle.cell_line.specs.declared.lines.Run.{Run}
 use Rattle.wrap_map.specs.Stood.{IsOther, IsOtherIfAny, Stood, marks_in, stood_at, unwrapped}
-use Rattle.wrap_map.specs.Waiting.{AreApart, IsNext, has_line, waits}
+use Rattle.wrap_map.specs.Waiting.{AreApart, IsNext, IsNextIfAny, has_line, waits}
 use Rattle.wrap_map.specs.inside.Changes.{IsRunFrom}
 
 -- ---- which lines wait
@@ -176,3 +177,15 @@ none_waits ls width out j line p none k =
     ⊎_elim (λ a. p.none_before k a)
     (λ a. ⊎_elim (λ b. settled ls width out k (none k a b)) (λ b. past_end ls width out k b) (cases_lt k (length ls)))
     (cases_lt k line)
+
+-- the run that is next is of lines that are there
+pub next-within : (marks : List ℕ) (width : ℕ) (out : List Run) (next : Option Run) → IsNextIfAny marks width out next
+    → IfSome next (λ run. run.first + run.count ≤ length marks)
+next-within marks width out None is = tt
+next-within marks width out (Some run) is =
+    let last = run.first + (run.count - 1) in
+    let at = nat_lt last (length marks) in
+    let other = not (get_or marks last 0 == width) in
+    let free = not (list_any (λ (r : Run). has_line r last) out) in
+    let lt = ltb-true last (length marks) (and_parts at other (and_parts (at && other) free (is.each (run.count - 1) (omega (arith, is.some)))).0).0 in
+    omega (arith, lt, is.some)

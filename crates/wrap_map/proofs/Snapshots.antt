@@ -61,7 +61,7 @@ line-of-all (l ∷ ls) zero = omega (arith, length-append l (all_rows ls))
 line-of-all (l ∷ ls) (suc k) = omega (arith, length-append l (all_rows ls), line-of-all ls k)
 
 pub rows-small : (s : Standing) → IsStanding s → (k : ℕ) → length (line_rows (shown_rows s) k) < 2 ^ 32
-rows-small s is k = omega (arith, line-of-all (shown_rows s) k, is.room.rows_fit s.marks is.one_each)
+rows-small s is k = omega (arith, line-of-all (shown_rows s) k, is.room.rows_fit)
 
 rows-next : (ls : List Stood) (k : ℕ) → k < length ls → rows_in (take (k + 1) ls) ≡ rows_in (take k ls) + (length (stood_at ls k).cuts + 1)
 rows-next ls k within =

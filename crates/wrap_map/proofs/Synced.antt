@@ -5,11 +5,12 @@ use Rattle.std.specs.List.{zip}
 use Rattle.std.proofs.lemmas.List.{length-take-le, length-replicate}
 use Rattle.std.proofs.lemmas.List.Elements.{All-append, All-drop, All-replicate, All-take}
 use Rattle.cell_line.specs.declared.element.Element.{Element}
+use Rattle.cell_line.specs.Lines.{FitsU32}
 use Rattle.cell_units.specs.declared.place.Shift.{Shift}
 use Rattle.cell_units.specs.Lawful.{IsWidth}
 use Rattle.cell_units.specs.Rows.{all_rows, rows_before}
 use Rattle.wrap_map.specs.Leads.{Leads, LeadsBy}
-use Rattle.wrap_map.specs.Standing.{AreReplaced, AreRowsOf, HaveRoom, IsStanding, IsSynced, Standing, Wrapped, all_at, shown_rows, standing_after, stood_of}
+use Rattle.wrap_map.specs.Standing.{AreReplaced, AreRowsOf, HasRoom, IsStanding, IsSynced, Standing, Wrapped, all_at, shown_rows, standing_after, stood_of}
 use Rattle.wrap_map.specs.Stood.{Stood, marks_in, rows_in}
 use Rattle.wrap_map.specs.inside.Changes.{AreRowsIfAny, AreRowsIn, cleared, cleared_if_any}
 use Rattle.wrap_map.proofs.Standings.{all-unwrapped, length-pairs, mapped-after, put-in, rows-lead, rows-stood, rows_before-stood, rows_in-unwrapped, rows_of-texts, stood, texts}
@@ -67,15 +68,19 @@ marks-stood (es ∷ lines) (m ∷ marks) h = ap (λ ms. m ∷ ms) (marks-stood l
 
 -- ---- lines after a replacement, if there was one
 
-pub standing-all : (lines : List (List Element)) (mark : ℕ) → IsWidth mark → HaveRoom lines → IsStanding (all_at mark lines)
-standing-all lines mark lawful room = record {
-  one_each = length-replicate (length lines) mark;
-  lawful = All-replicate IsWidth (length lines) mark lawful;
-  room = room;
-}
+pub standing-unwrapped : (lines : List (List Element)) → FitsU32 lines → IsStanding (all_at 0 lines)
+standing-unwrapped lines fits =
+    let n = length lines in
+    let rows = rows-stood (all_at 0 lines) ∙ ap rows_in (all-unwrapped lines n refl) ∙ rows_in-unwrapped n in
+    let few = fits.0 in
+    record {
+      one_each = length-replicate n 0;
+      lawful = All-replicate IsWidth n 0 (inl refl);
+      room = record { fits = fits; rows_fit = omega (arith, rows, few) };
+    }
 
 standing-shift : (s : Standing) (lines : List (List Element)) (below : Shift) → IsStanding s → Leads s.lines lines below.start below.end below.count
-    → HaveRoom lines → IsStanding (standing_after s lines (Some below))
+    → HasRoom (standing_after s lines (Some below)) → IsStanding (standing_after s lines (Some below))
 standing-shift s lines below is l room =
     let a = below.start in let b = below.end in let n = below.count in
     let order = below.ordered in
@@ -98,7 +103,7 @@ standing-shift s lines below is l room =
     }
 
 pub standing-after : (s : Standing) (lines : List (List Element)) (below : Option Shift) → IsStanding s → LeadsBy s.lines lines below
-    → HaveRoom lines → IsStanding (standing_after s lines below)
+    → HasRoom (standing_after s lines below) → IsStanding (standing_after s lines below)
 standing-after s lines None is l room = record { one_each = is.one_each ∙ ap length (sym l); lawful = is.lawful; room = room }
 standing-after s lines (Some below) is l room = standing-shift s lines below is l room
 
@@ -157,15 +162,15 @@ pub sync-stood : (s : Standing) (lines : List (List Element)) (below : Option Sh
 sync-stood s lines below ls h is l = ap (cleared_if_any below) h ∙ stood-after_any s lines below is l
 
 pub sync-fits : (s : Standing) (lines : List (List Element)) (below : Option Shift) (ls : List Stood) → ls ≡ stood_of s → IsStanding s
-    → LeadsBy s.lines lines below → HaveRoom lines → rows_in (cleared_if_any below ls) < 2 ^ 32
+    → LeadsBy s.lines lines below → HasRoom (standing_after s lines below) → rows_in (cleared_if_any below ls) < 2 ^ 32
 sync-fits s lines below ls h is l room =
     let after = standing_after s lines below in
     let e = ap rows_in (sync-stood s lines below ls h is l) in
     let rows = rows-stood after in
-    let fits = room.rows_fit after.marks (standing-after s lines below is l room).one_each in
+    let fits = room.rows_fit in
     omega (arith, e, rows, fits)
 
 pub sync-long : (s : Standing) (lines : List (List Element)) (below : Option Shift) (ls : List Stood) → ls ≡ stood_of s → IsStanding s
-    → LeadsBy s.lines lines below → HaveRoom lines → length (cleared_if_any below ls) ≡ length lines
+    → LeadsBy s.lines lines below → HasRoom (standing_after s lines below) → length (cleared_if_any below ls) ≡ length lines
 sync-long s lines below ls h is l room =
     ap length (sync-stood s lines below ls h is l) ∙ length-stood_of (standing_after s lines below) (standing-after s lines below is l room).one_each

@@ -11,9 +11,9 @@ syncing h = 170 * (h + 1)
 abbrev pub finding : ℕ → ℕ → ℕ
 finding n h = 130 * (n + 1) * (h + 1)
 
--- n lines are put in place, at most one by one
+-- n lines are put in one row each, and then in place, at most one by one
 abbrev pub landing : ℕ → ℕ → ℕ
-landing n h = 170 * (n + 1) * (h + 1)
+landing n h = 340 * (n + 1) * (h + 1)
 
 -- the runs of one mark other than 0 are listed: five seeks for each, and for the end
 abbrev pub listing : List ℕ → ℕ → ℕ

@@ -41,17 +41,16 @@ stood_of s = map (λ p. stood_with p.0 p.1) (zip s.lines s.marks)
 abbrev pub shown_rows : Standing → List (List (List ℕ))
 shown_rows s = map (λ p. row_texts_of p.0 p.1) (zip s.lines s.marks)
 
--- lines, cells and, at whatever marks the lines stand, rows are u32
-pub record HaveRoom (lines : List (List Element)) : Type 0 where
-  pub fits : FitsU32 lines
-  pub rows_fit : (marks : List ℕ) → length marks ≡ length lines
-      → length (all_rows (shown_rows (record { lines = lines; marks = marks }))) < 2 ^ 32
+-- lines, cells and rows are u32
+pub record HasRoom (s : Standing) : Type 0 where
+  pub fits : FitsU32 s.lines
+  pub rows_fit : length (all_rows (shown_rows s)) < 2 ^ 32
 
 -- each line has a lawful mark
 pub record IsStanding (s : Standing) : Type 0 where
   pub one_each : length s.marks ≡ length s.lines
   pub lawful : All IsWidth s.marks
-  pub room : HaveRoom s.lines
+  pub room : HasRoom s
 
 -- lines with the marks at which they stand
 abbrev pub standing_of : List (List Element) → List Stood → Standing

@@ -1,15 +1,18 @@
 //! Lines that land, in groups of neighbours.
-ghost use Rattle.std.specs.Prelude.{◌≡◌, ℕ, ◌+◌, ◌*◌, ◌^◌, ◌<◌, ◌≤◌, [], length, IfOk, IfSome, OnOk};
+ghost use Rattle.std.specs.Prelude.{◌≡◌, ℕ, ◌+◌, ◌*◌, ◌^◌, ◌<◌, ◌≤◌, [], All, length, map, IfOk, IfSome, OnOk};
 ghost use Rattle.edit_patch.specs.Came.{carry_of};
 ghost use Rattle.edit_patch.specs.Patch.{IsPatch};
 ghost use Rattle.sum_tree.specs.Bounds.{TakesAtMost};
-ghost use Rattle.wrap_map.specs.inside.Bounds.{closing, grouping};
-ghost use Rattle.wrap_map.specs.inside.Landings.{CanClose, begun, carried, closed_if_any, edit_between, end_of, moved_to, taken};
+ghost use Rattle.wrap_map.specs.inside.Bounds.{closing, grouping, putting_run};
+ghost use Rattle.edit_patch.specs.Fits.{Fits};
+ghost use Rattle.wrap_map.specs.Landing.{cuts_of_run, standing_landed};
+ghost use Rattle.wrap_map.specs.Standing.{StandSo, standing_of, stood_of};
+ghost use Rattle.wrap_map.specs.inside.Landings.{FitBetween, IsPut, CanClose, begun, carried, closed_if_any, edit_between, end_of, moved_to, taken};
 ghost use Rattle.wrap_map.specs.Stood.{Stood};
 
 use crate::stretch::Stretch;
 use crate::stretches::Stretches;
-use cell_line::Cuts;
+use cell_line::{Cuts, Lines, Run};
 use cell_units::{NoMemory, Steps};
 use edit_patch::{Edit, Patch};
 use std::alloc::Global;
@@ -208,4 +211,55 @@ fn edit_over(before: &Stretches, after: &Stretches, start: u32, end: u32, steps:
         new_start: after.rows_before(start, steps),
         new_end: after.rows_before(end, steps),
     }
+}
+
+/// The lines of a run that are still there, put at a mark with the cuts that the run's lines have there: all lines as they
+/// stand then, and the patch that replaces the rows of those.
+pub fn put_run<N: Lines>(
+    alloc: Global,
+    lines: &N,
+    from: &Stretches,
+    old: &N,
+    since: &Patch,
+    run: Run,
+    mark: u32,
+    wraps: &[Cuts],
+    steps: &mut Steps,
+) -> Result<(Stretches, Patch), NoMemory>
+    // How the lines stand, and what the run was.
+    requires stands { StandSo (N.elements_by_line lines.now) from.now }
+    requires since { Fits since.now (N.elements_by_line old.now) (N.elements_by_line lines.now) }
+    requires within { run.first + run.count ≤ length (N.elements_by_line old.now) }
+    requires wraps { let lines = N.elements_by_line old.now in
+        map (λ cuts. cuts.items) wraps.now ≡ cuts_of_run lines run mark }
+
+    // All lists between have u32 rows.
+    requires fits { let standing = standing_of (N.elements_by_line lines.now) from.now in
+        FitBetween from.now (stood_of (standing_landed since.now run mark standing)) }
+    ensures put { let standing = standing_of (N.elements_by_line lines.now) from.now in
+        IfOk result (λ made. IsPut standing since.now run mark made.0 made.1) }
+    ensures counted { steps.old ≤ steps.new }
+    ensures steps { TakesAtMost (putting_run run.count) (length from.now) steps.old steps.new }
+{
+    // The lines of the run are u32, and what `since` keeps in its type is what its edits ensure.
+    let _lines = old.lines();
+    let _edits = since.edits();
+    let mut landing = Landing::new(alloc, from.share()?);
+    for (place, cuts) in wraps.iter().enumerate() {
+        let line = run.first + place as u32;
+        landing.carry(alloc, from, since, line, mark, cuts, steps)?;
+    }
+    landing.finish(alloc, from, steps)
+}
+
+/// So many empty lists of cuts.
+pub fn no_cuts(alloc: Global, count: u32) -> Result<Vec<Cuts>, NoMemory>
+    ensures count { IfOk result (λ wraps. length wraps.items ≡ count) }
+    ensures empty { IfOk result (λ wraps. All (λ cuts. cuts.items ≡ []) wraps.items) }
+{
+    let mut wraps = Vec::new(alloc);
+    for _ in 0..count {
+        wraps.push(Cuts::new(alloc))?;
+    }
+    Ok(wraps)
 }

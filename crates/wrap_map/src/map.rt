@@ -1,16 +1,18 @@
 //! The map from lines to rows.
-ghost use Rattle.std.specs.Prelude.{◌≡◌, ◌+◌, ◌≤◌, [], length, map, IfErr, IfOk, OnErr, OnOk};
+ghost use Rattle.std.specs.Prelude.{◌≡◌, ◌+◌, ◌^◌, ◌<◌, ◌≤◌, [], length, map, IfErr, IfOk, IfSome, OnErr, OnOk};
+ghost use Rattle.cell_line.specs.Lines.{FitsU32};
 ghost use Rattle.cell_units.specs.Lawful.{IsWidth};
+ghost use Rattle.cell_units.specs.Rows.{all_rows};
 ghost use Rattle.edit_patch.specs.Fits.{Fits};
 ghost use Rattle.sum_tree.specs.Bounds.{ChangesAtMost, TakesAtMost};
 ghost use Rattle.wrap_map.specs.Bounds.{finding, landing, syncing};
 ghost use Rattle.wrap_map.specs.Leads.{LeadsBy};
 ghost use Rattle.wrap_map.specs.Items.{items_of};
-ghost use Rattle.wrap_map.specs.Landing.{IsLanded, cuts_of_run};
-ghost use Rattle.wrap_map.specs.Standing.{HaveRoom, IsSynced, all_at};
+ghost use Rattle.wrap_map.specs.Landing.{IsLanded, cuts_of_run, standing_landed};
+ghost use Rattle.wrap_map.specs.Standing.{HasRoom, IsSynced, all_at, shown_rows, standing_after};
 ghost use Rattle.wrap_map.specs.Waiting.{AreApart, IsNextIfAny};
 
-use crate::landing::Landing;
+use crate::landing::{no_cuts, put_run};
 use crate::replacing::replaced_if_any;
 use crate::snapshot::WrapSnapshot;
 use crate::stretches::Stretches;
@@ -51,7 +53,7 @@ impl<N: Lines> WrapMap<N> {
         steps: &mut Steps,
     ) -> Result<WrapMap<N>, NoMemory>
         requires lawful { IsWidth width }
-        requires room { HaveRoom (N.elements_by_line lines) }
+        requires fits { FitsU32 (N.elements_by_line lines) }
         ensures made { let standing = all_at 0 (N.elements_by_line lines) in
             IfOk result (λ map. map ≡ record { standing = standing; width = width }) }
         ensures counted { steps.old ≤ steps.new }
@@ -89,7 +91,7 @@ impl<N: Lines> WrapMap<N> {
         steps: &mut Steps,
     ) -> Result<(WrapSnapshot<N>, Option<Shift>), NoMemory>
         requires leads { LeadsBy self.old.standing.lines (N.elements_by_line lines) below }
-        requires room { HaveRoom (N.elements_by_line lines) }
+        requires room { HasRoom (standing_after self.old.standing (N.elements_by_line lines) below) }
         // The lines, and the rows of those that were replaced.
         ensures synced { let now = N.elements_by_line lines in
             IfOk result (λ made. IsSynced self.old now below self.new made.0 made.1) }
@@ -115,6 +117,7 @@ impl<N: Lines> WrapMap<N> {
     pub fn next_run(&self, out: &[Run], steps: &mut Steps) -> Option<Run>
         requires { AreApart out.now }
         ensures next { IsNextIfAny self.now.standing.marks self.now.width out.now result }
+        ensures within { IfSome result (λ run. run.first + run.count ≤ length self.now.standing.lines) }
         ensures counted { steps.old ≤ steps.new }
         ensures steps { let lines = self.now.standing.lines in
             TakesAtMost (finding (length out.now)) (length lines) steps.old steps.new }
@@ -138,6 +141,9 @@ impl<N: Lines> WrapMap<N> {
         requires within { run.first + run.count ≤ length (N.elements_by_line old.now) }
         requires wraps { let lines = N.elements_by_line old.now in
             map (λ cuts. cuts.items) wraps.now ≡ cuts_of_run lines run width }
+        requires rows_fit { width ≡ self.old.width →
+            let landed = standing_landed since.now run width self.old.standing in
+            length (all_rows (shown_rows landed)) < 2 ^ 32 }
         // At the present width the lines that the run still has stand at it; at another nothing changes.
         ensures landed { width ≡ self.old.width → IfOk result (IsLanded self.old since.now run self.new) }
         ensures other_width { (width ≡ self.old.width → ⊥) → IfOk result (λ patch. patch ≡ []) }
@@ -149,18 +155,27 @@ impl<N: Lines> WrapMap<N> {
         ensures steps { let lines = self.old.standing.lines in
             TakesAtMost (landing run.count) (length lines) steps.old steps.new }
     {
-        // The lines of the run are u32, and what `since` keeps in its type is what its edits ensure.
-        let _lines = old.lines();
-        let _edits = since.edits();
         if width != self.width {
             return Ok(Patch::none(alloc));
         }
-        let mut landing = Landing::new(alloc, self.stretches.share()?);
-        for (place, cuts) in wraps.iter().enumerate() {
-            let line = run.first + place as u32;
-            landing.carry(alloc, &self.stretches, since, line, width, cuts, steps)?;
-        }
-        let (stretches, patch) = landing.finish(alloc, &self.stretches, steps)?;
+        // Rows fall before they rise: at no time are there more of them than before and after.
+        let none = no_cuts(alloc, run.count)?;
+        let lines = &self.lines;
+        let (cleared, falls) = put_run(
+            alloc,
+            lines,
+            &self.stretches,
+            old,
+            since,
+            run,
+            0,
+            none.as_slice(),
+            steps,
+        )?;
+        let (stretches, rises) = put_run(
+            alloc, lines, &cleared, old, since, run, width, wraps, steps,
+        )?;
+        let patch = falls.compose(alloc, &rises)?;
         self.stretches = stretches;
         Ok(patch)
     }

@@ -26,6 +26,10 @@ closing k h = putting k h + 4 * way h
 abbrev pub grouping : ℕ → ℕ
 grouping h = 170 * (h + 1)
 
+-- n lines of a run are put, at most one by one
+abbrev pub putting_run : ℕ → ℕ → ℕ
+putting_run n h = 170 * (n + 1) * (h + 1)
+
 -- one seek for each line of a run but its first
 abbrev pub looking : ℕ → ℕ
 looking h = 127 * way h

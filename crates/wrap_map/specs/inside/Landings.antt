@@ -1,8 +1,11 @@
 -- How lines land: neighbours that land are a group, which is put in place at once.
-use Rattle.std.specs.Prelude.{◌≡◌, ℕ, ◌+◌, ◌<◌, ◌≤◌, ◌^◌, ◌==◌, if◌then◌else◌, List, [], ◌∷◌, ◌++◌, length, take}
+use Rattle.std.specs.Prelude.{◌≡◌, ℕ, ◌+◌, ◌<◌, ◌≤◌, ◌^◌, ◌==◌, if◌then◌else◌, List, [], ◌∷◌, ◌++◌, length, take, drop}
 use Rattle.std.specs.Option.{option_map_or}
 use Rattle.edit_patch.specs.declared.edit.Edit.{Edit}
 use Rattle.edit_patch.specs.Came.{carry_of, edit_of}
+use Rattle.cell_line.specs.declared.lines.Run.{Run}
+use Rattle.wrap_map.specs.Landing.{IsPatchOfLanded, standing_landed}
+use Rattle.wrap_map.specs.Standing.{Standing, stood_of}
 use Rattle.wrap_map.specs.Stood.{Stood, put_in, rows_in}
 
 -- lines with all groups that are closed in place, the edits of their rows, and the open group: lines from `start` on
@@ -67,3 +70,13 @@ pub record CanClose (before : List Stood) (l : Landings) : Type 0 where
   pub within : end_of l ≤ length l.lines
   pub lines_fit : length l.lines < 2 ^ 32
   pub rows_fit : rows_in (with_group l) < 2 ^ 32
+
+-- whichever of the lines stand as they do after it, and those behind them as before, their rows are u32
+abbrev pub FitBetween : List Stood → List Stood → Type 0
+FitBetween before after = (d : ℕ) → d ≤ length before → rows_in (take d after ++ drop d before) < 2 ^ 32
+
+-- the lines of the run stand at the mark, and the patch replaces their rows
+pub record IsPut (s : Standing) (since : List Edit) (run : Run) (mark : ℕ)
+    (lines : List Stood) (patch : List Edit) : Type 0 where
+  pub lines_are : lines ≡ stood_of (standing_landed since run mark s)
+  pub rows : IsPatchOfLanded s (standing_landed since run mark s) since run patch

@@ -1,6 +1,6 @@
 use Rattle.std.proofs.Common.{refl, arith}
 use Rattle.wrap_map.specs.Standing.{Standing, standing_of}
-use Rattle.wrap_map.proofs.Calls.{leads-now, sync-kept, sync-lengths, sync-synced}
+use Rattle.wrap_map.proofs.Calls.{leads-now, room-now, sync-kept, sync-lengths, sync-synced}
 use Rattle.wrap_map.proofs.Synced.{sync-fits, sync-within}
 use Rattle.wrap_map.proofs.map.WrapMap.sync.Goals as goal
 
@@ -18,7 +18,8 @@ replaced_if_any-requires-clause-rows_fit g c =
     let s : Standing = standing_of (g.N.Lines.elements_by_line m.lines) m.stretches in
     let lines = g.N.Lines.elements_by_line c.args.lines in
     sync-fits s lines c.args.below m.stretches c.self.invariant.0.1 c.self.invariant.0.0
-    (leads-now c.args.self.now s m.width lines c.args.below c.self.view_is c.requires.leads) c.requires.room
+    (leads-now c.args.self.now s m.width lines c.args.below c.self.view_is c.requires.leads)
+    (room-now c.args.self.now s m.width lines c.args.below c.self.view_is c.requires.room)
 
 pub returns-in_err-stretches-clause-steps : goal.returns-in_err-stretches-clause-steps
 returns-in_err-stretches-clause-steps g c h old new =

@@ -1,14 +1,14 @@
 use Rattle.std.proofs.Common.{ℕ, ◌+◌, ◌*◌, ◌^◌, ◌<◌, ◌≤◌, length}
 use Rattle.wrap_map.specs.Standing.{Standing, standing_of}
 use Rattle.wrap_map.proofs.Carried.{IsLandingTo}
-use Rattle.wrap_map.proofs.map.WrapMap.land.Given as goal
+use Rattle.wrap_map.proofs.landing.put_run.Given as goal
 
 abbrev pub invariant-loop-place : goal.invariant-loop-place
 invariant-loop-place g l =
-    let s : Standing = standing_of (g.N.Lines.elements_by_line l.self-inside.lines) l.self-inside.stretches in
+    let s : Standing = standing_of (g.N.Lines.elements_by_line l.lines) l.from in
     record {
-      landing : IsLandingTo s l.since l.run l.width l.landing (l.run.first + l.place);
+      landing : IsLandingTo s l.since l.run l.mark l.landing (l.run.first + l.place);
       counted : l.fn.steps ≤ l.steps;
-      steps : (h : ℕ) → length l.self-inside.stretches < 2 * 6 ^ (h + 1)
+      steps : (h : ℕ) → length l.from < 2 * 6 ^ (h + 1)
           → l.steps + 4 * length l.landing.fresh ≤ l.fn.steps + l.place * (170 * (h + 1));
     }
