@@ -20,6 +20,7 @@ pub mod PiecesFound
 pub mod PiecesShown
 pub mod Places
 pub mod Refusals
+pub mod ReplacedTexts
 pub mod Respliced
 pub mod RowsShown
 pub mod ShownBoundaries

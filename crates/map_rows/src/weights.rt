@@ -92,7 +92,7 @@ impl Dimension<Tally> for u64 {
 pub struct AtLeast(pub u32);
 
 impl Probe<Weight> for AtLeast {
-    ghost use Rattle.std.specs.Prelude.{nat_le, refl};
+    ghost use Rattle.std.specs.Prelude.{◌+◌, nat_le, refl};
     ghost use Rattle.map_rows.specs.Weights.{all-lighter};
     ghost use Rattle.map_rows.specs.declared.weights.Tally.{Tally};
     ghost use Rattle.map_rows.specs.declared.weights.Weight.{Weight};
@@ -102,7 +102,10 @@ impl Probe<Weight> for AtLeast {
     ghost may_pass = { λ probe sum. nat_le probe.0 sum.total };
 
     ghost may_skip = { λ probe items light.
-        all-lighter _ _ _ (λ (s : Tally). s.total) (λ (w : Weight). w.0) (λ a b. refl) (λ w. refl) probe.0 items light };
+        let none : Tally = record { items = 0; total = 0 } in
+        let both = λ (a b : Tally). record { items = a.items + b.items; total = a.total + b.total } in
+        let tally = λ (w : Weight). record { items = 1; total = w.0 } in
+        all-lighter none both tally (λ s. s.total) (λ w. w.0) (λ a b. refl) (λ w. refl) probe.0 items light };
 
     fn passes(&self, item: &Weight) -> bool {
         self.0 <= item.0

@@ -1,5 +1,5 @@
 -- A landing in two steps: first the lines that land are put in one row each, and then they stand at the width.
-use Rattle.std.proofs.Common.{◌≡◌, ◌⊎◌, inl, inr, ⊎_elim, ℕ, zero, suc, ◌+◌, ◌-◌, ◌<◌, ◌≤◌, ◌^◌, Bool, true, false, cond, List, [], ◌∷◌, ◌++◌, All, length, map, take, drop, get_or, replicate, Option, Some, None, refl, ap, sym, subst, ◌∙◌, arith}
+use Rattle.std.proofs.Common.{◌≡◌, inl, ⊎_elim, ℕ, zero, suc, ◌+◌, ◌<◌, ◌≤◌, ◌^◌, true, false, List, [], ◌∷◌, All, length, map, take, drop, get_or, replicate, Some, None, refl, ap, sym, subst, ◌∙◌, arith}
 use Rattle.std.specs.Prelude.{option_and_then}
 use Rattle.std.proofs.lemmas.Bool.{cases_Bool, cases_lt, cond-true, cond-false}
 use Rattle.std.proofs.Math.ListN.{get_or-eq_default}
@@ -9,19 +9,18 @@ use Rattle.cell_line.specs.declared.element.Element.{Element}
 use Rattle.cell_line.specs.declared.lines.Run.{Run}
 use Rattle.cell_line.specs.Lines.{line_at}
 use Rattle.cell_line.specs.Wrapping.{cuts_of}
-use Rattle.cell_units.specs.Lawful.{IsWidth}
-use Rattle.cell_units.specs.Rows.{all_rows, line_rows, rows_before}
+use Rattle.cell_units.specs.Rows.{all_rows, rows_before}
 use Rattle.edit_patch.specs.declared.edit.Edit.{Edit}
 use Rattle.edit_patch.specs.Came.{origin_of}
 use Rattle.edit_patch.specs.Fits.{Fits}
 use Rattle.edit_patch.specs.Patch.{AllFit, IsComposed}
 use Rattle.edit_patch.proofs.Fitting.{fits-composed, fits-u32}
-use Rattle.wrap_map.specs.Landing.{IsPatchOfLanded, cuts_of_run, is_landed, marks_landed, row_origin, standing_landed}
-use Rattle.wrap_map.specs.Standing.{HasRoom, IsStanding, StandSo, Standing, Wrapped, shown_rows, standing_of, stood_of}
+use Rattle.wrap_map.specs.Landing.{IsPatchOfLanded, cuts_of_run, is_landed, marks_landed, standing_landed}
+use Rattle.wrap_map.specs.Standing.{IsStanding, StandSo, Standing, Wrapped, shown_rows, standing_of, stood_of}
 use Rattle.wrap_map.specs.Stood.{Stood, rows_in, stood_at, unwrapped}
 use Rattle.wrap_map.specs.inside.Landings.{FitBetween, IsPut}
 use Rattle.wrap_map.proofs.Calls.{kept-as, map_of, seen-as, standing-landed}
-use Rattle.wrap_map.proofs.Carried.{landed-plan, landed-stood, landed_standing, length-marks_landed, mark-landed, stood-at}
+use Rattle.wrap_map.proofs.Carried.{landed-plan, landed-stood, landed_standing, length-marks_landed, mark-landed}
 use Rattle.wrap_map.proofs.Landed.{texts-kept}
 use Rattle.wrap_map.proofs.Spreads.{rows-append}
 use Rattle.wrap_map.proofs.Standings.{cuts-unwrapped, rows-stood}

@@ -1,9 +1,8 @@
 -- What each step of a landing needs and gives, by the lines and the run.
-use Rattle.std.proofs.Common.{◌≡◌, ℕ, ◌+◌, ◌<◌, ◌≤◌, ◌^◌, List, ◌++◌, length, map, take, drop, Option, Some, None, refl, ap, sym, subst, ◌∙◌, arith, length-append, length-drop}
+use Rattle.std.proofs.Common.{◌≡◌, ℕ, ◌+◌, ◌<◌, ◌≤◌, ◌^◌, List, ◌++◌, length, drop, Option, Some, None, refl, ap, sym, subst, ◌∙◌, arith}
 use Rattle.std.specs.Prelude.{IfSome}
-use Rattle.std.specs.List.{zip}
 use Rattle.std.specs.Option.{option_map_or}
-use Rattle.std.proofs.lemmas.List.{append-nil, drop_all, length-take-le, map-append, take-append-drop, take-map, drop-map, take_all}
+use Rattle.std.proofs.lemmas.List.{append-nil, drop_all, take_all}
 use Rattle.cell_line.specs.declared.element.Element.{Element}
 use Rattle.cell_line.specs.declared.lines.Run.{Run}
 use Rattle.cell_line.specs.Lines.{line_at}
@@ -13,15 +12,15 @@ use Rattle.edit_patch.specs.Came.{carry_of}
 use Rattle.edit_patch.specs.Fits.{Fits}
 use Rattle.edit_patch.specs.Patch.{IsPatch}
 use Rattle.edit_patch.proofs.Inverse.{forth}
-use Rattle.wrap_map.specs.Landing.{IsPatchOfLanded, is_landed}
+use Rattle.wrap_map.specs.Landing.{is_landed}
 use Rattle.wrap_map.specs.Standing.{Standing, stood_of, stood_with}
 use Rattle.wrap_map.specs.Stood.{Stood, rows_in}
 use Rattle.wrap_map.specs.inside.Landings.{CanClose, FitBetween, IsPut, Landings, carried, closed_if_any, end_of, taken, with_group}
 use Rattle.wrap_map.proofs.Carried.{IsLandingTo, came-same, came-within, landed-from, landed-plan, landed-stood, landed_standing, landing-none, landing-some, landing-within, length-marks_landed, none-behind}
 use Rattle.wrap_map.proofs.Groups.{all-done, finished-done, group-mixed}
 use Rattle.wrap_map.proofs.Landed.{patch-of_landed}
-use Rattle.wrap_map.proofs.Standings.{rows-stood, stood, zip-append, zip-drop, zip-take}
-use Rattle.wrap_map.proofs.StoodRows.{length-mixed, mixed, rows-next, rows-span}
+use Rattle.wrap_map.proofs.Standings.{stood}
+use Rattle.wrap_map.proofs.StoodRows.{length-mixed, rows-next, rows-span}
 use Rattle.wrap_map.proofs.Synced.{length-stood_of}
 
 -- the rows after it fit, where those between do

@@ -180,7 +180,8 @@ impl Landing {
         ensures lines { IfOk result (λ made. made.0 ≡ (closed_if_any before.now self).lines) }
         ensures edits { IfOk result (λ made. made.1 ≡ (closed_if_any before.now self).edits) }
         ensures counted { steps.old ≤ steps.new }
-        ensures steps { TakesAtMost (closing (length self.fresh)) (length before.now) steps.old steps.new }
+        ensures steps { let waiting = length self.fresh in
+            TakesAtMost (closing waiting) (length before.now) steps.old steps.new }
     {
         let mut landing = self;
         landing.close(alloc, before, steps)?;

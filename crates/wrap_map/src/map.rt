@@ -71,7 +71,8 @@ impl<N: Lines> WrapMap<N> {
     pub fn set_width(&mut self, width: u32) -> Result<(), Refusal>
         ensures set { OnOk result (self.new ≡ record self.old { width = width }) }
         ensures accepted { OnOk result (IsWidth width) }
-        ensures refused { IfErr result (λ refusal. (refusal ≡ Refusal.BadNumber) × (¬ IsWidth width)) }
+        ensures refused { OnErr result (¬ IsWidth width) }
+        ensures refusal { IfErr result (λ refusal. refusal ≡ Refusal.BadNumber) }
         ensures unchanged { OnErr result (self.new ≡ self.old) }
     {
         if width != 0 && (width < LEAST_WIDTH || width > WIDTH_LIMIT) {
@@ -91,7 +92,8 @@ impl<N: Lines> WrapMap<N> {
         steps: &mut Steps,
     ) -> Result<(WrapSnapshot<N>, Option<Shift>), NoMemory>
         requires leads { LeadsBy self.old.standing.lines (N.elements_by_line lines) below }
-        requires room { HasRoom (standing_after self.old.standing (N.elements_by_line lines) below) }
+        requires room { let now = N.elements_by_line lines in
+            HasRoom (standing_after self.old.standing now below) }
         // The lines, and the rows of those that were replaced.
         ensures synced { let now = N.elements_by_line lines in
             IfOk result (λ made. IsSynced self.old now below self.new made.0 made.1) }
@@ -117,7 +119,8 @@ impl<N: Lines> WrapMap<N> {
     pub fn next_run(&self, out: &[Run], steps: &mut Steps) -> Option<Run>
         requires { AreApart out.now }
         ensures next { IsNextIfAny self.now.standing.marks self.now.width out.now result }
-        ensures within { IfSome result (λ run. run.first + run.count ≤ length self.now.standing.lines) }
+        ensures within { let lines = self.now.standing.lines in
+            IfSome result (λ run. run.first + run.count ≤ length lines) }
         ensures counted { steps.old ≤ steps.new }
         ensures steps { let lines = self.now.standing.lines in
             TakesAtMost (finding (length out.now)) (length lines) steps.old steps.new }
@@ -145,7 +148,8 @@ impl<N: Lines> WrapMap<N> {
             let landed = standing_landed since.now run width self.old.standing in
             length (all_rows (shown_rows landed)) < 2 ^ 32 }
         // At the present width the lines that the run still has stand at it; at another nothing changes.
-        ensures landed { width ≡ self.old.width → IfOk result (IsLanded self.old since.now run self.new) }
+        ensures landed { width ≡ self.old.width →
+            IfOk result (IsLanded self.old since.now run self.new) }
         ensures other_width { (width ≡ self.old.width → ⊥) → IfOk result (λ patch. patch ≡ []) }
         ensures kept { (width ≡ self.old.width → ⊥) → self.new ≡ self.old }
         ensures unchanged { OnErr result (self.new ≡ self.old) }

@@ -1,4 +1,4 @@
-use Rattle.std.proofs.Common.{◌≡◌, ℕ, ◌+◌, ◌*◌, ◌^◌, ◌<◌, ◌≤◌, ◌∙◌, length, map, ap, sym, subst, refl, arith}
+use Rattle.std.proofs.Common.{◌≡◌, ◌∙◌, length, map, ap, sym, subst, refl, arith}
 use Rattle.cell_units.specs.Lawful.{IsWidth}
 use Rattle.wrap_map.specs.Landing.{cuts_of_run, standing_landed}
 use Rattle.wrap_map.specs.Standing.{Standing, standing_of}

@@ -1,4 +1,4 @@
-use Rattle.std.proofs.Common.{◌≡◌, ℕ, ◌∙◌, List, length, replicate, refl, ap, sym, inl}
+use Rattle.std.proofs.Common.{◌≡◌, ℕ, ◌∙◌, List, length, replicate, refl, ap, sym}
 use Rattle.cell_line.specs.declared.element.Element.{Element}
 use Rattle.wrap_map.specs.Standing.{all_at, stood_of}
 use Rattle.wrap_map.specs.Stood.{Stood, unwrapped}
