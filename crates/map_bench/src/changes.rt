@@ -67,8 +67,8 @@ pub fn letters_at_inlays(
     Ok(Layer::length(&layer) as u64)
 }
 
-/// Adds inlays far from each other, with ids from this one on.
-pub fn add_from(
+/// Adds inlays far from each other, with ids from this one up.
+pub fn add_up_from(
     alloc: Global,
     laid: &mut Laid,
     first: u32,
@@ -78,12 +78,26 @@ pub fn add_from(
     let mut layer = laid.show(alloc, steps)?;
     let bytes = layer.buffer_len();
     for turn in 0..times {
-        laid.add(
-            alloc,
-            first.wrapping_add(turn),
-            scattered(turn, bytes),
-            steps,
-        )?;
+        let id = first.wrapping_add(turn);
+        laid.add(alloc, id, scattered(turn, bytes), steps)?;
+        layer = laid.show(alloc, steps)?;
+    }
+    Ok(Layer::length(&layer) as u64)
+}
+
+/// The same with ids from this one down.
+pub fn add_down_from(
+    alloc: Global,
+    laid: &mut Laid,
+    first: u32,
+    times: u32,
+    steps: &mut Steps,
+) -> Result<u64, Fault> {
+    let mut layer = laid.show(alloc, steps)?;
+    let bytes = layer.buffer_len();
+    for turn in 0..times {
+        let id = first.wrapping_sub(turn);
+        laid.add(alloc, id, scattered(turn, bytes), steps)?;
         layer = laid.show(alloc, steps)?;
     }
     Ok(Layer::length(&layer) as u64)

@@ -41,6 +41,7 @@ enum Task {
     Backs,
     Above,
     Below,
+    Between,
     First,
     Last,
     Shares,
@@ -83,6 +84,7 @@ impl Task {
             "backs" => Task::Backs,
             "above" => Task::Above,
             "below" => Task::Below,
+            "between" => Task::Between,
             "first" => Task::First,
             "last" => Task::Last,
             "shares" => Task::Shares,
@@ -103,8 +105,10 @@ fn play(alloc: Global, laid: &mut Laid, order: &Order, steps: &mut Steps) -> Res
         Task::Build => Ok(order.inlays as u64),
         Task::Check => looks::check(alloc, laid, order.inlays, steps),
         Task::Letters | Task::Scattered | Task::Met => edit(alloc, laid, order, steps),
-        Task::Above | Task::Below | Task::First | Task::Last => note(alloc, laid, order, steps),
-        _ => Ok(ask(&laid.show(alloc, steps)?, order)?),
+        Task::Boundaries | Task::Places | Task::Points | Task::Backs | Task::Shares => {
+            Ok(ask(&laid.show(alloc, steps)?, order)?)
+        }
+        _ => note(alloc, laid, order, steps),
     }
 }
 
@@ -121,8 +125,9 @@ fn edit(alloc: Global, laid: &mut Laid, order: &Order, steps: &mut Steps) -> Res
 fn note(alloc: Global, laid: &mut Laid, order: &Order, steps: &mut Steps) -> Result<u64, Fault> {
     let above = FIRST.wrapping_add(order.inlays);
     match order.task {
-        Task::Above => changes::add_from(alloc, laid, above, order.times, steps),
-        Task::Below => changes::add_from(alloc, laid, 0, order.times, steps),
+        Task::Above => changes::add_up_from(alloc, laid, above, order.times, steps),
+        Task::Below => changes::add_down_from(alloc, laid, FIRST - 1, order.times, steps),
+        Task::Between => changes::add_up_from(alloc, laid, 0, order.times, steps),
         Task::First => changes::remove_first(alloc, laid, order.times, steps),
         _ => changes::remove_last(alloc, laid, order.inlays, order.times, steps),
     }
