@@ -103,8 +103,9 @@ impl Probe<Weight> for AtLeast {
 
     ghost may_skip = { λ probe items light.
         let none : Tally = record { items = 0; total = 0 } in
-        let both = λ (a b : Tally). record { items = a.items + b.items; total = a.total + b.total } in
-        let tally = λ (w : Weight). record { items = 1; total = w.0 } in
+        let both : Tally → Tally → Tally =
+        λ a b. record { items = a.items + b.items; total = a.total + b.total } in
+        let tally : Weight → Tally = λ w. record { items = 1; total = w.0 } in
         all-lighter none both tally (λ s. s.total) (λ w. w.0) (λ a b. refl) (λ w. refl) probe.0 items light };
 
     fn passes(&self, item: &Weight) -> bool {
