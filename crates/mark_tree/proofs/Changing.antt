@@ -175,8 +175,11 @@ module _ {P : Type 0} where
     distinct = λ n. omega (arith, count-filter (lacks_placed_id id) (has_placed_id n) ps, o.distinct n);
   }
 
-pub add-steps : (h n s₀ s₁ s₂ s₃ : ℕ) → 5 * s₁ ≤ 5 * s₀ + (n + 5) → s₂ ≤ s₁ + 32 * (h + 1) → s₃ ≤ s₂ + (162 * h + (89 + 4 * (1 + 2))) → 5 * s₃ ≤ 5 * s₀ + ((n + 1) + 5 * (200 * (h + 1)))
-add-steps h n s₀ s₁ s₂ s₃ a b c = omega arith
+pub put-steps : (h s₀ s₁ s₂ : ℕ) → s₁ ≤ s₀ + 34 * (h + 1) → s₂ ≤ s₁ + (162 * h + (89 + 4 * (1 + 2))) → s₂ ≤ s₀ + 196 * (h + 1)
+put-steps h s₀ s₁ s₂ a b = omega arith
+
+pub add-steps : (h n s₀ s₁ s₂ : ℕ) → 5 * s₁ ≤ 5 * s₀ + (n + 5) → s₂ ≤ s₁ + 196 * (h + 1) → 5 * s₂ ≤ 5 * s₀ + ((n + 1) + 5 * (200 * (h + 1)))
+add-steps h n s₀ s₁ s₂ a b = omega arith
 
 pub take-steps : (h n s₀ s₁ s₂ : ℕ) → 5 * s₁ ≤ 5 * s₀ + (n + 5) → s₂ ≤ s₁ + (163 * h + 98) → 5 * s₂ ≤ 5 * s₀ + (n + 5 * (200 * (h + 1)))
 take-steps h n s₀ s₁ s₂ a b = omega arith

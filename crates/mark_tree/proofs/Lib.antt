@@ -3,6 +3,7 @@ pub mod Coding
 pub mod Finding
 pub mod FirstReaching
 pub mod Grouped
+pub mod KeyPlaces
 pub mod LeftOver
 pub mod MarkViews
 pub mod Moved

@@ -6,9 +6,9 @@ use Rattle.std.specs.Prelude.{ℕ, ◌+◌, ◌*◌, ◌^◌, ◌<◌, ◌≤◌
 abbrev pub SearchesAndTakes : (ℕ → ℕ) → ℕ → ℕ → ℕ → Type 0
 SearchesAndTakes cost n old new = (h : ℕ) → n < 2 * 6 ^ (h + 1) → 5 * new ≤ 5 * old + (n + 5 * cost h)
 
--- A place in order is found by halving: at most 32 ways down.
+-- A place in order is found by two ways down to those at its offset, and by halving among these: at most 34 ways.
 abbrev pub halving : ℕ → ℕ
-halving h = 32 * (h + 1)
+halving h = 34 * (h + 1)
 
 -- k things in the place of others: two ways down to what stands before and behind, and one replacement of k + 1 entries.
 abbrev pub splicing : ℕ → ℕ → ℕ
@@ -18,7 +18,11 @@ splicing k h = 162 * h + (89 + 4 * (k + 2))
 abbrev pub taking : ℕ → ℕ
 taking h = 163 * h + 98
 
--- One thing added or taken off: its place is found and its neighbours are spliced.
+-- One thing put in order: its place is found and its neighbours are spliced.
+abbrev pub adding : ℕ → ℕ
+adding h = 196 * (h + 1)
+
+-- One thing added or taken off by its id, which is sought before.
 abbrev pub changing : ℕ → ℕ
 changing h = 200 * (h + 1)
 

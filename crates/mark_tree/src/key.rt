@@ -12,7 +12,7 @@ use sum_core::Load;
 /// By what things are sorted.
 #[derive(Clone, Copy, PartialEq, Eq, PartialOrd, Ord)]
 pub(crate) struct Key {
-    offset: u32,
+    pub(crate) offset: u32,
     bias: u8,
     length: u32,
     id: u32,

@@ -3,7 +3,7 @@ ghost use Rattle.std.specs.Prelude.{◌≡◌, ℕ, ◌+◌, ◌*◌, ◌^◌, �
 ghost use Rattle.std.specs.List.{list_any, position_or_len};
 ghost use Rattle.cell_units.specs.Sorting.{insert_by};
 ghost use Rattle.sum_tree.specs.Bounds.{Searches, TakesAtMost, way};
-ghost use Rattle.mark_tree.specs.Bounds.{SearchesAndTakes, changing, halving, moving, taking};
+ghost use Rattle.mark_tree.specs.Bounds.{SearchesAndTakes, adding, changing, halving, moving, taking};
 ghost use Rattle.mark_tree.specs.Marks.{IsMarkList, IsRefusedFor, has_id, is_met, is_not_before, lacks_id, mark_le, mark_with, move_mark, moved_marks};
 
 use crate::entry::Placed;
@@ -145,6 +145,28 @@ impl<P: Load> MarkTree<P> {
             load: mark.load,
         };
         self.marks.add(alloc, placed, steps)
+    }
+
+    /// Adds a mark of an id that isn't there, and answers its place. It seeks no id.
+    pub fn put(&mut self, alloc: Global, mark: Mark<P>, steps: &mut Steps) -> Result<u32, NoMemory>
+        requires small { length self.old + 1 < 2 ^ 32 }
+        requires fresh { list_any (has_id mark.id) self.old ≡ false }
+        ensures ok { OnOk result (self.new ≡ insert_by mark_le mark self.old) }
+        ensures place { IfOk result (λ at.
+            self.new ≡ take at self.old ++ mark ∷ drop at self.old) }
+        ensures within { IfOk result (λ at. at ≤ length self.old) }
+        ensures err { OnErr result (self.new ≡ self.old) }
+        ensures counted { steps.old ≤ steps.new }
+        ensures steps { TakesAtMost adding (length self.old + 1) steps.old steps.new }
+    {
+        let placed = Placed {
+            offset: mark.offset,
+            bias: mark.bias,
+            length: 0,
+            id: mark.id,
+            load: mark.load,
+        };
+        self.marks.put(alloc, placed, steps)
     }
 
     /// Takes the mark of this id off the tree, and answers the place at which it stood with it. `UnknownId` exactly where

@@ -3,7 +3,7 @@ ghost use Rattle.std.specs.Prelude.{◌≡◌, ℕ, ◌+◌, ◌*◌, ◌^◌, �
 ghost use Rattle.cell_units.specs.Sorting.{insert_by};
 ghost use Rattle.std.specs.List.{list_any};
 ghost use Rattle.sum_tree.specs.Bounds.{TakesAtMost, way};
-ghost use Rattle.mark_tree.specs.Bounds.{SearchesAndTakes, changing, halving, taking};
+ghost use Rattle.mark_tree.specs.Bounds.{SearchesAndTakes, adding, changing, halving, taking};
 ghost use Rattle.mark_tree.specs.declared.entry.Placed.{Placed};
 ghost use Rattle.mark_tree.specs.Entries.{IsCodable, end_at};
 ghost use Rattle.mark_tree.specs.Marks.{IsRefusedFor};
@@ -55,8 +55,9 @@ impl<P: Load> Spaced<P> {
         ensures counted { steps.old ≤ steps.new }
         ensures steps { TakesAtMost halving (length self.now) steps.old steps.new }
     {
-        let mut low = 0;
-        let mut high = self.len();
+        // Things at other offsets come before or behind by these.
+        let mut low = self.first_at(key.offset as u64, steps);
+        let mut high = self.first_at(key.offset as u64 + 1, steps);
         while low < high {
             let middle = low + (high - low) / 2;
             let is_less = self.key_at(middle, steps).cmp(&key).is_lt();
@@ -93,6 +94,29 @@ impl<P: Load> Spaced<P> {
         if self.find_id(fresh.id, steps).is_some() {
             return Err(Fault::Refused(Refusal::IdInUse));
         }
+        Ok(self.put(alloc, fresh, steps)?)
+    }
+
+    /// Adds a thing in order whose id isn't there, and answers its place.
+    pub(crate) fn put(
+        &mut self,
+        alloc: Global,
+        fresh: Placed<P>,
+        steps: &mut Steps,
+    ) -> Result<u32, NoMemory>
+        requires ordered { IsOrdered self.old }
+        requires end { end_at fresh < 2 ^ 32 }
+        requires small { length self.old + 1 < 2 ^ 32 }
+        requires fresh { list_any (has_placed_id fresh.id) self.old ≡ false }
+        ensures ok { OnOk result (self.new ≡ insert_by placed_le fresh self.old) }
+        ensures place { IfOk result (λ at.
+            self.new ≡ take at self.old ++ fresh ∷ drop at self.old) }
+        ensures within { IfOk result (λ at. at ≤ length self.old) }
+        ensures err { OnErr result (self.new ≡ self.old) }
+        ensures ordered { IsOrdered self.new }
+        ensures counted { steps.old ≤ steps.new }
+        ensures steps { TakesAtMost adding (length self.old + 1) steps.old steps.new }
+    {
         // The number of things is a u32, and so is each place.
         let _count = self.len();
         let at = self.place_for(fresh.key(), steps);

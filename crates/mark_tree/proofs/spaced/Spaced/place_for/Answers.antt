@@ -4,21 +4,28 @@ use Rattle.std.proofs.Math.Nat.{mul-le-mul_left}
 use Rattle.mark_tree.specs.declared.entry.Placed.{Placed}
 use Rattle.mark_tree.specs.Order.{placed_le, key_le, key_of}
 use Rattle.mark_tree.proofs.Finding.{steps-more, above-before, halved}
+use Rattle.mark_tree.proofs.Moved.{places-in_order}
+use Rattle.mark_tree.proofs.KeyPlaces.{key_le-before, key_le-from_place}
 use Rattle.mark_tree.proofs.Order.{key_le-from, key_le-trans, not_key_le-from, key_cmp, sorted-placed}
 use Rattle.mark_tree.proofs.spaced.Spaced.place_for.Goals as goal
 
 pub loop-low-init : goal.loop-low-init
-loop-low-init g c = record {
-  order = omega arith;
-  within = omega (arith, c.len-high.ensures.len);
-  less = λ k d lt. absurd (omega arith);
-  not_less = λ d lt. absurd (omega (arith, c.len-high.ensures.len));
-  left = 32;
-  few = omega arith;
-  narrow = omega (arith, c.len-high.type_inv);
-  counted = omega arith;
-  steps = λ h few. omega arith;
-}
+loop-low-init g c =
+    let key = c.args.key in
+    let things = c.args.self.now in
+    let low = c.first_at-low.result in
+    let high = c.first_at-high.result in
+    record {
+      order = places-in_order key.offset key.offset things low high (omega arith) c.first_at-low.ensures.within c.first_at-low.ensures.before c.first_at-high.ensures.from;
+      within = c.first_at-high.ensures.within;
+      less = λ k d lt. key_le-before key things low c.first_at-low.ensures.within c.first_at-low.ensures.before k d lt;
+      not_less = λ d lt. key_le-from_place key things high c.first_at-high.ensures.from d lt;
+      left = 32;
+      few = omega arith;
+      narrow = omega (arith, c.first_at-high.type_inv);
+      counted = omega (arith, c.first_at-low.ensures.counted, c.first_at-high.ensures.counted);
+      steps = λ h few. omega (arith, c.first_at-low.ensures.steps h few, c.first_at-high.ensures.steps h few);
+    }
 
 pub loop-low-preserved : goal.loop-low-preserved
 loop-low-preserved g c =
@@ -37,7 +44,7 @@ loop-low-preserved g c =
       few = omega (arith, c.loop-low.invariant.few);
       narrow = omega (arith, next.1);
       counted = omega arith;
-      steps = λ h few. steps-more (h + 1) (32 - left) (32 - (left - 1)) c.args.steps.now c.loop-low.steps c.key_at.new.steps (omega (arith, next.0, c.loop-low.invariant.few)) (c.loop-low.invariant.steps h few) (c.key_at.ensures.steps h few);
+      steps = λ h few. steps-more (h + 1) (34 - left) (34 - (left - 1)) c.args.steps.now c.loop-low.steps c.key_at.new.steps (omega (arith, next.0, c.loop-low.invariant.few)) (c.loop-low.invariant.steps h few) (c.key_at.ensures.steps h few);
     }
 
 pub loop-low-preserved-then-is_less : goal.loop-low-preserved-then-is_less
@@ -61,7 +68,7 @@ loop-low-preserved-then-is_less g c =
       few = omega (arith, c.loop-low.invariant.few);
       narrow = omega (arith, next.1);
       counted = omega arith;
-      steps = λ h few. steps-more (h + 1) (32 - left) (32 - (left - 1)) c.args.steps.now c.loop-low.steps c.key_at.new.steps (omega (arith, next.0, c.loop-low.invariant.few)) (c.loop-low.invariant.steps h few) (c.key_at.ensures.steps h few);
+      steps = λ h few. steps-more (h + 1) (34 - left) (34 - (left - 1)) c.args.steps.now c.loop-low.steps c.key_at.new.steps (omega (arith, next.0, c.loop-low.invariant.few)) (c.loop-low.invariant.steps h few) (c.key_at.ensures.steps h few);
     }
 
 pub returns-clause-place : goal.returns-clause-place
@@ -76,5 +83,5 @@ returns-clause-place g c =
 pub returns-clause-steps : goal.returns-clause-steps
 returns-clause-steps g c h few =
     let spent = c.loop-low.invariant.steps h few in
-    let most : 32 - c.loop-low.invariant.left ≤ 32 = omega arith in
+    let most : 34 - c.loop-low.invariant.left ≤ 34 = omega arith in
     omega (arith, spent, mul-le-mul_left (h + 1) most)

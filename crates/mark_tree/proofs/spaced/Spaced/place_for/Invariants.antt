@@ -14,7 +14,7 @@ invariant-loop-low g l = record {
   few : left ≤ 32;
   narrow : l.high - l.low < 2 ^ left;
   counted : l.fn.steps ≤ l.steps;
-  steps : (h : ℕ) → length l.self < 2 * 6 ^ (h + 1) → l.steps ≤ l.fn.steps + (h + 1) * (32 - left);
+  steps : (h : ℕ) → length l.self < 2 * 6 ^ (h + 1) → l.steps ≤ l.fn.steps + (h + 1) * (34 - left);
 }
 
 abbrev pub decreases-loop-low : goal.decreases-loop-low
