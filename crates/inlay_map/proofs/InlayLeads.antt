@@ -15,8 +15,11 @@ use Rattle.cell_units.specs.Folded.{shown}
 use Rattle.cell_units.proofs.Moves.{move_token, move-above}
 use Rattle.cell_units.proofs.SortedLists.{IsSorted}
 use Rattle.cell_units.proofs.ShownMoved.{show_each-moved, inlays_before, inlays_behind}
-use Rattle.inlay_map.specs.Leads.{Leads, Reach, LayerLeads, token_after, token_places, layer_places, shown_shift, shown_between, inlaid_shift, inlay_shift}
-use Rattle.inlay_map.proofs.LayerLeads.{at_places, length-at_places, shown_left, shown_right, shown_behind, right-parts, same-front, leads-inlaid}
+use Rattle.shifted_lists.proofs.TokenPlaces.{at_places, length-at_places}
+use Rattle.shifted_lists.specs.LayerLeads.{LayerLeads, token_after, token_places, layer_places, shown_shift, shown_between}
+use Rattle.shifted_lists.specs.Leads.{Leads, Reach}
+use Rattle.inlay_map.specs.InlaidShifts.{inlaid_shift, inlay_shift}
+use Rattle.inlay_map.proofs.LayerLeads.{shown_left, shown_right, shown_behind, right-parts, same-front, leads-inlaid}
 
 places-after : (s : Reach) (t : Token) → token_places (token_after (Some s) t) ≡ map (token_after (Some s)) (token_places t)
 places-after s (Byte o b) = refl
@@ -74,14 +77,14 @@ module _ (xs ys ys' rest : List ℕ) (old new : List Inlay) where
   pub parts-lead : (moves : Token → Token) → ((t : Token) → token_places (moves t) ≡ map moves (token_places t))
       → ((k : ℕ) → k < length xs → inlays_at new k ≡ inlays_at old k)
       → shown_behind new (length (xs ++ ys')) rest ≡ map moves (shown_behind old (length (xs ++ ys)) rest)
-      → Leads moves (layer_places (inlay_source before_text old)) (layer_places (inlay_source after_text new))
+      → Leads (map moves) (layer_places (inlay_source before_text old)) (layer_places (inlay_source after_text new))
       (shown_shift (inlay_source before_text old) (length xs) (length (xs ++ ys)) (shown_between (inlay_source after_text new) (length xs) (length (xs ++ ys'))))
   parts-lead moves places before behind =
       let old-source = inlay_source before_text old in
       let new-source = inlay_source after_text new in
       let s : Reach = shown_shift old-source (length xs) (length (xs ++ ys)) (shown_between new-source (length xs) (length (xs ++ ys'))) in
-      subst (λ l. Leads moves l (layer_places new-source) s) (sym (whole old before_text))
-      (subst (λ l. Leads moves (at_places (shown_right old before_text)) l s) (sym (whole new after_text))
+      subst (λ l. Leads (map moves) l (layer_places new-source) s) (sym (whole old before_text))
+      (subst (λ l. Leads (map moves) (at_places (shown_right old before_text)) l s) (sym (whole new after_text))
       (leads-inlaid moves places xs ys ys' rest old new before behind s (places-left old ys) (places-right old ys) count-is))
     where
       fore : shown_right new (xs ++ ys') ≡ shown_left old xs ++ (show_each (shown new []) (length xs) ys' ++ inlays_at new (length (xs ++ ys')))
@@ -138,7 +141,7 @@ in-three text a b le within =
 
 abbrev LeadsHere : (Token → Token) → List Inlay → List Inlay → List ℕ × List ℕ × ℕ × ℕ × ℕ → Type 0
 LeadsHere moves old new x =
-    Leads moves (layer_places (inlay_source x.0 old)) (layer_places (inlay_source x.1 new))
+    Leads (map moves) (layer_places (inlay_source x.0 old)) (layer_places (inlay_source x.1 new))
     (shown_shift (inlay_source x.0 old) x.2 x.3 (shown_between (inlay_source x.1 new) x.2 x.4))
 
 pub moved-leads : (s : Reach) (text new : List ℕ) (inlays : List Inlay) → IsSorted inlay_le inlays → s.start ≤ s.end → s.end ≤ length text → length new ≡ s.count

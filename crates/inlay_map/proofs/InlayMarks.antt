@@ -1,5 +1,5 @@
 -- Marks as inlays.
-use Rattle.std.proofs.Common.{◌≡◌, ℕ, ◌+◌, ◌<◌, ◌==◌, ◌||◌, not, min, nat_lt, Bool, true, false, cond, List, [], ◌∷◌, ◌++◌, length, map, take, drop, position, Some, None, refl, ap, sym, subst, ◌∙◌, inl, inr, arith}
+use Rattle.std.proofs.Common.{◌≡◌, ℕ, ◌+◌, ◌<◌, ◌==◌, ◌||◌, not, min, nat_lt, Bool, true, false, cond, List, [], ◌∷◌, ◌++◌, length, map, take, drop, position, count_by, Some, None, Result, Ok, Err, IfOk, refl, ap, sym, subst, ◌∙◌, inl, inr, arith}
 use Rattle.std.specs.List.{list_any, position_or_len}
 use Rattle.std.proofs.lemmas.Bool.{cases_lt}
 use Rattle.std.proofs.lemmas.Bool.Decides.{nat_tests}
@@ -11,6 +11,7 @@ use Rattle.cell_units.specs.Record.{Inlay, inlay_le}
 use Rattle.cell_units.specs.Sorting.{insert_by, sort_by}
 use Rattle.cell_units.specs.Operation.{move_inlay, moved_inlays}
 use Rattle.cell_units.proofs.Entries.{entries-added, entries-kept}
+use Rattle.cell_units.proofs.SortedLists.{count-cons}
 use Rattle.cell_units.proofs.EntryOrders.{inlay_total, inlay_trans}
 use Rattle.mark_tree.specs.declared.mark.Mark.{Mark}
 use Rattle.mark_tree.specs.Marks.{has_id, mark_le, move_mark, moved_marks}
@@ -44,6 +45,22 @@ position-inlay id ms = λ i. cond (nat_lt (go ms i) (sym (length-map ms inlay_of
   go : (ns : List (Mark (List ℕ))) → position_or_len (has_id id) ns ≡ position_or_len (λ i. i.id == id) (map inlay_of ns)
   go [] = refl
   go (n ∷ ns) = ap (λ k. cond (not (n.id == id)) (1 + k) 0) (go ns)
+
+-- what follows from two facts on an answer
+pub both-ok : {T E : Type 0} (A B C : T → Type 0) (r : Result T E) → ((x : T) → A x → B x → C x) → IfOk r A → IfOk r B → IfOk r C
+both-ok A B C (Ok x) f a b = f x a b
+both-ok A B C (Err e) f a b = tt
+
+-- an id that no inlay has is none of a mark
+uncounted : {X : Type 0} (p : X → Bool) (xs : List X) → count_by p xs ≡ 0 → list_any p xs ≡ false
+uncounted p [] none = refl
+uncounted p (x ∷ xs) none = go (p x) (count-cons p x xs) (uncounted p xs) where
+  go : (b : Bool) → count_by p (x ∷ xs) ≡ cond b 1 0 + count_by p xs → (count_by p xs ≡ 0 → list_any p xs ≡ false) → (b || list_any p xs) ≡ false
+  go true c rest = absurd (omega (arith, c, none))
+  go false c rest = rest (omega (arith, c, none))
+
+pub fresh-mark : (id : ℕ) (ms : List (Mark (List ℕ))) → HasRoom (λ i. i.id) id (map inlay_of ms) → list_any (has_id id) ms ≡ false
+fresh-mark id ms room = has-inlay id ms ∙ uncounted (λ i. i.id == id) (map inlay_of ms) room.fresh
 
 -- ---- one mark more or less, by its index
 

@@ -1,15 +1,14 @@
 pub mod Backs
-pub mod Covering
 pub mod Cuts
 pub mod FeedsShown
 pub mod FoundInlays
 pub mod InlaidSources
 pub mod InlayLeads
 pub mod InlayMarks
-pub mod InlayMoves
 pub mod LayerLeads
 pub mod LineTokens
 pub mod MapStates
+pub mod Measured
 pub mod MetRows
 pub mod MovedInlays
 pub mod MovedRuns
@@ -28,6 +27,8 @@ pub mod ShownFeeds
 pub mod SpliceLists
 pub mod SoughtSpots
 pub mod SourceLayers
+pub mod SpotPoints
 pub mod SpotsFound
 pub mod Spread
 pub mod StepSums
+pub mod TextsLed

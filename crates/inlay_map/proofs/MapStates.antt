@@ -22,12 +22,16 @@ use Rattle.cell_units.proofs.EntryOrders.{inlay_total, inlay_trans}
 use Rattle.cell_units.proofs.ShownMoved.{inlays_before, show_each-same}
 use Rattle.cell_units.proofs.SortedLists.{count-cons}
 use Rattle.cell_units.proofs.ShownPlaces.{places-left_first, places-rise}
+use Rattle.shifted_lists.proofs.CoverLeads.{covers, sum-fits}
+use Rattle.shifted_lists.proofs.TokenPlaces.{length-at_places}
+use Rattle.shifted_lists.specs.Covering.{CoverFits, with_pending}
+use Rattle.shifted_lists.specs.LayerLeads.{LayerLeads, layer_places}
+use Rattle.shifted_lists.specs.Leads.{Leads, LeadsIfAny, Reach, reach_of, unmoved}
 use Rattle.inlay_map.specs.Kept.{IsKept}
-use Rattle.inlay_map.specs.Leads.{LayerLeads, Leads, LeadsIfAny, Reach, inlaid_shift, inlay_shift, layer_places, reach_of, unmoved}
-use Rattle.inlay_map.specs.Maps.{add_refusal, shift_after, source_after, with_pending}
+use Rattle.inlay_map.specs.InlaidShifts.{inlaid_shift, inlay_shift}
+use Rattle.inlay_map.specs.Maps.{add_refusal, shift_after, source_after}
 use Rattle.inlay_map.proofs.InlayLeads.{inlay-leads, moved-leads}
-use Rattle.inlay_map.proofs.InlayMoves.{covers, text-led}
-use Rattle.inlay_map.proofs.LayerLeads.{length-at_places}
+use Rattle.inlay_map.proofs.TextsLed.{text-led}
 use Rattle.inlay_map.proofs.Parts.{at-other}
 use Rattle.inlay_map.proofs.Places.{place-limit}
 
@@ -200,11 +204,11 @@ places-small s none are short =
     omega (arith, long, place-limit s.text Right n s.inlays are short (omega arith), ap (λ (v : Source). length (layer_places v)) is)
 
 -- so the one that covers a pending one and another is made of u32
-pub pending-fits : (shown current : Source) (p : Option Shift) (rest : ℕ) → LayerLeads None shown current (option_map reach_of p) → length (layer_places shown) < 2 ^ 28 → length (layer_places current) < 2 ^ 28 → rest < 2 ^ 30
-    → (x : Shift) → p ≡ Some x → x.start + x.count + rest + x.end < 2 ^ 32
-pending-fits shown current p rest leads small small' le x e =
+pub pending-fits : (shown current : Source) (p : Option Shift) (next : Reach) → LayerLeads None shown current (option_map reach_of p) → length (layer_places shown) < 2 ^ 28 → length (layer_places current) < 2 ^ 28
+    → next.start + next.count + next.end < 2 ^ 30 → (x : Shift) → p ≡ Some x → CoverFits (reach_of x) next
+pending-fits shown current p next leads small small' le x e =
     let l : LayerLeads None shown current (Some (reach_of x)) = subst (λ (q : Option Shift). LayerLeads None shown current (option_map reach_of q)) e leads in
-    omega (arith, l.within, l.reaches, small, small', le)
+    sum-fits (reach_of x) next (omega (arith, l.within, l.reaches, small, small', le))
 
 -- by what led to the text, if anything did
 pub leads-after : (shift : Option Reach) (rope : List ℕ) (shown current : Source) (pending : Option Reach) → current.folds ≡ [] → AreInlays current.text current.inlays → IsOrdered shift

@@ -18,8 +18,8 @@ use Rattle.cell_units.proofs.SortedLists.{IsSorted}
 use Rattle.mark_tree.proofs.Moved.{move-before, move-behind, move-within}
 use Rattle.mark_tree.proofs.Sorting as sorting
 use Rattle.splice_tree.specs.Splices.{with_first_gap}
+use Rattle.shifted_lists.specs.Leads.{Leads, reach_of, unmoved}
 use Rattle.inlay_map.specs.declared.amount.Amount.{Amount}
-use Rattle.inlay_map.specs.Leads.{Leads, reach_of, unmoved}
 use Rattle.inlay_map.specs.Splices.{base_at, splice_of, splices_from}
 use Rattle.inlay_map.proofs.ShownFeeds.{count-between}
 use Rattle.inlay_map.proofs.SpliceLists.{in-runs, splices-drop, splices-take}
@@ -178,10 +178,6 @@ apart s text is i j are order le within a b c d =
 -- ---- their splices
 
 module _ (s : Shift) (old new : List ℕ) (leads : Leads unmoved old new (reach_of s)) where
-  same : (xs : List ℕ) → map unmoved xs ≡ xs
-  same [] = refl
-  same (x ∷ xs) = ap (λ l. x ∷ l) (same xs)
-
   -- the rows before the replacement
   rows-before : (o : ℕ) → o ≤ s.start → row_of new o ≡ row_of old o
   rows-before o le = ap (count_by is_feed) (sym (take-take o s.start new le) ∙ ap (take o) leads.before ∙ take-take o s.start old le)
@@ -196,7 +192,7 @@ module _ (s : Shift) (old new : List ℕ) (leads : Leads unmoved old new (reach_
       λ q lt.
       let size : shift q - (s.start + s.count) ≡ q - s.end = omega (arith, order, lt) in
       sym (count-between new (s.start + s.count) (shift q) (omega (arith, order, lt)))
-      ∙ (λ k. count_by is_feed (take (size k) ((leads.behind ∙ same (drop s.end old)) k)) + row_of new (s.start + s.count)) in
+      ∙ (λ k. count_by is_feed (take (size k) (leads.behind k)) + row_of new (s.start + s.count)) in
       omega (arith, from o low, from p (omega (arith, low, le)), count-between old s.end o low, count-between old s.end p (omega (arith, low, le)))
 
   front-same : (base : ℕ) (is : List Inlay) → base ≤ s.start → Every (λ i. i.offset < s.start) is → splices_from new base is ≡ splices_from old base is

@@ -1,8 +1,8 @@
 -- What a replacement of a text owes to the map over it.
-use Rattle.std.proofs.Common.{◌≡◌, ℕ, ◌+◌, ◌-◌, ◌≤◌, List, ◌++◌, length, map, take, drop, refl, sym, ap, ◌∙◌, subst, append_assoc, length-append, arith}
+use Rattle.std.proofs.Common.{◌≡◌, ℕ, ◌+◌, ◌-◌, List, ◌++◌, length, take, drop, refl, sym, ap, ◌∙◌, subst, append_assoc, length-append, arith}
 use Rattle.std.specs.List.{All}
 use Rattle.std.specs.Str.{IsUtf8}
-use Rattle.std.proofs.lemmas.List.{length-drop, length-take-le, map-id, take_at, drop_at}
+use Rattle.std.proofs.lemmas.List.{length-drop, length-take-le, take_at, drop_at}
 use Rattle.cell_units.specs.Lawful.{AreInlays, IsInlayOf}
 use Rattle.cell_units.specs.Operation.{move_inlay, moved_inlays, replaced_text}
 use Rattle.cell_units.specs.Record.{Inlay, inlay_le}
@@ -11,7 +11,7 @@ use Rattle.cell_units.proofs.Entries.{entries-moved}
 use Rattle.cell_units.proofs.EntryOrders.{inlay_total, inlay_trans}
 use Rattle.cell_units.proofs.MovedBoundaries.{boundary-moved}
 use Rattle.text_rope.specs.Edits.{IsRange}
-use Rattle.inlay_map.specs.Leads.{Leads, Reach, unmoved}
+use Rattle.shifted_lists.specs.Leads.{Leads, Reach, unmoved}
 
 -- s took the place of [a, b) of the text
 module _ (text s : List ℕ) (a b : ℕ) (range : IsRange text a b) where
@@ -45,8 +45,7 @@ module _ (text s : List ℕ) (a b : ℕ) (range : IsRange text a b) where
     behind =
         ap (λ k. drop (a + k) made) e
         ∙ ap (λ (l : List ℕ). drop (a + length s) l) shape
-        ∙ drop_at (take a text ++ s) (drop b text) (a + length s) start
-        ∙ sym (map-id (drop b text));
+        ∙ drop_at (take a text ++ s) (drop b text) (a + length s) start;
   }
 
   -- inlays that stand at boundaries stand at boundaries again

@@ -11,21 +11,21 @@ use Rattle.cell_units.specs.Record.{Inlay}
 use Rattle.cell_units.proofs.SortedLists.{count-cons}
 use Rattle.mark_tree.specs.declared.mark.Mark.{Mark}
 use Rattle.mark_tree.specs.Marks.{is_met}
+use Rattle.shifted_lists.specs.Leads.{reach_of}
 use Rattle.inlay_map.specs.Bounds.{met}
-use Rattle.inlay_map.specs.Leads.{reach_of}
 use Rattle.inlay_map.specs.Splices.{inlay_of}
 use Rattle.inlay_map.proofs.Spread.{IsSpread}
 
-pub respliced-steps : (k h a b c d : ℕ) → b ≤ a + k * (10 * (h + 1)) → c ≤ b + 10 * (h + 1) → d ≤ c + (161 * h + (88 + 4 * (k + 2))) → d ≤ a + 180 * (k + 1) * (h + 1)
-respliced-steps k h a b c d first second third =
+pub respliced-steps : (k h a o b c d : ℕ) → o ≤ a + (h + 1) → b ≤ o + k * (5 * (h + 1)) → c ≤ b + 5 * (h + 1) → d ≤ c + (161 * h + (88 + 4 * (k + 2))) → d ≤ a + 180 * (k + 1) * (h + 1)
+respliced-steps k h a o b c d zeroth first second third =
     let x = h + 1 in
     let p = (k + 1) * x in
     let whole : 180 * (k + 1) * x ≡ 180 * p = mul_assoc 180 (k + 1) x in
-    let tens : k * (10 * x) ≡ 10 * (k * x) = sym (mul_assoc k 10 x) ∙ ap (λ n. n * x) (omega arith) ∙ mul_assoc 10 k x in
+    let fives : k * (5 * x) ≡ 5 * (k * x) = sym (mul_assoc k 5 x) ∙ ap (λ n. n * x) (omega arith) ∙ mul_assoc 5 k x in
     let one : p ≡ k * x + x = add-mul k 1 x ∙ ap (λ n. k * x + n) (one-mul x) in
     let high : 1 * x ≤ p = mul-le 1 x (k + 1) x (omega arith) (omega arith) in
     let long : (k + 1) * 1 ≤ p = mul-le (k + 1) 1 (k + 1) x (omega arith) (omega arith) in
-    omega (arith, first, second, third, whole, tens, one, high, long)
+    omega (arith, zeroth, first, second, third, whole, fives, one, high, long)
 
 -- the inlays that are met are found and moved, and their splices made anew
 pub moved-steps : (k h a b c d e : ℕ) → b ≤ a + (h + 1) → c ≤ b + (h + 1) → d ≤ c + 170 * (h + 1) * (k + 1) → e ≤ d + 180 * (k + 1) * (h + 1) → e ≤ a + 355 * (k + 1) * (h + 1)

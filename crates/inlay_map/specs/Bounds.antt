@@ -4,7 +4,7 @@ use Rattle.std.specs.Prelude.{ℕ, ◌+◌, ◌*◌, ◌&&◌, ◌^◌, ◌<◌,
 use Rattle.cell_units.specs.Layers.{Source}
 use Rattle.cell_units.specs.Record.{Inlay}
 use Rattle.text_rope.specs.Ropes.{HasHeight}
-use Rattle.inlay_map.specs.Leads.{Reach}
+use Rattle.shifted_lists.specs.Leads.{Reach}
 
 -- neither the tree of the text nor that of n inlays is higher
 abbrev pub IsHeight : ℕ → List ℕ → ℕ → Type 0
@@ -14,21 +14,21 @@ IsHeight h text n = HasHeight h text × (n < 2 * 6 ^ (h + 1))
 abbrev pub TakesInlaid : (ℕ → ℕ) → Source → ℕ → ℕ → Type 0
 TakesInlaid cost s old new = (h : ℕ) → IsHeight h s.text (length s.inlays) → new ≤ old + cost h
 
+-- the same where n inlays are counted
+abbrev pub TakesAmong : (ℕ → ℕ) → List ℕ → ℕ → ℕ → ℕ → Type 0
+TakesAmong cost text n old new = (h : ℕ) → IsHeight h text n → new ≤ old + cost h
+
 -- a call on a text with n inlays that searches them for an id once, on a fifth as many nodes
 abbrev pub SearchesOnce : (ℕ → ℕ) → List ℕ → ℕ → ℕ → ℕ → Type 0
 SearchesOnce cost text n old new = (h : ℕ) → IsHeight h text n → 5 * new ≤ 5 * old + (n + 5 * cost h)
-
--- a call by an id on a text with n inlays may take one more for each of them
-abbrev pub SearchesInlaid : (ℕ → ℕ) → List ℕ → ℕ → ℕ → ℕ → Type 0
-SearchesInlaid cost text n old new = (h : ℕ) → IsHeight h text n → new ≤ old + (n + cost h)
 
 -- a call that makes the splices of a text with its inlays from a list of m splices
 abbrev pub Resplices : (ℕ → ℕ) → ℕ → Source → ℕ → ℕ → Type 0
 Resplices cost m s old new = (h : ℕ) → IsHeight h s.text (length s.inlays) → m < 2 * 6 ^ (h + 1) → new ≤ old + cost h
 
--- a splice is measured: its inlay, the one before it, and the rows of both
+-- a splice is measured behind the one before it: its inlay, and the row of that
 abbrev pub measuring : ℕ → ℕ
-measuring h = 10 * (h + 1)
+measuring h = 5 * (h + 1)
 
 -- k splices are measured and put in place, with the gap behind them
 abbrev pub resplicing : ℕ → ℕ → ℕ

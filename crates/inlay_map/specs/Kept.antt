@@ -4,7 +4,8 @@ use Rattle.cell_units.specs.declared.limits.TheConstants.{TEXT_LIMIT}
 use Rattle.cell_units.specs.Lawful.{AreInlays}
 use Rattle.cell_units.specs.Layers.{Source}
 use Rattle.cell_units.specs.Text.{IsText}
-use Rattle.inlay_map.specs.Leads.{LayerLeads, Reach}
+use Rattle.shifted_lists.specs.LayerLeads.{LayerLeads}
+use Rattle.shifted_lists.specs.Leads.{Reach}
 
 -- A text within its limit that has no carriage return, with inlays that fit it and without folds.
 pub record IsInlaid (s : Source) : Type 0 where

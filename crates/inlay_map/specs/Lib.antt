@@ -1,7 +1,7 @@
 pub mod Amounts
 pub mod Bounds
+pub mod InlaidShifts
 pub mod Kept
-pub mod Leads
 pub mod Maps
 pub mod Met
 pub mod Splices

@@ -1,5 +1,5 @@
 -- What an inlay map is seen as, and what its calls make of it.
-use Rattle.std.specs.Prelude.{◌≡◌, ◌≢◌, ℕ, ◌+◌, ◌-◌, ◌<◌, ◌^◌, ◌==◌, ◌||◌, nat_lt, nat_le, min, max, not, if◌then◌else◌, List, length, Option, Some, None}
+use Rattle.std.specs.Prelude.{◌≡◌, ◌≢◌, ℕ, ◌<◌, ◌^◌, ◌==◌, ◌||◌, nat_lt, nat_le, not, if◌then◌else◌, List, length, Option, Some, None}
 use Rattle.std.specs.List.{All, list_any}
 use Rattle.cell_units.specs.declared.limits.TheConstants.{ENTRY_LIMIT, INLAY_LIMIT}
 use Rattle.cell_units.specs.declared.place.Bias.{Bias}
@@ -13,36 +13,16 @@ use Rattle.cell_units.specs.Record.{Inlay, inlay_le}
 use Rattle.cell_units.specs.Sorting.{insert_by}
 use Rattle.cell_units.specs.Operation.{moved_inlays, without_inlay}
 use Rattle.cell_units.specs.Layers.{Source, inlay_source, plain_source, shown_text}
-use Rattle.inlay_map.specs.Leads.{LayerLeads, Reach, inlaid_shift, inlay_shift}
+use Rattle.shifted_lists.specs.Covering.{with_pending}
+use Rattle.shifted_lists.specs.LayerLeads.{LayerLeads}
+use Rattle.shifted_lists.specs.Leads.{Reach}
+use Rattle.inlay_map.specs.InlaidShifts.{inlaid_shift, inlay_shift}
 
 -- The text with its inlays as they are now, what the last snapshot showed, and the replacement that leads from that to now.
 pub record InlayState : Type 0 where
   pub current : Source
   pub shown : Source
   pub pending : Option Reach
-
--- ---- replacements of what is shown
-
--- The replacement that covers both, of which the second replaces what the first has left.
-abbrev pub covering : Reach → Reach → Reach
-covering first second =
-    let start = min first.start second.start in
-    let end = max (first.start + first.count) second.end in
-    record {
-      start = start;
-      end = end - (first.start + first.count) + first.end;
-      count = second.start + second.count + (end - second.end) - start;
-    }
-
--- all that is added up for it fits a u32
-abbrev pub CoverFits : Reach → Reach → Type 0
-CoverFits first second = first.start + first.count + (second.start + second.count + second.end) + first.end < 2 ^ 32
-
--- the same where either may be missing
-abbrev pub with_pending : Option Reach → Option Reach → Option Reach
-with_pending None second = second
-with_pending (Some first) None = Some first
-with_pending (Some first) (Some second) = Some (covering first second)
 
 -- ---- refusals
 

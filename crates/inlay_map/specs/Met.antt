@@ -8,7 +8,8 @@ use Rattle.cell_units.specs.Operation.{without_inlay}
 use Rattle.cell_units.specs.Record.{Inlay, inlay_le}
 use Rattle.cell_units.specs.Sorting.{insert_by}
 use Rattle.cell_units.specs.Touched.{RowRange, row_range}
-use Rattle.inlay_map.specs.Leads.{Leads, Reach, inlaid_shift, inlay_shift, unmoved}
+use Rattle.shifted_lists.specs.Leads.{Leads, Reach, unmoved}
+use Rattle.inlay_map.specs.InlaidShifts.{inlaid_shift, inlay_shift}
 use Rattle.inlay_map.specs.Maps.{source_after}
 
 -- The places from the first to the last meet a line that begins at the last of them or before it, and ends at the first or

@@ -36,6 +36,10 @@ base_at base is zero = base
 base_at base [] (suc k) = base
 base_at base (i ∷ is) (suc k) = base_at i.offset is k
 
+-- how much text stands before the gap of the inlay of an index
+abbrev pub before_at : Source → ℕ → Amount
+before_at s at = amount_between s.text 0 (base_at 0 s.inlays at)
+
 -- ---- one inlay more, or less
 
 -- it was put before the inlay of the index

@@ -2,27 +2,27 @@
 ghost use Rattle.std.specs.Prelude.{◌≡◌, ◌==◌, ◌+◌, ◌-◌, ◌*◌, ◌<◌, ◌≤◌, ◌↔◌, IsTrue, Some, length, take, drop, slice_get, nat_le, IfOk, OnErr, OnOk};
 ghost use Rattle.std.specs.List.{list_any, position, position_or_len};
 ghost use Rattle.cell_units.specs.Lawful.{HasRoom, IsInlayOf};
-ghost use Rattle.cell_units.specs.Layers.{inlay_source, plain_source};
+ghost use Rattle.cell_units.specs.Layers.{inlay_source, plain_source, point_of};
 ghost use Rattle.cell_units.specs.BufferLines.{line_end, line_start};
 ghost use Rattle.cell_units.specs.Record.{Inlay, inlay_le, line_count};
 ghost use Rattle.cell_units.specs.Sorting.{insert_by};
 ghost use Rattle.splice_tree.specs.Splices.{with_first_gap};
+ghost use Rattle.shifted_lists.specs.Leads.{reach_of};
 ghost use Rattle.inlay_map.specs.declared.amount.Amount.{Amount};
 ghost use Rattle.cell_units.specs.Text.{IsBoundary, clean, row_end, row_of, row_start};
 ghost use Rattle.cell_units.specs.declared.limits.TheConstants.{INLAY_LIMIT};
 ghost use Rattle.sum_tree.specs.Bounds.{Searches, TakesAtMost, way};
 ghost use Rattle.text_rope.specs.Bounds.{TakesOnText, ways};
-ghost use Rattle.mark_tree.specs.Bounds.{SearchesAndTakes, changing, moving, taking};
+ghost use Rattle.mark_tree.specs.Bounds.{adding, moving, taking};
 ghost use Rattle.inlay_map.specs.Amounts.{amount_between, amount_of};
 ghost use Rattle.inlay_map.specs.Bounds.{Resplices, TakesInlaid, measuring, met, resplicing};
 ghost use Rattle.inlay_map.specs.Kept.{IsInlaid};
-ghost use Rattle.inlay_map.specs.Leads.{reach_of};
 ghost use Rattle.inlay_map.specs.Maps.{StandAfter, source_after};
-ghost use Rattle.inlay_map.specs.Splices.{AreSameButForGap, IsPut, base_at, inlay_of, splices_of, without_at};
+ghost use Rattle.inlay_map.specs.Splices.{AreSameButForGap, IsPut, before_at, inlay_of, splices_of, without_at};
 
 use crate::amount::{Amount, feeds_in};
 use crate::inlay_text::InlayText;
-use cell_units::{Layer, NoMemory, Shift, Steps, Text};
+use cell_units::{Layer, NoMemory, Point, Shift, Steps, Text};
 use mark_tree::{Mark, MarkTree};
 use splice_tree::{Splice, SpliceTree};
 use std::alloc::Global;
@@ -87,36 +87,19 @@ impl Inlaid {
         self.rope.len()
     }
 
-    /// The offset behind which the inlay of an index stands: that of the one before it, or 0.
-    fn base_of(&self, at: u32, steps: &mut Steps) -> u32
-        requires { at ≤ length self.now.inlays }
-        ensures base { result ≡ base_at 0 self.now.inlays at }
-        ensures within { result ≤ length self.now.text }
-        ensures counted { steps.old ≤ steps.new }
-        ensures steps { TakesAtMost way (length self.now.inlays) steps.old steps.new }
-    {
-        if at == 0 {
-            return 0;
-        }
-        match self.marks.get(at - 1, steps) {
-            Some((offset, _, _, _)) => offset,
-            None => 0,
-        }
-    }
-
-    /// How much text there is from one offset to a later one.
-    fn amount(&self, start: u32, end: u32, steps: &mut Steps) -> Amount
-        requires order { start ≤ end }
+    /// How much text there is up to an offset, behind this much.
+    fn amount_behind(&self, before: Amount, end: u32, steps: &mut Steps) -> Amount
+        requires before { before ≡ amount_between self.now.text 0 before.bytes }
+        requires order { before.bytes ≤ end }
         requires within { end ≤ length self.now.text }
-        ensures amount { result ≡ amount_between self.now.text start end }
+        ensures amount { result ≡ amount_between self.now.text before.bytes end }
         ensures counted { steps.old ≤ steps.new }
-        ensures steps { TakesOnText (ways 8) self.now.text steps.old steps.new }
+        ensures steps { TakesOnText (ways 4) self.now.text steps.old steps.new }
     {
-        let first = self.rope.point_of(start, steps).row;
-        let last = self.rope.point_of(end, steps).row;
+        let row = self.rope.point_of(end, steps).row;
         Amount {
-            bytes: end - start,
-            feeds: last - first,
+            bytes: end - before.bytes,
+            feeds: row - before.feeds,
         }
     }
 
@@ -125,6 +108,15 @@ impl Inlaid {
         ensures { result ≡ line_count self.now.text }
     {
         self.rope.line_count()
+    }
+
+    /// The point of an offset.
+    pub(crate) fn point(&self, offset: u32, steps: &mut Steps) -> Point
+        requires { offset ≤ length self.now.text }
+        ensures point { result ≡ point_of self.now.text offset }
+        ensures counted { steps.old ≤ steps.new }
+    {
+        self.rope.point_of(offset, steps)
     }
 
     /// The row of an offset.
@@ -199,21 +191,28 @@ impl Inlaid {
     }
 }
 
+/// The splices of a run of inlays, and how much text stands before the last of them.
+#[derive(Drop)]
+struct Measured {
+    splices: Vec<Splice<Amount, NoLoad>>,
+    before: Amount,
+}
+
 impl Inlaid {
-    /// The splice that belongs to the inlay of an index.
-    fn splice_at(&self, at: u32, steps: &mut Steps) -> Splice<Amount, NoLoad>
-        requires { at < length self.now.inlays }
+    /// The splice that belongs to the inlay of an index. The one before it stands behind that much text.
+    fn splice_at(&self, at: u32, before: Amount, steps: &mut Steps) -> Splice<Amount, NoLoad>
+        requires within { at < length self.now.inlays }
+        requires before { before ≡ before_at self.now at }
         ensures splice { slice_get (splices_of self.now) at ≡ Some result }
         ensures counted { steps.old ≤ steps.new }
         ensures steps { TakesInlaid measuring self.now steps.old steps.new }
     {
         // What the text and its inlays have is within their limits.
         let _len = self.len();
-        let base = self.base_of(at, steps);
         match self.marks.get(at, steps) {
             None => unreachable!(),
             Some((offset, _, _, text)) => Splice::new(
-                self.amount(base, offset, steps),
+                self.amount_behind(before, offset, steps),
                 Amount::zero(),
                 amount_shown(text),
                 NoLoad,
@@ -221,38 +220,50 @@ impl Inlaid {
         }
     }
 
-    /// The splices of the inlays from one index to another.
+    /// The splices of the inlays from one index to another, the first of which stands behind that much text and its gap.
     fn splices_in(
         &self,
         alloc: Global,
         from: u32,
         to: u32,
+        before: Amount,
         steps: &mut Steps,
-    ) -> Result<Vec<Splice<Amount, NoLoad>>, NoMemory>
+    ) -> Result<Measured, NoMemory>
         requires order { from ≤ to }
         requires within { to ≤ length self.now.inlays }
-        ensures ok { IfOk result (λ v.
-            v.items ≡ take (to - from) (drop from (splices_of self.now))) }
+        requires before { before ≡ before_at self.now from }
+        ensures ok { IfOk result (λ m.
+            m.splices.items ≡ take (to - from) (drop from (splices_of self.now))) }
+        ensures before { IfOk result (λ m. m.before ≡ before_at self.now to) }
         ensures counted { steps.old ≤ steps.new }
         ensures steps { TakesInlaid (λ h. (to - from) * measuring h) self.now steps.old steps.new }
     {
+        // The text is within its limit.
+        let _len = self.len();
         let mut splices = Vec::with_capacity(alloc, (to - from) as usize)?;
+        let mut reached = before;
         for at in from..to {
-            splices.push(self.splice_at(at, steps))?;
+            let splice = self.splice_at(at, reached, steps);
+            reached = reached.plus(splice.gap());
+            splices.push(splice)?;
         }
-        Ok(splices)
+        Ok(Measured {
+            splices,
+            before: reached,
+        })
     }
 
-    /// The gap before the inlay of an index, and nothing where there is none.
-    fn gap_at(&self, at: u32, steps: &mut Steps) -> Amount
-        requires { at ≤ length self.now.inlays }
+    /// The gap before the inlay of an index, and nothing where there is none. The one before it stands behind that much text.
+    fn gap_at(&self, at: u32, before: Amount, steps: &mut Steps) -> Amount
+        requires within { at ≤ length self.now.inlays }
+        requires before { before ≡ before_at self.now at }
         ensures gap { let rest = drop at (splices_of self.now) in
             with_first_gap result rest ≡ rest }
         ensures counted { steps.old ≤ steps.new }
         ensures steps { TakesInlaid measuring self.now steps.old steps.new }
     {
         if at < self.marks.len() {
-            self.splice_at(at, steps).gap()
+            self.splice_at(at, before, steps).gap()
         } else {
             Amount::zero()
         }
@@ -280,10 +291,12 @@ impl Inlaid {
         // The inlays fit the text, so that their splices are within their limits.
         let _len = self.len();
         let last = run.start + run.count;
-        let fresh = self.splices_in(alloc, run.start, last, steps)?;
-        let gap = self.gap_at(last, steps);
+        // The text before the run is as it was.
+        let before = old.find_at(run.start, steps).before.lower;
+        let fresh = self.splices_in(alloc, run.start, last, before, steps)?;
+        let gap = self.gap_at(last, fresh.before, steps);
         let mut splices = old.share()?;
-        splices.replace(alloc, run.start, run.end, fresh, gap, steps)?;
+        splices.replace(alloc, run.start, run.end, fresh.splices, gap, steps)?;
         Ok(splices)
     }
 }
@@ -412,14 +425,10 @@ impl Inlaid {
         ensures put { IfOk result (λ at. IsPut (inlay_of mark) self.old.inlays self.new.inlays at) }
         ensures err { OnErr result (self.new ≡ self.old) }
         ensures counted { steps.old ≤ steps.new }
-        ensures steps { SearchesAndTakes changing (length self.old.inlays + 1) steps.old steps.new }
+        ensures steps { TakesAtMost adding (length self.old.inlays + 1) steps.old steps.new }
     {
-        let count = self.marks.len();
-        match self.marks.insert(alloc, mark, steps) {
-            // A place behind all marks is the end of their list.
-            Ok(at) => Ok(at.min(count)),
-            // No mark has this id, so there was no memory.
-            Err(_) => Err(NoMemory),
-        }
+        // What the text and its inlays have is within their limits.
+        let _len = self.len();
+        self.marks.put(alloc, mark, steps)
     }
 }

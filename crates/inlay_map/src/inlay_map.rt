@@ -1,20 +1,20 @@
 //! The map: inlays that are added, removed and moved, and what changed since the last snapshot.
 ghost use Rattle.std.specs.Prelude.{◌≡◌, ◌+◌, ◌≤◌, None, Some, length, option_map, IfErr, IfOk, OnErr, OnOk};
 ghost use Rattle.std.specs.List.{Contains};
-ghost use Rattle.std.specs.Option.{ForSome};
 ghost use Rattle.cell_units.specs.Layers.{inlay_source};
 ghost use Rattle.cell_units.specs.Record.{Inlay};
 ghost use Rattle.sum_tree.specs.Bounds.{ChangesAtMost};
 ghost use Rattle.text_rope.specs.Bounds.{ways};
-ghost use Rattle.inlay_map.specs.Bounds.{SearchesInlaid, SearchesOnce, TakesInlaid, changing, met, met_by, syncing};
+ghost use Rattle.shifted_lists.specs.Leads.{Leads, LeadsIfAny, reach_of, unmoved};
+ghost use Rattle.inlay_map.specs.Bounds.{SearchesOnce, TakesInlaid, changing, met, met_by, syncing};
 ghost use Rattle.inlay_map.specs.Kept.{IsInlaid};
-ghost use Rattle.inlay_map.specs.Leads.{Leads, LeadsIfAny, reach_of, unmoved};
-ghost use Rattle.inlay_map.specs.Maps.{CoverFits, DifferAt, IsOwed, IsSynced, StandAfter, add_refusal, added, answer_of, covering, inlay_with, remove_refusal, removed, source_after, state_of, synced, with_inlays, with_pending};
+ghost use Rattle.inlay_map.specs.Maps.{DifferAt, IsOwed, IsSynced, StandAfter, add_refusal, added, answer_of, inlay_with, remove_refusal, removed, source_after, state_of, synced, with_inlays};
 
 use crate::inlay_text::InlayText;
 use crate::snapshot::InlaySnapshot;
 use cell_units::{Bias, Fault, NoMemory, Refusal, Shift, Steps};
 use mark_tree::Mark;
+use shifted_lists::with_pending;
 use std::alloc::Global;
 use std::marker::Model;
 use text_rope::Rope;
@@ -29,7 +29,7 @@ pub struct InlayMap {
 
 impl Model for InlayMap {
     ghost use Rattle.std.specs.Prelude.{option_map};
-    ghost use Rattle.inlay_map.specs.Leads.{reach_of};
+    ghost use Rattle.shifted_lists.specs.Leads.{reach_of};
     ghost use Rattle.inlay_map.specs.Maps.{InlayState};
     ghost use Rattle.inlay_map.specs.Kept.{IsKept};
 
@@ -102,7 +102,7 @@ impl InlayMap {
         ensures err { OnErr result (self.new ≡ self.old) }
         ensures counted { steps.old ≤ steps.new }
         ensures steps { let s = self.old.current in
-            SearchesInlaid changing s.text (length s.inlays + 1) steps.old steps.new }
+            SearchesOnce changing s.text (length s.inlays + 1) steps.old steps.new }
     {
         if let Some(refusal) = self.current.refusal_to_add(id, offset, text, steps) {
             return Err(Fault::Refused(refusal));
@@ -252,29 +252,4 @@ impl InlayMap {
         self.pending = Some(with_pending(self.pending, shift));
         self.current = next;
     }
-}
-
-/// The replacement that covers both, of which the second replaces what the first has left; the second alone where there is
-/// no first.
-fn with_pending(first: Option<Shift>, second: Shift) -> Shift
-    requires { ForSome first (λ f. CoverFits (reach_of f) (reach_of second)) }
-    ensures { let both = with_pending (option_map reach_of first) (Some (reach_of second)) in
-        Some (reach_of result) ≡ both }
-{
-    match first {
-        None => second,
-        Some(first) => covering(first, second),
-    }
-}
-
-/// The replacement that covers both.
-fn covering(first: Shift, second: Shift) -> Shift
-    requires { CoverFits (reach_of first) (reach_of second) }
-    ensures { reach_of result ≡ covering (reach_of first) (reach_of second) }
-{
-    let start = first.start.min(second.start);
-    let replaced = first.start + first.count;
-    let end = replaced.max(second.end);
-    let count = second.start + second.count + (end - second.end) - start;
-    Shift::new(start, end - replaced + first.end, count)
 }

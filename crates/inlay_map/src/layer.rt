@@ -31,8 +31,12 @@ impl Layer for InlaySnapshot {
     }
 
     fn point(&self, place: u32) -> Point {
-        let row = self.row_at(place, &mut Steps::new());
-        let start = self.row_start(row, &mut Steps::new());
+        let mut steps = Steps::new();
+        if let Some(point) = self.point_in_text(place, &mut steps) {
+            return point;
+        }
+        let row = self.row_at(place, &mut steps);
+        let start = self.row_start(row, &mut steps);
         Point {
             row,
             column: place - start,

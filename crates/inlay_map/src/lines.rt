@@ -1,14 +1,15 @@
 //! Display lines: where they start, and what is on them.
 ghost use Rattle.std.specs.Prelude.{◌≡◌, ◌<◌, ◌≤◌, Some, count_by, length, slice_get, IfOk};
 ghost use Rattle.cell_units.specs.BufferLines.{line_end, line_start};
-ghost use Rattle.cell_units.specs.Layers.{shown_lines, shown_text};
+ghost use Rattle.std.specs.Option.{ForSome};
+ghost use Rattle.cell_units.specs.Layers.{point_of, shown_lines, shown_text};
 ghost use Rattle.cell_units.specs.Text.{IsBoundary, is_feed};
 ghost use Rattle.text_rope.specs.Finds.{IsBehindFeed};
 ghost use Rattle.inlay_map.specs.Spots.{IsNextPiece, IsOffsetAt, IsRowAt};
 
 use crate::amount::{ByBytes, ByFeeds, feeds_in};
 use crate::snapshot::InlaySnapshot;
-use cell_units::{Bias, NoMemory, Piece, PieceKind, Steps, Text};
+use cell_units::{Bias, NoMemory, Piece, PieceKind, Point, Steps, Text};
 use std::alloc::Global;
 
 impl InlaySnapshot {
@@ -46,6 +47,29 @@ impl InlaySnapshot {
         let text = self.inlaid.shown(spot.index, steps);
         let front = &text.as_bytes()[..(rest - spot.gap.bytes) as usize];
         spot.before.upper.feeds + spot.gap.feeds + feeds_in(front)
+    }
+
+    /// The point of a place whose line begins in the text that it stands in, behind the inlay before it. `None` elsewhere.
+    pub(crate) fn point_in_text(&self, place: u32, steps: &mut Steps) -> Option<Point>
+        requires { place ≤ length (shown_text self.now) }
+        ensures point { ForSome result (λ p. p ≡ point_of (shown_text self.now) place) }
+        ensures counted { steps.old ≤ steps.new }
+    {
+        let _len = self.text_len();
+        let spot = self.find::<ByBytes>(place, Bias::Left, steps);
+        let rest = place - spot.before.upper.bytes;
+        if rest > spot.gap.bytes {
+            return None;
+        }
+        let point = self.inlaid.point(spot.before.lower.bytes + rest, steps);
+        let rows = point.row - spot.before.lower.feeds;
+        if rows == 0 {
+            return None;
+        }
+        Some(Point {
+            row: spot.before.upper.feeds + rows,
+            column: point.column,
+        })
     }
 
     /// The place at which a display line begins.

@@ -8,8 +8,9 @@ ghost use Rattle.cell_units.specs.Record.{Inlay, inlay_le};
 ghost use Rattle.cell_units.specs.Sorting.{insert_by};
 ghost use Rattle.sum_tree.specs.Bounds.{ChangesAtMost, Searches, TakesAtMost, way};
 ghost use Rattle.text_rope.specs.Bounds.{ways};
-ghost use Rattle.inlay_map.specs.Bounds.{SearchesOnce, TakesInlaid, met, putting, relaying};
-ghost use Rattle.inlay_map.specs.Leads.{Leads, inlaid_shift, inlay_shift, reach_of, unmoved};
+ghost use Rattle.shifted_lists.specs.Leads.{Leads, reach_of, unmoved};
+ghost use Rattle.inlay_map.specs.Bounds.{SearchesOnce, TakesAmong, TakesInlaid, met, putting, relaying};
+ghost use Rattle.inlay_map.specs.InlaidShifts.{inlaid_shift, inlay_shift};
 ghost use Rattle.inlay_map.specs.Kept.{IsInlaid};
 ghost use Rattle.inlay_map.specs.Maps.{StandAfter, add_refusal, source_after};
 ghost use Rattle.inlay_map.specs.Splices.{inlay_of, without_at};
@@ -147,7 +148,7 @@ impl InlaySnapshot {
             IfOk result (λ s. s ≡ inlay_source self.now.text inlays) }
         ensures counted { steps.old ≤ steps.new }
         ensures steps { let s = self.now in
-            SearchesOnce putting s.text (length s.inlays + 1) steps.old steps.new }
+            TakesAmong putting s.text (length s.inlays + 1) steps.old steps.new }
     {
         let mut inlaid = self.inlaid.share()?;
         let at = inlaid.add(alloc, mark, steps)?;

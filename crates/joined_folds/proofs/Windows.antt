@@ -82,7 +82,7 @@ module _ (folds : List Fold) where
     go (inr x) = covered_past folds n q e x
   not-covered p (j ∷ js) n q e a pq l starts = a.0.bare q pq (All-head (λ (i : JoinedFold). q < i.start) j js starts)
 
-last-bound : (p : ℕ) (js : List JoinedFold) (b : ℕ) → p ≤ b → All (λ j. j.end ≤ b) js → last_end p js ≤ b
+pub last-bound : (p : ℕ) (js : List JoinedFold) (b : ℕ) → p ≤ b → All (λ j. j.end ≤ b) js → last_end p js ≤ b
 last-bound p [] b l a = l
 last-bound p (j ∷ js) b l a = last-bound j.end js b (All-head (λ (i : JoinedFold). i.end ≤ b) j js a) (All-tail (λ (i : JoinedFold). i.end ≤ b) j js a)
 

@@ -1,1 +1,2 @@
 pub mod TabLemmas
+pub mod PlainTexts

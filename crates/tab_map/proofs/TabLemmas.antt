@@ -1,5 +1,5 @@
 -- Lines at a tab size.
-use Rattle.std.proofs.Common.{◌≡◌, ℕ, ◌+◌, ◌-◌, ◌<◌, ◌≤◌, List, [], ◌∷◌, ◌++◌, length, map, take, drop, Option, Some, None, refl, sym, ap, ◌∙◌, arith, subst, true}
+use Rattle.std.proofs.Common.{◌≡◌, ℕ, ◌+◌, ◌-◌, ◌<◌, ◌≤◌, List, [], ◌∷◌, ◌++◌, length, map, take, Option, Some, None, refl, sym, ap, ◌∙◌, arith, subst, true}
 use Rattle.std.specs.Prelude.{unwrap_or, count_by, slice_get, slice_index_or, option_map}
 use Rattle.std.proofs.lemmas.List.{drop-map, take-map, drop_all, length-map}
 use Rattle.std.proofs.lemmas.Option.{get_or_from_slice_get, slice_get-map}
@@ -13,8 +13,8 @@ use Rattle.cell_units.proofs.ReplacedRows.{row_of-le}
 use Rattle.cell_units.proofs.Sources.{row-lt}
 use Rattle.cell_line.specs.declared.element.Element.{Element}
 use Rattle.cell_line.specs.Elements.{clusters, elements_of, placed}
-use Rattle.tab_map.specs.Leads.{Leads, LeadsBy}
-use Rattle.tab_map.specs.TabLines.{AreMet, AreReplaced, IsShift, LinesFollow, first_met, line_texts, lines_at, new_reach, old_reach}
+use Rattle.shifted_lists.specs.Leads.{LeadsAt, LeadsBy}
+use Rattle.tab_map.specs.TabLines.{AreReplaced, IsShift, LinesFollow, first_met, line_texts, lines_at, new_reach, old_reach}
 
 -- ---- elements by texts
 
@@ -40,7 +40,7 @@ lines-texts s tab = each_by_texts tab (shown_lines s)
 
 -- ---- replacements that lead
 
-leads-map : {X Y : Type 0} (f : X → Y) (old new : List X) (start end count : ℕ) → Leads old new start end count → Leads (map f old) (map f new) start end count
+pub leads-map : {X Y : Type 0} (f : X → Y) (old new : List X) (start end count : ℕ) → LeadsAt old new start end count → LeadsAt (map f old) (map f new) start end count
 leads-map f old new start end count h = record {
   within = omega (arith, length-map old f, h.within);
   reaches = omega (arith, length-map new f, h.reaches);
@@ -49,7 +49,7 @@ leads-map f old new start end count h = record {
 }
 
 -- what replaces all leads from any list to any other
-leads_all : {X : Type 0} (old new : List X) (s : Shift) → IsShift 0 (length old) (length new) s → Leads old new s.start s.end s.count
+leads_all : {X : Type 0} (old new : List X) (s : Shift) → IsShift 0 (length old) (length new) s → LeadsAt old new s.start s.end s.count
 leads_all old new s h = record {
   within = omega (arith, h.end_is);
   reaches = omega (arith, h.reach_is);
@@ -73,14 +73,14 @@ replaced_leads None tab old new None (Some s) follow made = absurd made
 replaced_leads None tab old new (Some b) None follow made = absurd made
 replaced_leads None tab old new (Some b) (Some s) follow made =
     let count : new_reach new b - first_met old b ≡ s.count = omega (arith, made.start_is, made.reach_is) in
-    let texts : Leads (line_texts old) (line_texts new) s.start s.end s.count =
-    subst (λ k. Leads (line_texts old) (line_texts new) k s.end s.count) (sym made.start_is)
-    (subst (λ k. Leads (line_texts old) (line_texts new) (first_met old b) k s.count) (sym made.end_is)
-    (subst (λ k. Leads (line_texts old) (line_texts new) (first_met old b) (old_reach old b) k) count follow.1)) in
-    let lines : Leads (map (of_texts tab) (line_texts old)) (map (of_texts tab) (line_texts new)) s.start s.end s.count =
+    let texts : LeadsAt (line_texts old) (line_texts new) s.start s.end s.count =
+    subst (λ k. LeadsAt (line_texts old) (line_texts new) k s.end s.count) (sym made.start_is)
+    (subst (λ k. LeadsAt (line_texts old) (line_texts new) (first_met old b) k s.count) (sym made.end_is)
+    (subst (λ k. LeadsAt (line_texts old) (line_texts new) (first_met old b) (old_reach old b) k) count follow.1)) in
+    let lines : LeadsAt (map (of_texts tab) (line_texts old)) (map (of_texts tab) (line_texts new)) s.start s.end s.count =
     leads-map (of_texts tab) (line_texts old) (line_texts new) s.start s.end s.count texts in
-    subst (λ xs. Leads xs (lines_at new tab) s.start s.end s.count) (sym (lines-texts old tab))
-    (subst (λ xs. Leads (map (of_texts tab) (line_texts old)) xs s.start s.end s.count) (sym (lines-texts new tab)) lines)
+    subst (λ xs. LeadsAt xs (lines_at new tab) s.start s.end s.count) (sym (lines-texts old tab))
+    (subst (λ xs. LeadsAt (map (of_texts tab) (line_texts old)) xs s.start s.end s.count) (sym (lines-texts new tab)) lines)
 
 -- ---- lines of places
 
@@ -88,7 +88,7 @@ pub row_within : (s : Source) → IsWellFormed s → (place : ℕ) → row_of (s
 row_within s w place = row-lt s w place
 
 -- the first line that is met isn't behind the last one, before and after
-pub met_rises : (old new : List ℕ) (start end count : ℕ) → start ≤ end → Leads old new start end count
+pub met_rises : (old new : List ℕ) (start end count : ℕ) → start ≤ end → LeadsAt old new start end count
     → (row_of old start ≤ row_of old end) × (row_of old start ≤ row_of new (start + count))
 met_rises old new start end count ordered h =
     let same : row_of new start ≡ row_of old start = ap (count_by is_feed) h.before in

@@ -5,7 +5,7 @@ use Rattle.cell_units.specs.Layers.{Source, shown_lines, shown_text}
 use Rattle.cell_units.specs.Text.{row_of}
 use Rattle.cell_line.specs.declared.element.Element.{Element}
 use Rattle.cell_line.specs.Elements.{elements_of}
-use Rattle.tab_map.specs.Leads.{Leads, LeadsBy}
+use Rattle.shifted_lists.specs.Leads.{LeadsAt, LeadsBy}
 
 -- the elements of each line of a layer at a tab size
 abbrev pub lines_at : Source → ℕ → List (List Element)
@@ -43,8 +43,8 @@ new_reach new s = row_of (shown_text new) (s.start + s.count) + 1
 abbrev pub LinesFollow : Source → Source → Option Shift → Type 0
 LinesFollow old new None = line_texts new ≡ line_texts old
 LinesFollow old new (Some s) =
-    Leads (shown_text old) (shown_text new) s.start s.end s.count
-    × Leads (line_texts old) (line_texts new) (first_met old s) (old_reach old s) (new_reach new s - first_met old s)
+    LeadsAt (shown_text old) (shown_text new) s.start s.end s.count
+    × LeadsAt (line_texts old) (line_texts new) (first_met old s) (old_reach old s) (new_reach new s - first_met old s)
 
 -- ---- the lines that are made anew
 

@@ -8,7 +8,7 @@ use Rattle.cell_line.specs.declared.element.Element.{Element}
 use Rattle.cell_line.specs.RowTexts.{later_text, parted, row_texts_of, texts_of_parts}
 use Rattle.cell_line.specs.Wrapping.{cuts_of, indent_of}
 use Rattle.cell_units.specs.Rows.{all_rows, rows_before}
-use Rattle.wrap_map.specs.Leads.{Leads}
+use Rattle.shifted_lists.specs.Leads.{LeadsAt}
 use Rattle.wrap_map.specs.Standing.{Standing, shown_rows, stood_of, stood_with}
 use Rattle.wrap_map.specs.Stood.{Stood, rows_in, unwrapped}
 
@@ -111,7 +111,7 @@ drop-add n (suc m) [] = drop_all n [] (omega arith) ∙ sym (drop_all (suc m + n
 drop-add n (suc m) (x ∷ xs) = drop-add n m xs ∙ ap (λ (k : ℕ). drop k (x ∷ xs)) (let e : suc (m + n) ≡ suc m + n = omega arith in e)
 
 -- the new list is the old one but for what was put in
-pub leads-parts : {X : Type 0} (old new : List X) (a b n : ℕ) → Leads old new a b n
+pub leads-parts : {X : Type 0} (old new : List X) (a b n : ℕ) → LeadsAt old new a b n
     → new ≡ take a old ++ (take n (drop a new) ++ drop b old)
 leads-parts old new a b n l =
     sym (take-append-drop a new)
@@ -119,12 +119,12 @@ leads-parts old new a b n l =
     ∙ ap (λ xs. take a old ++ xs) (sym (take-append-drop n (drop a new))
     ∙ ap (λ xs. take n (drop a new) ++ xs) (drop-add n a new ∙ l.behind))
 
-pub put-in : {X : Type 0} (old new : List X) (a b n : ℕ) → Leads old new a b n → length (take n (drop a new)) ≡ n
+pub put-in : {X : Type 0} (old new : List X) (a b n : ℕ) → LeadsAt old new a b n → length (take n (drop a new)) ≡ n
 put-in old new a b n l = length-take-le n (drop a new) (let h = length-drop a new in let r = l.reaches in omega (arith, h, r))
 
 -- what is made of lines with marks, of which some are replaced by unwrapped ones
 pub mapped-after : {B : Type 0} (f : List Element × ℕ → B) (old new : List (List Element)) (marks : List ℕ) (a b n : ℕ)
-    → Leads old new a b n → a ≤ b → length marks ≡ length old
+    → LeadsAt old new a b n → a ≤ b → length marks ≡ length old
     → map f (zip new (take a marks ++ replicate n 0 ++ drop b marks))
     ≡ take a (map f (zip old marks)) ++ map f (zip (take n (drop a new)) (replicate n 0)) ++ drop b (map f (zip old marks))
 mapped-after f old new marks a b n l order one_each =
@@ -156,7 +156,7 @@ all-unwrapped (es ∷ lines) (suc n) h =
 
 -- where lines' rows are replaced, all their rows lead to what they are then
 pub rows-lead : (old put : List (List (List ℕ))) (a b : ℕ) → a ≤ b → b ≤ length old
-    → Leads (all_rows old) (all_rows (take a old ++ put ++ drop b old)) (length (all_rows (take a old))) (length (all_rows (take b old))) (length (all_rows put))
+    → LeadsAt (all_rows old) (all_rows (take a old ++ put ++ drop b old)) (length (all_rows (take a old))) (length (all_rows (take b old))) (length (all_rows put))
 rows-lead old put a b order within =
     let f : List (List ℕ) → List (List ℕ) = λ rows. rows in
     let A = all_rows (take a old) in

@@ -9,7 +9,7 @@ use Rattle.cell_line.specs.Lines.{FitsU32}
 use Rattle.cell_units.specs.declared.place.Shift.{Shift}
 use Rattle.cell_units.specs.Lawful.{IsWidth}
 use Rattle.cell_units.specs.Rows.{all_rows, rows_before}
-use Rattle.wrap_map.specs.Leads.{Leads, LeadsBy}
+use Rattle.shifted_lists.specs.Leads.{LeadsAt, LeadsBy}
 use Rattle.wrap_map.specs.Standing.{AreReplaced, AreRowsOf, HasRoom, IsStanding, IsSynced, Standing, Wrapped, all_at, shown_rows, standing_after, stood_of}
 use Rattle.wrap_map.specs.Stood.{Stood, marks_in, rows_in}
 use Rattle.wrap_map.specs.inside.Changes.{AreRowsIfAny, AreRowsIn, cleared, cleared_if_any}
@@ -19,7 +19,7 @@ pub length-stood_of : (s : Standing) → length s.marks ≡ length s.lines → l
 length-stood_of s one_each = length-pairs stood s.lines s.marks one_each
 
 -- how lines stand after a replacement
-pub stood-after : (s : Standing) (lines : List (List Element)) (below : Shift) → Leads s.lines lines below.start below.end below.count
+pub stood-after : (s : Standing) (lines : List (List Element)) (below : Shift) → LeadsAt s.lines lines below.start below.end below.count
     → length s.marks ≡ length s.lines → stood_of (standing_after s lines (Some below)) ≡ cleared below (stood_of s)
 stood-after s lines below l one_each =
     mapped-after stood s.lines lines s.marks below.start below.end below.count l below.ordered one_each
@@ -27,9 +27,9 @@ stood-after s lines below l one_each =
     (all-unwrapped (take below.count (drop below.start lines)) below.count (put-in s.lines lines below.start below.end below.count l))
 
 -- the rows lead from those before to those after it
-pub rows-after : (s : Standing) (lines : List (List Element)) (below : Shift) → Leads s.lines lines below.start below.end below.count
+pub rows-after : (s : Standing) (lines : List (List Element)) (below : Shift) → LeadsAt s.lines lines below.start below.end below.count
     → length s.marks ≡ length s.lines
-    → Leads (all_rows (shown_rows s)) (all_rows (shown_rows (standing_after s lines (Some below))))
+    → LeadsAt (all_rows (shown_rows s)) (all_rows (shown_rows (standing_after s lines (Some below))))
     (rows_before (shown_rows s) below.start) (rows_before (shown_rows s) below.end) below.count
 rows-after s lines below l one_each =
     let old = shown_rows s in
@@ -45,11 +45,11 @@ rows-after s lines below l one_each =
     ∙ rows_in-unwrapped below.count in
     let a = rows_before old below.start in
     let b = rows_before old below.end in
-    let step : Leads (all_rows old) (all_rows (take below.start old ++ put ++ drop below.end old)) a b (length (all_rows put)) =
+    let step : LeadsAt (all_rows old) (all_rows (take below.start old ++ put ++ drop below.end old)) a b (length (all_rows put)) =
     rows-lead old put below.start below.end below.ordered within in
     let new-is = mapped-after texts s.lines lines s.marks below.start below.end below.count l below.ordered one_each in
-    subst (λ (ls : List (List (List ℕ))). Leads (all_rows old) (all_rows ls) a b below.count) (sym new-is)
-    (subst (λ (n : ℕ). Leads (all_rows old) (all_rows (take below.start old ++ put ++ drop below.end old)) a b n) count step)
+    subst (λ (ls : List (List (List ℕ))). LeadsAt (all_rows old) (all_rows ls) a b below.count) (sym new-is)
+    (subst (λ (n : ℕ). LeadsAt (all_rows old) (all_rows (take below.start old ++ put ++ drop below.end old)) a b n) count step)
 
 pub rows-replaced : (s : Standing) (below rows : Shift) → AreRowsIn (stood_of s) below rows → AreRowsOf s below rows
 rows-replaced s below rows r = record {
@@ -79,7 +79,7 @@ standing-unwrapped lines fits =
       room = record { fits = fits; rows_fit = omega (arith, rows, few) };
     }
 
-standing-shift : (s : Standing) (lines : List (List Element)) (below : Shift) → IsStanding s → Leads s.lines lines below.start below.end below.count
+standing-shift : (s : Standing) (lines : List (List Element)) (below : Shift) → IsStanding s → LeadsAt s.lines lines below.start below.end below.count
     → HasRoom (standing_after s lines (Some below)) → IsStanding (standing_after s lines (Some below))
 standing-shift s lines below is l room =
     let a = below.start in let b = below.end in let n = below.count in
@@ -129,9 +129,9 @@ leads-any s lines (Some below) (Some rows) is l r =
     let new = all_rows (shown_rows (standing_after s lines (Some below))) in
     let a = rows_before (shown_rows s) below.start in
     let b = rows_before (shown_rows s) below.end in
-    subst (λ (n : ℕ). Leads old new n rows.end rows.count) (sym r.start_is)
-    (subst (λ (n : ℕ). Leads old new a n rows.count) (sym r.end_is)
-    (subst (λ (n : ℕ). Leads old new a b n) (sym r.count_is) (rows-after s lines below l is.one_each)))
+    subst (λ (n : ℕ). LeadsAt old new n rows.end rows.count) (sym r.start_is)
+    (subst (λ (n : ℕ). LeadsAt old new a n rows.count) (sym r.end_is)
+    (subst (λ (n : ℕ). LeadsAt old new a b n) (sym r.count_is) (rows-after s lines below l is.one_each)))
 
 pub synced : (old : Wrapped) (lines : List (List Element)) (below : Option Shift) (new : Wrapped) (shown : Standing) (rows : Option Shift)
     → IsStanding old.standing → LeadsBy old.standing.lines lines below → AreRowsIfAny (stood_of old.standing) below rows

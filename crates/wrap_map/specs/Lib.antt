@@ -1,4 +1,3 @@
-pub mod Leads
 pub mod Stood
 pub mod Standing
 pub mod Waiting

@@ -3,7 +3,7 @@ use Rattle.cell_units.specs.Operation.{replaced_text}
 use Rattle.cell_units.specs.Text.{clean}
 use Rattle.cell_units.proofs.Characters.{clean-utf8}
 use Rattle.text_rope.specs.Edits.{IsRange}
-use Rattle.inlay_map.specs.Leads.{reach_of}
+use Rattle.shifted_lists.specs.Leads.{reach_of}
 use Rattle.inlay_map.proofs.ReplacedTexts.{IsTold, told, told-leads, told-stand}
 use Rattle.inlay_rows.proofs.callers.replace.Goals as goal
 use Rattle.inlay_rows.proofs.callers.replace.Goals.{In_ok-next}

@@ -1,4 +1,4 @@
-use Rattle.std.proofs.Common.{◌≡◌, ◌+◌, ◌≤◌, ap, ◌∙◌, arith}
+use Rattle.std.proofs.Common.{◌+◌, ap, ◌∙◌, arith}
 use Rattle.cell_units.specs.Layers.{shown_text}
 use Rattle.tab_map.proofs.TabLemmas.{met_rises}
 use Rattle.tab_map.proofs.map.met.Goals as goal

@@ -1,7 +1,7 @@
 use Rattle.std.proofs.Common.{◌+◌, ◌≤◌, ◌∙◌, Option, option_map, ap, sym, subst}
 use Rattle.cell_units.specs.declared.place.Shift.{Shift}
+use Rattle.shifted_lists.specs.Leads.{LeadsIfAny, reach_of, unmoved}
 use Rattle.inlay_map.specs.Bounds.{met_by, syncing}
-use Rattle.inlay_map.specs.Leads.{LeadsIfAny, reach_of, unmoved}
 use Rattle.inlay_map.specs.Maps.{InlayState, StandAfter, answer_of, source_after}
 use Rattle.inlay_map.proofs.MapStates.{pending-alone}
 use Rattle.inlay_map.proofs.inlay_map.InlayMap.after.Goals as goal

@@ -2,8 +2,10 @@ use Rattle.std.proofs.Common.{◌≡◌, ◌+◌, ◌*◌, ◌≤◌, ◌<◌, �
 use Rattle.cell_units.specs.declared.place.Bias.TheVariants.{Left, Right}
 use Rattle.cell_units.specs.Layers.{Source, place_of}
 use Rattle.cell_units.specs.Operation.{move_inlay}
-use Rattle.inlay_map.specs.Leads.{Leads, Reach, inlaid_shift, reach_of, unmoved}
-use Rattle.inlay_map.specs.Maps.{InlayState, StandAfter, answer_of, source_after, with_pending}
+use Rattle.shifted_lists.specs.Covering.{with_pending}
+use Rattle.shifted_lists.specs.Leads.{Leads, Reach, reach_of, unmoved}
+use Rattle.inlay_map.specs.InlaidShifts.{inlaid_shift}
+use Rattle.inlay_map.specs.Maps.{InlayState, StandAfter, answer_of, source_after}
 use Rattle.inlay_map.proofs.MapStates.{left-moved, pending-fits, places-small, shown-small, source-is}
 use Rattle.std.proofs.lemmas.List.{length-map}
 use Rattle.cell_units.specs.Record.{inlay_le}
@@ -52,7 +54,7 @@ with_pending-answer-requires c =
     let is = c.shift_over-moved.ensures.shift in
     let within = (leads a).within in
     let reaches : s.start + s.count ≤ length next.text = subst (λ (v : Source). s.start + s.count ≤ length v.text) (sym c.in_ok-next.ensures.ok) (leads a).reaches in
-    pending-fits m.shown m.current m.pending (shift.start + shift.count + shift.end) c.self.invariant.leads
+    pending-fits m.shown m.current m.pending (reach_of shift) c.self.invariant.leads
     (places-small m.shown old.folds old.inlays old.short) (places-small m.current cur.folds cur.inlays cur.short)
     (omega (
       arith,

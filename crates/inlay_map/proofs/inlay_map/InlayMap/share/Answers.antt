@@ -1,7 +1,7 @@
 use Rattle.std.proofs.Common.{◌∙◌, option_map, sym, subst}
 use Rattle.cell_units.specs.Layers.{Source}
+use Rattle.shifted_lists.specs.Leads.{reach_of}
 use Rattle.inlay_map.specs.Kept.{IsKept}
-use Rattle.inlay_map.specs.Leads.{reach_of}
 use Rattle.inlay_map.proofs.inlay_map.InlayMap.share.Goals as goal
 
 pub invariant_of-result : goal.invariant_of-result

@@ -2,9 +2,11 @@ use Rattle.std.proofs.Common.{◌≡◌, ◌+◌, ◌*◌, ◌≤◌, ◌<◌, �
 use Rattle.cell_units.specs.declared.place.Bias.TheVariants.{Left, Right}
 use Rattle.cell_units.specs.Inlaid.{inlays_at}
 use Rattle.cell_units.specs.Layers.{Source, inlay_source, place_of}
+use Rattle.shifted_lists.specs.Covering.{with_pending}
+use Rattle.shifted_lists.specs.Leads.{Reach, reach_of}
 use Rattle.inlay_map.specs.Kept.{IsKept}
-use Rattle.inlay_map.specs.Leads.{Reach, inlay_shift, reach_of}
-use Rattle.inlay_map.specs.Maps.{InlayState, with_pending}
+use Rattle.inlay_map.specs.InlaidShifts.{inlay_shift}
+use Rattle.inlay_map.specs.Maps.{InlayState}
 use Rattle.inlay_map.proofs.MapStates.{kept-turned, ordered-pending, pending-fits, places-small, shown-small, source-is, turned-left}
 use Rattle.inlay_map.proofs.inlay_map.InlayMap.turn_to.Goals as goal
 
@@ -31,7 +33,7 @@ with_pending-requires c =
     let le : o ≤ length m.current.text = omega (arith, c.requires.within, ap (λ (t : List ℕ). length t) (c.requires.text ∙ sym (ap (λ (v : Source). v.text) now))) in
     let shift = c.shift_to-shift.result in
     let is = c.shift_to-shift.ensures.shift in
-    pending-fits m.shown m.current m.pending (shift.start + shift.count + shift.end) c.self.invariant.leads
+    pending-fits m.shown m.current m.pending (reach_of shift) c.self.invariant.leads
     (places-small m.shown old.folds old.inlays old.short) (places-small m.current cur.folds cur.inlays cur.short)
     (omega (
       arith,

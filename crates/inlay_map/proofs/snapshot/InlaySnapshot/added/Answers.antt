@@ -4,7 +4,7 @@ use Rattle.cell_units.specs.Layers.{Source}
 use Rattle.cell_units.specs.Record.{Inlay, inlay_le}
 use Rattle.mark_tree.proofs.Sorting as sorting
 use Rattle.text_rope.specs.Ropes.{HasHeight}
-use Rattle.inlay_map.specs.Bounds.{SearchesOnce, putting}
+use Rattle.inlay_map.specs.Bounds.{TakesAmong, putting}
 use Rattle.sum_core.specs.declared.load.NoLoad.{NoLoad}
 use Rattle.splice_tree.specs.Splices.{Piece, with_first_gap}
 use Rattle.inlay_map.specs.declared.amount.Amount.{Amount}
@@ -70,7 +70,7 @@ returns-in_err-at-clause-steps c h high =
     let same : length c.in_ok-inlaid.inlaid.inlays ≡ length c.args.self.now.inlays = ap (λ (s : Source). length s.inlays) (c.in_ok-inlaid.ensures ∙ c.self.view_is) in
     omega (arith, c.add.ensures.steps h (omega (arith, high.1, same)), same)
 
-whole : (c : After-respliced) → SearchesOnce putting c.args.self.now.text (length c.args.self.now.inlays + 1) c.args.steps.now c.respliced.new.steps
+whole : (c : After-respliced) → TakesAmong putting c.args.self.now.text (length c.args.self.now.inlays + 1) c.args.steps.now c.respliced.new.steps
 whole c h high =
     let was = c.in_ok-inlaid.ensures ∙ c.self.view_is in
     let same : length c.in_ok-inlaid.inlaid.inlays ≡ length c.args.self.now.inlays = ap (λ (s : Source). length s.inlays) was in

@@ -1,0 +1,2 @@
+pub mod CoverLeads
+pub mod TokenPlaces
