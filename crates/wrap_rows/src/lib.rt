@@ -1,0 +1,22 @@
+//! Worked rows of the tab map and the wrap map: which lines wait, what stands where once they are wrapped, and what edits leave
+//! of it, on texts that are known and on texts that random changes have made. There is nothing here but tests.
+#![tactic(auto)]
+
+#[cfg(test)]
+mod histories;
+#[cfg(test)]
+mod landings;
+#[cfg(test)]
+mod plain;
+#[cfg(test)]
+mod random;
+#[cfg(test)]
+mod read;
+#[cfg(test)]
+mod rows;
+#[cfg(test)]
+mod script;
+#[cfg(test)]
+mod shares;
+#[cfg(test)]
+mod tabs;

@@ -1,0 +1,70 @@
+-- The lines of a text, for the maps above it.
+use Rattle.std.proofs.Common.{◌≡◌, ℕ, ◌-◌, ◌<◌, ◌≤◌, ◌^◌, List, length, Option, Some, None, inl, inr, arith, ap, sym, subst, ◌∙◌}
+use Rattle.std.specs.Prelude.{unwrap_or}
+use Rattle.cell_units.specs.declared.limits.TheConstants.{TEXT_LIMIT}
+use Rattle.cell_units.specs.declared.place.Shift.{Shift}
+use Rattle.cell_units.specs.Layers.{plain_source}
+use Rattle.cell_units.specs.Lawful.{IsWidth}
+use Rattle.cell_units.specs.Operation.{replaced_text}
+use Rattle.cell_units.proofs.ReplacedRows.{length-replaced_text}
+use Rattle.shifted_lists.specs.Leads.{LeadsBy}
+use Rattle.tab_map.specs.TabLines.{IsSynced, LinesFollow, Tabbed, last_lines, lines_at}
+use Rattle.tab_map.proofs.PlainTexts.{plain-few, plain-fits, plain-follow}
+use Rattle.text_rope.specs.Edits.{IsRange}
+use Rattle.edit_patch.specs.declared.edit.Edit.{Edit}
+use Rattle.cell_line.specs.declared.lines.Run.{Run}
+use Rattle.cell_units.specs.Rows.{all_rows}
+use Rattle.wrap_map.specs.Landing.{standing_landed}
+use Rattle.wrap_map.specs.Standing.{HasRoom, Standing, shown_rows, standing_after}
+use Rattle.wrap_map.proofs.Rooms.{has-room}
+use Rattle.wrapped_text.specs.Shown.{HaveRoom, MayStand}
+use Rattle.std.proofs.lemmas.Bool.{cases_eq}
+use Rattle.cell_line.specs.declared.element.Element.{Element}
+
+-- the lines of a text have room
+pub text-room : (text : List ℕ) → length text ≤ TEXT_LIMIT → HaveRoom (lines_at (plain_source text) 4)
+text-room text small marks =
+    has-room (record { lines = lines_at (plain_source text) 4; marks = marks }) (plain-fits text 4 (omega arith) small) (omega (arith, plain-few text 4, small))
+
+-- lines that have room have it after some were replaced, and when a run of them landed
+pub room-after : (s : Standing) (lines : List (List Element)) (below : Option Shift) → HaveRoom lines → HasRoom (standing_after s lines below)
+room-after s lines None room = room s.marks
+room-after s lines (Some below) room = room (standing_after s lines (Some below)).marks
+
+pub rows-landed : (s : Standing) (lines : List (List Element)) (since : List Edit) (run : Run) (width : ℕ) → s.lines ≡ lines → HaveRoom lines
+    → length (all_rows (shown_rows (standing_landed since run width s))) < 2 ^ 32
+rows-landed s lines since run width are room =
+    let landed = standing_landed since run width s in
+    let here : HasRoom landed = (subst HaveRoom (sym are) room) landed.marks in
+    here.rows_fit
+
+-- the count that is reckoned from the lengths is that of what was put in
+pub told-follow : (old new put : List ℕ) (start end bytes after : ℕ) (s : Shift) → IsRange old start end → new ≡ replaced_text old start end put
+    → bytes ≡ length old → after ≡ length new → s.start ≡ start → s.end ≡ end → s.count ≡ after - (bytes - (end - start))
+    → LinesFollow (plain_source old) (plain_source new) (Some s)
+told-follow old new put start end bytes after s range is was now start-is end-is count =
+    let made = length-replaced_text old start end put range.1.0 in
+    plain-follow old new put s (omega (arith, end-is, range.2.0))
+    (is ∙ (λ i. replaced_text old (sym start-is i) (sym end-is i) put))
+    (omega (arith, count, was, now, ap (λ (t : List ℕ). length t) is, made, range.0, range.1.0, range.2.0))
+
+-- what the tab map answers leads for the wrap map
+pub leads-told : (old : Tabbed) (text shared : List ℕ) (below : Option Shift) (after : Tabbed) (lines : List (List Element)) (answer : Option Shift)
+    → old.tab ≡ 4 → old.before ≡ None → shared ≡ text → IsSynced old (plain_source shared) below after lines answer
+    → LeadsBy (lines_at old.source 4) (lines_at (plain_source text) 4) answer
+leads-told old text shared below after lines answer tab before same synced =
+    let was : last_lines old ≡ lines_at old.source 4 = λ i. lines_at old.source (unwrap_or (before i) (tab i)) in
+    let is : lines ≡ lines_at (plain_source text) 4 = synced.lines_are ∙ (λ i. lines_at (plain_source (same i)) (tab i)) in
+    subst (λ (xs : List (List Element)). LeadsBy xs (lines_at (plain_source text) 4) answer) was
+    (subst (λ (ys : List (List Element)). LeadsBy (last_lines old) ys answer) is synced.leads)
+
+-- a width at which lines may stand is lawful, and the other way round
+pub may-lawful : (width : ℕ) → MayStand width → IsWidth width
+may-lawful width may = elim (cases_eq width 0) [
+  | inl none ↦ inl none
+  | inr some ↦ inr (may some)
+]
+
+pub lawful-may : (width : ℕ) → IsWidth width → MayStand width
+lawful-may width (inl none) some = absurd (some none)
+lawful-may width (inr within) some = within

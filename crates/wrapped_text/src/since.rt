@@ -1,0 +1,53 @@
+//! What became of lines since a run of them was taken.
+ghost use Rattle.std.specs.Prelude.{◌≡◌, ◌+◌, ◌^◌, ◌<◌, IfOk, IfSome};
+ghost use Rattle.edit_patch.specs.Fits.{Fits};
+ghost use Rattle.shifted_lists.specs.Leads.{LeadsBy};
+ghost use Rattle.wrapped_text.specs.Shown.{patch_of};
+
+use cell_line::Lines;
+use cell_units::{NoMemory, Shift};
+use edit_patch::{Edit, Patch};
+use std::alloc::Global;
+
+/// The patch of a replacement, if there was one.
+fn patch_of(alloc: Global, lines: Option<Shift>) -> Result<Patch, NoMemory>
+    requires { IfSome lines (λ s. s.start + s.count < 2 ^ 32) }
+    ensures { IfOk result (λ patch. patch ≡ patch_of lines) }
+{
+    let mut edits = Vec::new(alloc);
+    if let Some(s) = lines
+        && (s.start < s.end || s.count > 0)
+    {
+        edits.push(Edit {
+            old_start: s.start,
+            old_end: s.end,
+            new_start: s.start,
+            new_end: s.start + s.count,
+        })?;
+    }
+    Patch::of(edits).map_err(|_| NoMemory)
+}
+
+/// The patch from the first lines to those of now, by that to the ones before and what was replaced of them.
+pub(crate) fn followed<N: Lines>(
+    alloc: Global,
+    since: &Patch,
+    first: &N,
+    before: &N,
+    now: &N,
+    lines: Option<Shift>,
+) -> Result<Patch, NoMemory>
+    requires fits { let old = N.elements_by_line first.now in
+        Fits since.now old (N.elements_by_line before.now) }
+    requires leads { let old = N.elements_by_line before.now in
+        LeadsBy old (N.elements_by_line now.now) lines }
+    ensures { let old = N.elements_by_line first.now in
+        IfOk result (λ patch. Fits patch old (N.elements_by_line now.now)) }
+{
+    // Both are few enough that positions are u32.
+    let _few = first.lines();
+    let _now = now.lines();
+    let _edits = since.edits();
+    let later = patch_of(alloc, lines)?;
+    since.compose(alloc, &later)
+}

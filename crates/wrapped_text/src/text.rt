@@ -1,0 +1,215 @@
+//! A text with its lines and their rows.
+ghost use Rattle.std.specs.Prelude.{◌≡◌, ◌≢◌, ◌+◌, ◌≤◌, [], None, Some, length, map, IfErr, IfOk, OnErr, OnOk};
+ghost use Rattle.cell_line.specs.Lines.{FitsU32};
+ghost use Rattle.cell_units.specs.Layers.{plain_source};
+ghost use Rattle.cell_units.specs.Lawful.{IsWidth};
+ghost use Rattle.cell_units.specs.Operation.{replaced_text};
+ghost use Rattle.cell_units.specs.Text.{clean};
+ghost use Rattle.edit_patch.specs.Fits.{Fits};
+ghost use Rattle.shifted_lists.specs.Leads.{LeadsBy};
+ghost use Rattle.tab_map.specs.TabLines.{LinesFollow, lines_at};
+ghost use Rattle.wrap_map.specs.Landing.{IsLanded, cuts_of_run};
+ghost use Rattle.wrap_map.specs.Standing.{IsSynced, all_at};
+ghost use Rattle.wrap_map.specs.Waiting.{IsNextIfAny};
+ghost use Rattle.wrapped_text.specs.Shown.{HaveRoom, IsWrapped, MayStand};
+
+use crate::callers::{wrap_next, wraps};
+use cell_line::{Cuts, Lines, Run};
+use cell_units::{Fault, NoMemory, Refusal, Shift, Steps};
+use edit_patch::Patch;
+use std::alloc::Global;
+use tab_map::{TabMap, TabSnapshot};
+use text_rope::Rope;
+use wrap_map::{WrapMap, WrapSnapshot};
+
+/// The tab size.
+pub const TAB: u32 = 4;
+
+/// What a snapshot of the rows shows.
+pub type Shown = WrapSnapshot<TabSnapshot<Rope>>;
+
+/// The rows that are shown after a replacement of the text, and what was replaced of the lines and of the rows.
+#[derive(Drop)]
+pub struct Change {
+    pub shown: Shown,
+    pub lines: Option<Shift>,
+    pub rows: Option<Shift>,
+}
+
+/// A text under a tab map and a wrap map, with its lines as the wrap map has them.
+#[derive(Drop)]
+pub struct WrappedText {
+    pub rope: Rope,
+    pub tabs: TabMap<Rope>,
+    pub lines: TabSnapshot<Rope>,
+    pub map: WrapMap<TabSnapshot<Rope>>,
+    pub width: u32,
+    ghost tabbed: { tabs ≡ record { source = plain_source rope; tab = 4; before = None } },
+    ghost lines_are: { lines ≡ lines_at (plain_source rope) 4 },
+    ghost fit: { FitsU32 lines },
+    ghost room: { HaveRoom lines },
+    ghost mapped: { map.standing.lines ≡ lines },
+    ghost one_width: { map.width ≡ width },
+    ghost lawful: { MayStand width },
+}
+
+/// A tab map of a text, and the lines that it shows.
+fn tabbed(alloc: Global, rope: &Rope) -> Result<(TabMap<Rope>, TabSnapshot<Rope>), NoMemory>
+    ensures map { IfOk result (λ made. made.0 ≡ record { source = plain_source rope.now; tab = 4; before = None }) }
+    ensures lines { IfOk result (λ made. made.1 ≡ lines_at (plain_source rope.now) 4) }
+    ensures fit { OnOk result (FitsU32 (lines_at (plain_source rope.now) 4)) }
+    ensures room { OnOk result (HaveRoom (lines_at (plain_source rope.now) 4)) }
+{
+    // A text is short.
+    let _bytes = rope.len();
+    let mut tabs = TabMap::new(rope.share()?, TAB);
+    let (lines, _) = tabs.sync(alloc, rope.share()?, None)?;
+    Ok((tabs, lines))
+}
+
+/// The lines of a text as it is now, and which of them were replaced.
+fn follow(
+    alloc: Global,
+    tabs: &mut TabMap<Rope>,
+    rope: &Rope,
+    below: Shift,
+) -> Result<(TabSnapshot<Rope>, Option<Shift>), NoMemory>
+    requires follow { LinesFollow tabs.old.source (plain_source rope.now) (Some below) }
+    requires tab { tabs.old.tab ≡ 4 }
+    requires before { tabs.old.before ≡ None }
+    ensures tabs { OnOk result (tabs.new ≡ record { source = plain_source rope.now; tab = 4; before = None }) }
+    ensures lines { IfOk result (λ made. made.0 ≡ lines_at (plain_source rope.now) 4) }
+    ensures fit { OnOk result (FitsU32 (lines_at (plain_source rope.now) 4)) }
+    ensures room { OnOk result (HaveRoom (lines_at (plain_source rope.now) 4)) }
+    ensures leads { IfOk result (λ made. LeadsBy (lines_at tabs.old.source 4) (lines_at (plain_source rope.now) 4) made.1) }
+{
+    // A text is short.
+    let _bytes = rope.len();
+    tabs.sync(alloc, rope.share()?, Some(below))
+}
+
+impl WrappedText {
+    /// The text with each line in one row.
+    pub fn new(
+        alloc: Global,
+        rope: Rope,
+        width: u32,
+        steps: &mut Steps,
+    ) -> Result<WrappedText, NoMemory>
+        requires { IsWidth width }
+        ensures text { IfOk result (λ made. made.rope ≡ rope) }
+        ensures map { IfOk result (λ made. made.map ≡ record { standing = all_at 0 made.lines; width = width }) }
+    {
+        let (tabs, lines) = tabbed(alloc, &rope)?;
+        let map = WrapMap::new(alloc, lines.share()?, width, steps)?;
+        Ok(WrappedText {
+            rope,
+            tabs,
+            lines,
+            map,
+            width,
+        })
+    }
+
+    /// Sets the width that the lines are to stand at. `BadNumber` where it is neither 0 nor 2 to 10,000.
+    pub fn set_width(&mut self, width: u32) -> Result<(), Refusal>
+        ensures set { OnOk result (self.new.map ≡ record self.old.map { width = width }) }
+        ensures refused { IfErr result (λ refusal. (refusal ≡ Refusal.BadNumber) × (¬ IsWidth width)) }
+        ensures unchanged { OnErr result (self.new ≡ self.old) }
+    {
+        self.map.set_width(width)?;
+        self.width = width;
+        Ok(())
+    }
+
+    /// Puts a text in the place of a range, and shows the rows then.
+    pub fn replace(
+        &mut self,
+        alloc: Global,
+        start: u32,
+        end: u32,
+        text: &str,
+        steps: &mut Steps,
+    ) -> Result<Change, Fault>
+        ensures text { let made = replaced_text self.old.rope start end (clean text.now) in
+            OnOk result (self.new.rope ≡ made) }
+        ensures leads { IfOk result (λ made. LeadsBy self.old.lines self.new.lines made.lines) }
+        ensures shown { let old = self.old.map in let lines = self.new.lines in
+            IfOk result (λ made. IsSynced old lines made.lines self.new.map made.shown made.rows) }
+        ensures unchanged { OnErr result (self.new ≡ self.old) }
+    {
+        let bytes = self.rope.len();
+        let mut rope = self.rope.share()?;
+        rope.replace(alloc, start, end, text, steps)?;
+        let below = Shift::new(start, end, rope.len() - (bytes - (end - start)));
+        let mut tabs = self.tabs.share()?;
+        let (lines, replaced) = follow(alloc, &mut tabs, &rope, below)?;
+        let (shown, rows) = self.map.sync(alloc, lines.share()?, replaced, steps)?;
+        self.rope = rope;
+        self.tabs = tabs;
+        self.lines = lines;
+        Ok(Change {
+            shown,
+            lines: replaced,
+            rows,
+        })
+    }
+
+    /// Where each line of a run is cut at the width.
+    pub fn cuts(&self, alloc: Global, run: Run) -> Result<Vec<Cuts>, NoMemory>
+        requires { run.first + run.count ≤ length self.now.lines }
+        ensures { let cuts = cuts_of_run self.now.lines run self.now.width in
+            IfOk result (λ wraps. map (λ cuts. cuts.items) wraps.items ≡ cuts) }
+    {
+        wraps(alloc, &self.lines, run, self.width)
+    }
+
+    /// Wraps the first lines that wait. It gives the run of them, or `None` where no line waits.
+    pub fn wrap_next(&mut self, alloc: Global, steps: &mut Steps) -> Result<Option<Run>, NoMemory>
+        ensures next { IfOk result (λ run. IsNextIfAny self.old.map.standing.marks self.old.width [] run) }
+        ensures wrapped { IfOk result (λ run. IsWrapped self.old.map run self.new.map) }
+        ensures unchanged { OnErr result (self.new.map ≡ self.old.map) }
+    {
+        wrap_next(alloc, &mut self.map, &self.lines, self.width, steps)
+    }
+
+    /// Gives the lines of a run that are still there their cuts, and answers the rows that were replaced. Where the width isn't
+    /// the present one, nothing changes.
+    pub fn land(
+        &mut self,
+        alloc: Global,
+        taken: &TabSnapshot<Rope>,
+        since: &Patch,
+        run: Run,
+        width: u32,
+        wraps: &[Cuts],
+        steps: &mut Steps,
+    ) -> Result<Patch, NoMemory>
+        requires since { Fits since.now taken.now self.old.lines }
+        requires within { run.first + run.count ≤ length taken.now }
+        requires wraps { map (λ cuts. cuts.items) wraps.now ≡ cuts_of_run taken.now run width }
+        ensures landed { width ≡ self.old.map.width →
+            IfOk result (IsLanded self.old.map since.now run self.new.map) }
+        ensures other_width { width ≢ self.old.map.width →
+            IfOk result (λ patch. patch ≡ []) × (self.new.map ≡ self.old.map) }
+        ensures text { self.new.rope ≡ self.old.rope }
+        ensures lines { self.new.lines ≡ self.old.lines }
+        ensures unchanged { OnErr result (self.new.map ≡ self.old.map) }
+    {
+        self.map.land(alloc, taken, since, run, width, wraps, steps)
+    }
+
+    /// An equal text with equal maps, which no later change of these reaches.
+    pub fn share(&self) -> Result<WrappedText, NoMemory>
+        ensures text { IfOk result (λ shared. shared.rope ≡ self.now.rope) }
+        ensures map { IfOk result (λ shared. shared.map ≡ self.now.map) }
+    {
+        Ok(WrappedText {
+            rope: self.rope.share()?,
+            tabs: self.tabs.share()?,
+            lines: self.lines.share()?,
+            map: self.map.share()?,
+            width: self.width,
+        })
+    }
+}
