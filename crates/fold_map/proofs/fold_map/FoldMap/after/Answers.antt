@@ -1,0 +1,38 @@
+use Rattle.std.proofs.Common.{Option, option_map, None, Some, sym, subst}
+use Rattle.cell_units.specs.declared.place.Shift.{Shift}
+use Rattle.cell_units.specs.Layers.{Source, unfolded}
+use Rattle.shifted_lists.specs.Leads.{Reach, reach_of}
+use Rattle.fold_map.specs.Maps.{FoldState}
+use Rattle.fold_map.specs.Synced.{Follows, IsSynced}
+use Rattle.fold_map.proofs.StateAnswers.{no-shift, synced-over}
+use Rattle.fold_map.proofs.fold_map.FoldMap.after.Goals as goal
+
+pub over-requires-clause-follows : goal.over-requires-clause-follows
+over-requires-clause-follows g c κs h =
+    let layer = g.L.Layer.source c.args.layer in
+    let now = subst (λ (o : Option Shift). Follows c.args.self.now.current layer (option_map reach_of c.args.shift) (option_map reach_of o)) c.in-None.is c.requires.follows in
+    let none = no-shift (unfolded c.args.self.now.current) (option_map reach_of c.args.shift) now.meets in
+    subst (λ (v : FoldState). Follows v.current layer None None) (sym c.self.view_is)
+    (subst (λ (o : Option Reach). Follows c.args.self.now.current layer o None) none now)
+
+pub returns-in_ok-over-in-None-clause-synced : goal.returns-in_ok-over-in-None-clause-synced
+returns-in_ok-over-in-None-clause-synced g c =
+    let layer = g.L.Layer.source c.args.layer in
+    let m = c.self.inside in
+    let shift = option_map reach_of c.args.shift in
+    let state : FoldState = record { current = m.current; shown = m.shown; pending = option_map reach_of m.pending } in
+    let now = subst (λ (o : Option Shift). Follows c.args.self.now.current layer shift (option_map reach_of o)) c.in-None.is c.requires.follows in
+    let here = subst (λ (v : FoldState). Follows v.current layer shift None) (sym c.self.view_is) now in
+    let made = synced-over state c.text_len-len.ensures.lawful c.self.invariant layer shift here in
+    subst (λ (o : Option Shift). IsSynced layer shift (option_map reach_of o) c.args.self.now c.in_ok-over-in-None.field-0 (option_map reach_of m.pending)) (sym c.in-None.is)
+    (subst (λ (v : FoldState). IsSynced layer shift None v c.in_ok-over-in-None.field-0 (option_map reach_of m.pending)) c.self.view_is
+    (subst (λ (s : Source). IsSynced layer shift None state s (option_map reach_of m.pending)) (sym c.in_ok-over-in-None.ensures.ok) made))
+
+pub moved-requires-clause-follows : goal.moved-requires-clause-follows
+moved-requires-clause-follows g c κs h =
+    subst (λ (o : Option Shift). Follows c.args.self.now.current (g.L.Layer.source c.args.layer) (option_map reach_of c.args.shift) (option_map reach_of o)) c.in-Some.is c.requires.follows
+
+pub returns-in_ok-next-in-Some-clause-synced : goal.returns-in_ok-next-in-Some-clause-synced
+returns-in_ok-next-in-Some-clause-synced g c =
+    subst (λ (o : Option Shift). IsSynced (g.L.Layer.source c.args.layer) (option_map reach_of c.args.shift) (option_map reach_of o) c.args.self.now c.in_ok-next-in-Some.next (Some (reach_of c.in_ok-next-in-Some.answer))) (sym c.in-Some.is)
+    c.in_ok-next-in-Some.ensures.synced

@@ -1,0 +1,18 @@
+use Rattle.std.proofs.Common.{arith}
+use Rattle.cell_units.specs.declared.place.Bias.TheVariants.{Right}
+use Rattle.cell_units.proofs.ShownPlaces.{place-le, places-left_first, places-rise}
+use Rattle.fold_map.proofs.snapshot.FoldSnapshot.change_to.Goals as goal
+
+pub overflow_sub-behind : goal.overflow_sub-behind
+overflow_sub-behind g c =
+    omega (arith, c.place_of-past.ensures.place, c.shown_len.ensures.value, place-le c.args.self.now c.args.end Right c.requires.end.0)
+
+pub new-requires : goal.new-requires
+new-requires g c =
+    omega (
+      arith,
+      c.place_of-first.ensures.place,
+      c.place_of-past.ensures.place,
+      places-left_first c.args.self.now c.args.start,
+      places-rise c.args.self.now c.args.start c.args.end Right c.requires.order c.requires.end.0,
+    )

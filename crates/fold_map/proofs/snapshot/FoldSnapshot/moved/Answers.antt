@@ -1,0 +1,126 @@
+use Rattle.std.proofs.Common.{◌≡◌, [], ℕ, ◌+◌, ◌≤◌, List, length, map, Option, option_map, refl, ap, sym, ◌∙◌, subst, arith}
+use Rattle.std.proofs.lemmas.List.{length-drop}
+use Rattle.cell_units.specs.declared.place.Shift.{Shift}
+use Rattle.cell_units.specs.Layers.{Source, shown_text, unfolded}
+use Rattle.cell_units.specs.Record.{Fold}
+use Rattle.cell_units.specs.Text.{IsBoundary}
+use Rattle.joined_folds.specs.Sweeps.{fold_of}
+use Rattle.shifted_lists.specs.Leads.{LeadsIfAny, reach_of, unmoved}
+use Rattle.fold_map.specs.declared.met.Change.{Change}
+use Rattle.fold_map.specs.Changes.{IsChange}
+use Rattle.fold_map.specs.Replaced.{shown_change}
+use Rattle.fold_map.specs.Snapshots.{with_folds}
+use Rattle.fold_map.specs.Synced.{end_after, row_end_at, row_start_at}
+use Rattle.fold_map.proofs.Positions.{unfold-same}
+use Rattle.fold_map.proofs.StateMaps.{ordered-pending}
+use Rattle.fold_map.proofs.StateSynced.{below-within, last-size, low-is, met-end, moved-change, row-end-in, row-start-in, rows-in_order, start-within}
+use Rattle.fold_map.proofs.snapshot.FoldSnapshot.moved.Goals as goal
+use Rattle.fold_map.proofs.snapshot.FoldSnapshot.moved.Goals.{After-row_end_at-end}
+use Rattle.fold_map.proofs.snapshot.FoldSnapshot.moved.Given.{Over}
+
+pub moved_folds-requires-clause-within : goal.moved_folds-requires-clause-within
+moved_folds-requires-clause-within g c κs h x e =
+    let led = subst (λ (o : Option Shift). LeadsIfAny unmoved c.args.self.now.text (g.L.Layer.source c.args.layer).text (option_map reach_of o)) e c.requires.follows.text in
+    led.within
+
+pub moved_folds-requires-clause-reaches : goal.moved_folds-requires-clause-reaches
+moved_folds-requires-clause-reaches g c κs h x e =
+    let s = c.args.self.now in
+    let layer = g.L.Layer.source c.args.layer in
+    let led = subst (λ (o : Option Shift). LeadsIfAny unmoved s.text layer.text (option_map reach_of o)) e c.requires.follows.text in
+    let w = led.within in
+    let t = led.reaches in
+    let small = c.buffer_len.type_inv in
+    omega (arith, w, t, small, c.buffer_len.ensures.value, ap (λ (l : List ℕ). length l) led.behind, length-drop (x.start + x.count) layer.text, length-drop x.end s.text)
+
+-- the lower layer, as the snapshot is seen
+low-same : (low s : Source) (folds : List Fold) → low.folds ≡ [] → with_folds low folds ≡ s → low ≡ unfolded s
+low-same low s folds bare view = unfold-same low bare ∙ ap unfolded view
+
+start-is : (g : Over) (c : After-row_end_at-end g) → c.row_start_at-start.result ≡ row_start_at (unfolded c.args.self.now) c.args.below.start
+start-is g c = c.row_start_at-start.ensures ∙ ap (λ (v : Source). row_start_at v c.args.below.start) (low-same (g.L.Layer.source c.self.inside.layer) c.args.self.now (map fold_of c.self.inside.folds) c.self.invariant.bare c.self.view_is)
+
+end-is : (g : Over) (c : After-row_end_at-end g) → c.row_end_at-end.result ≡ row_end_at (unfolded c.args.self.now) c.args.below.end
+end-is g c = c.row_end_at-end.ensures ∙ ap (λ (v : Source). row_end_at v c.args.below.end) (low-same (g.L.Layer.source c.self.inside.layer) c.args.self.now (map fold_of c.self.inside.folds) c.self.invariant.bare c.self.view_is)
+
+pub row_start_at-start-requires-after_bounds : goal.row_start_at-start-requires-after_bounds
+row_start_at-start-requires-after_bounds g c κs h =
+    let layer = g.L.Layer.source c.args.layer in
+    subst (λ (v : Source). c.args.below.start ≤ length (shown_text v)) (sym (low-same (g.L.Layer.source c.self.inside.layer) c.args.self.now (map fold_of c.self.inside.folds) c.self.invariant.bare c.self.view_is))
+    (start-within c.args.self.now c.text_len.ensures.lawful layer c.buffer_len.ensures.well_formed (option_map reach_of c.args.shift) (ordered-pending c.args.shift) (reach_of c.args.below) c.args.below.ordered c.requires.follows)
+
+pub row_end_at-end-requires-after_bounds : goal.row_end_at-end-requires-after_bounds
+row_end_at-end-requires-after_bounds g c κs h =
+    let layer = g.L.Layer.source c.args.layer in
+    subst (λ (v : Source). c.args.below.end ≤ length (shown_text v)) (sym (low-same (g.L.Layer.source c.self.inside.layer) c.args.self.now (map fold_of c.self.inside.folds) c.self.invariant.bare c.self.view_is))
+    (below-within c.args.self.now c.text_len.ensures.lawful layer c.buffer_len.ensures.well_formed (option_map reach_of c.args.shift) (ordered-pending c.args.shift) (reach_of c.args.below) c.args.below.ordered c.requires.follows)
+
+pub end_after-requires-clause-within : goal.end_after-requires-clause-within
+end_after-requires-clause-within g c x e =
+    let layer = g.L.Layer.source c.args.layer in
+    let m = met-end c.args.self.now c.text_len.ensures.lawful layer c.buffer_len.ensures.well_formed (option_map reach_of c.args.shift) (ordered-pending c.args.shift) (reach_of c.args.below) c.args.below.ordered c.requires.follows (reach_of x) (ap (option_map reach_of) e) in
+    omega (arith, m.1, end-is g (goal.at.end_after-requires-clause-within g c).After-row_end_at-end)
+
+pub end_after-requires-clause-reaches : goal.end_after-requires-clause-reaches
+end_after-requires-clause-reaches g c =
+    let layer = g.L.Layer.source c.args.layer in
+    let shift = option_map reach_of c.args.shift in
+    let small = c.buffer_len.type_inv in
+    let size = last-size c.args.self.now c.text_len.ensures.lawful layer c.buffer_len.ensures.well_formed shift (ordered-pending c.args.shift) (reach_of c.args.below) c.args.below.ordered c.requires.follows in
+    omega (arith, small, size, c.buffer_len.ensures.value, ap (end_after shift) (end-is g (goal.at.end_after-requires-clause-reaches g c).After-row_end_at-end))
+
+pub changed-requires-clause-bare : goal.changed-requires-clause-bare
+changed-requires-clause-bare g c κs h = c.requires.follows.bare
+
+pub changed-requires-clause-order : goal.changed-requires-clause-order
+changed-requires-clause-order g c κs h =
+    let layer = g.L.Layer.source c.args.layer in
+    let a = (goal.at.changed-requires-clause-order g c).After-row_end_at-end in
+    omega (
+      arith,
+      start-is g a,
+      end-is g a,
+      rows-in_order c.args.self.now c.text_len.ensures.lawful layer c.buffer_len.ensures.well_formed (option_map reach_of c.args.shift) (ordered-pending c.args.shift) (reach_of c.args.below) c.args.below.ordered c.requires.follows,
+    )
+
+pub changed-requires-clause-change : goal.changed-requires-clause-change
+changed-requires-clause-change g c κs h =
+    let s = c.args.self.now in
+    let layer = g.L.Layer.source c.args.layer in
+    let shift = option_map reach_of c.args.shift in
+    let a = (goal.at.changed-requires-clause-change g c).After-row_end_at-end in
+    let last = c.end_after.ensures ∙ ap (end_after shift) (end-is g a) in
+    subst (λ (p : List Fold × Change). IsChange s (with_folds layer p.0) p.1)
+    (λ i. (sym c.in_ok-folds.ensures.ok i, record { start = sym (start-is g a) i; end = sym (end-is g a) i; last = sym last i }))
+    (moved-change s c.text_len.ensures.lawful layer c.buffer_len.ensures.well_formed shift (ordered-pending c.args.shift) (reach_of c.args.below) c.args.below.ordered c.requires.follows)
+
+pub change_to-replaced-requires-clause-start : goal.change_to-replaced-requires-clause-start
+change_to-replaced-requires-clause-start g c κs h =
+    let s = c.args.self.now in
+    let low = low-is s c.text_len.ensures.lawful (g.L.Layer.source c.args.layer) c.buffer_len.ensures.well_formed (option_map reach_of c.args.shift) (ordered-pending c.args.shift) (reach_of c.args.below) c.args.below.ordered c.requires.follows in
+    subst (IsBoundary s.text) (sym (start-is g (goal.at.change_to-replaced-requires-clause-start g c).After-row_end_at-end)) (row-start-in (unfolded s) refl low c.args.below.start)
+
+pub change_to-replaced-requires-clause-end : goal.change_to-replaced-requires-clause-end
+change_to-replaced-requires-clause-end g c κs h =
+    let s = c.args.self.now in
+    let low = low-is s c.text_len.ensures.lawful (g.L.Layer.source c.args.layer) c.buffer_len.ensures.well_formed (option_map reach_of c.args.shift) (ordered-pending c.args.shift) (reach_of c.args.below) c.args.below.ordered c.requires.follows in
+    subst (IsBoundary s.text) (sym (end-is g (goal.at.change_to-replaced-requires-clause-end g c).After-row_end_at-end)) (row-end-in (unfolded s) refl low c.args.below.end)
+
+pub change_to-replaced-requires-clause-order : goal.change_to-replaced-requires-clause-order
+change_to-replaced-requires-clause-order g c κs h =
+    let layer = g.L.Layer.source c.args.layer in
+    let a = (goal.at.change_to-replaced-requires-clause-order g c).After-row_end_at-end in
+    omega (
+      arith,
+      start-is g a,
+      end-is g a,
+      rows-in_order c.args.self.now c.text_len.ensures.lawful layer c.buffer_len.ensures.well_formed (option_map reach_of c.args.shift) (ordered-pending c.args.shift) (reach_of c.args.below) c.args.below.ordered c.requires.follows,
+    )
+
+pub returns-clause-ok : goal.returns-clause-ok
+returns-clause-ok g c = c.in_ok-next.ensures.ok ∙ ap (with_folds (g.L.Layer.source c.args.layer)) c.in_ok-folds.ensures.ok
+
+pub returns-clause-change : goal.returns-clause-change
+returns-clause-change g c =
+    let a = (goal.at.returns-clause-change g c).After-row_end_at-end in
+    c.change_to-replaced.ensures.change ∙ (λ i. shown_change c.args.self.now c.in_ok-next.next (start-is g a i) (end-is g a i))

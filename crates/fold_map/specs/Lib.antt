@@ -1,0 +1,13 @@
+pub mod Amounts
+pub mod Changes
+pub mod Cuts
+pub mod LinePieces
+pub mod Lines
+pub mod Maps
+pub mod Met
+pub mod Positions
+pub mod Replaced
+pub mod Snapshots
+pub mod Splices
+pub mod Spots
+pub mod Synced

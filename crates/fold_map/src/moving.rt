@@ -1,0 +1,123 @@
+//! A snapshot after a replacement of the lower layer.
+ghost use Rattle.std.specs.Prelude.{◌≡◌, ◌+◌, ◌≤◌, ◌<◌, ◌^◌, Some, None, [], length, map, option_map, IfOk};
+ghost use Rattle.std.specs.Option.{ForSome};
+ghost use Rattle.cell_units.specs.Layers.{shown_text, unfolded};
+ghost use Rattle.joined_folds.specs.Sweeps.{fold_of};
+ghost use Rattle.joined_folds.specs.Windows.{moved_on};
+ghost use Rattle.shifted_lists.specs.Leads.{reach_of};
+ghost use Rattle.fold_map.specs.Snapshots.{with_folds};
+ghost use Rattle.fold_map.specs.Synced.{Follows, end_after, folds_after, layer_change, row_end_at, row_start_at, source_after};
+
+use crate::met::Change;
+use crate::snapshot::FoldSnapshot;
+use cell_units::{Layer, NoMemory, Shift, Steps};
+use mark_tree::RangeTree;
+use std::alloc::Global;
+
+impl<L: Layer> FoldSnapshot<L> {
+    /// The same folds over a layer that shows the same.
+    pub(crate) fn over(&self, layer: L) -> Result<FoldSnapshot<L>, NoMemory>
+        requires follows { Follows self.now (L.source layer) None None }
+        ensures ok { IfOk result (λ s. s ≡ with_folds (L.source layer) self.now.folds) }
+    {
+        // The folds fit the text.
+        let _len = self.text_len();
+        Ok(FoldSnapshot {
+            layer,
+            folds: self.folds.share()?,
+            splices: self.splices.share()?,
+        })
+    }
+
+    /// The folds over a layer that replacements have made, moved as that of the buffer's text does, and what is replaced of what
+    /// is shown.
+    pub(crate) fn moved(
+        &self,
+        alloc: Global,
+        layer: L,
+        shift: Option<Shift>,
+        below: Shift,
+        steps: &mut Steps,
+    ) -> Result<(FoldSnapshot<L>, Shift), NoMemory>
+        requires follows { let replaced = option_map reach_of shift in
+            Follows self.now (L.source layer) replaced (Some (reach_of below)) }
+        ensures ok { let replaced = option_map reach_of shift in
+            IfOk result (λ r. r.0 ≡ source_after (L.source layer) replaced self.now) }
+        ensures change { IfOk result (λ r. reach_of r.1 ≡ layer_change self.now r.0 (reach_of below)) }
+        ensures counted { steps.old ≤ steps.new }
+    {
+        // The folds fit the text, and the new text's length is a u32.
+        let _sizes = (self.text_len(), layer.buffer_len());
+        let folds = self.moved_folds(alloc, shift, steps)?;
+        let start = row_start_at(&self.layer, below.start);
+        let end = row_end_at(&self.layer, below.end);
+        let change = Change {
+            start,
+            end,
+            last: end_after(end, shift),
+        };
+        let next = self.changed(alloc, layer, folds, change, steps)?;
+        let replaced = self.change_to(&next, start, end, steps);
+        Ok((next, replaced))
+    }
+
+    /// The folds after a replacement of the text, if there was one.
+    fn moved_folds(
+        &self,
+        alloc: Global,
+        shift: Option<Shift>,
+        steps: &mut Steps,
+    ) -> Result<RangeTree, NoMemory>
+        requires within { ForSome shift (λ s. s.end ≤ length self.now.text) }
+        requires reaches { ForSome shift (λ s.
+            moved_on s.end (s.start + s.count) (length self.now.text) < 2 ^ 32) }
+        ensures ok { let replaced = option_map reach_of shift in
+            IfOk result (λ t. map fold_of t ≡ folds_after replaced self.now.folds) }
+        ensures counted { steps.old ≤ steps.new }
+    {
+        // The folds are within the text.
+        let _len = self.text_len();
+        let mut folds = self.folds.share()?;
+        match shift {
+            None => Ok(folds),
+            Some(shift) => {
+                folds.apply(alloc, shift, steps)?;
+                Ok(folds)
+            }
+        }
+    }
+}
+
+/// The first offset of the row of a place's line.
+fn row_start_at<L: Layer>(layer: &L, place: u32) -> u32
+    requires { place ≤ length (shown_text (L.source layer.now)) }
+    ensures { result ≡ row_start_at (L.source layer.now) place }
+{
+    // The inlays and the folds fit the text.
+    let _len = layer.buffer_len();
+    let row = layer.span(layer.point(place).row).0;
+    layer.row_range(row).0
+}
+
+/// The end of the row of a place's line.
+fn row_end_at<L: Layer>(layer: &L, place: u32) -> u32
+    requires { place ≤ length (shown_text (L.source layer.now)) }
+    ensures { result ≡ row_end_at (L.source layer.now) place }
+{
+    // The inlays and the folds fit the text.
+    let _len = layer.buffer_len();
+    let row = layer.span(layer.point(place).row).1;
+    layer.row_range(row).1
+}
+
+/// Where the end of a row goes that a replacement is not behind, if there was one.
+fn end_after(end: u32, shift: Option<Shift>) -> u32
+    requires within { ForSome shift (λ s. s.end ≤ end) }
+    requires reaches { end_after (option_map reach_of shift) end < 2 ^ 32 }
+    ensures { result ≡ end_after (option_map reach_of shift) end }
+{
+    match shift {
+        None => end,
+        Some(shift) => end - shift.end + (shift.start + shift.count),
+    }
+}

@@ -1,0 +1,38 @@
+//! Where a place of what is shown lies.
+ghost use Rattle.std.specs.Prelude.{◌≤◌};
+ghost use Rattle.fold_map.specs.Spots.{IsSpotAt, SpotFits};
+
+use crate::amount::{Amount, ByBytes};
+use cell_units::{Bias, Steps};
+use splice_tree::{Sides, SpliceTree};
+use sum_core::NoLoad;
+
+/// Where a place of what is shown lies: its place in the lower layer behind what these splices cover, which is where a
+/// placeholder begins if the place is strictly inside that.
+#[derive(Drop)]
+pub(crate) struct Spot {
+    pub(crate) below: u32,
+    pub(crate) before: Sides<Amount>,
+    pub(crate) is_hidden: bool,
+}
+
+/// Where a place of what is shown lies.
+pub(crate) fn spot_at(splices: &SpliceTree<Amount, NoLoad>, place: u32, steps: &mut Steps) -> Spot
+    requires { SpotFits splices.now place }
+    ensures spot { IsSpotAt splices.now place result }
+    ensures counted { steps.old ≤ steps.new }
+{
+    let found = splices.find_upper::<ByBytes>(place as u64, Bias::Right, steps);
+    let rest = place - found.before.upper.bytes;
+    let kept = match found.splice {
+        Some(splice) => rest.min(splice.gap().bytes),
+        None => rest,
+    };
+    let below = found.before.lower.bytes + kept;
+    let is_hidden = kept < rest;
+    Spot {
+        below,
+        before: found.before,
+        is_hidden,
+    }
+}

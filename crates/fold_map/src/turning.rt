@@ -1,0 +1,141 @@
+//! A snapshot with one fold more or less, and what is replaced of what is shown.
+ghost use Rattle.std.specs.Prelude.{◌≡◌, ◌==◌, ◌≤◌, None, length, map, true, IfOk};
+ghost use Rattle.std.specs.List.{Contains, list_any};
+ghost use Rattle.cell_units.specs.Layers.{shown_text};
+ghost use Rattle.cell_units.specs.Lawful.{AreFolds};
+ghost use Rattle.cell_units.specs.Text.{IsBoundary};
+ghost use Rattle.joined_folds.specs.Sweeps.{fold_of};
+ghost use Rattle.shifted_lists.specs.Leads.{reach_of};
+ghost use Rattle.fold_map.specs.Maps.{DifferWithin, fold_change, with_fold, without};
+ghost use Rattle.fold_map.specs.Replaced.{shown_change};
+ghost use Rattle.fold_map.specs.Snapshots.{PlacesFit, fold_refusal, with_folds};
+
+use crate::met::Change;
+use crate::snapshot::FoldSnapshot;
+use cell_units::{Bias, Layer, NoMemory, Shift, Steps};
+use mark_tree::{RangeMark, RangeTree};
+use std::alloc::Global;
+
+impl<L: Layer> FoldSnapshot<L> {
+    /// The same with one fold more.
+    pub(crate) fn with_fold(
+        &self,
+        alloc: Global,
+        range: RangeMark,
+        steps: &mut Steps,
+    ) -> Result<FoldSnapshot<L>, NoMemory>
+        requires accepted { fold_refusal self.now range.id range.start range.end ≡ None }
+        requires fits { PlacesFit (with_fold (fold_of range) self.now) }
+        ensures ok { IfOk result (λ s. s ≡ with_fold (fold_of range) self.now) }
+        ensures counted { steps.old ≤ steps.new }
+    {
+        // The folds fit the text, and their number is a u32.
+        let _sizes = (self.text_len(), self.count());
+        let mut folds = self.folds.share()?;
+        let Ok(()) = folds.insert(alloc, range, steps) else {
+            return Err(NoMemory);
+        };
+        self.refolded(alloc, folds, range, steps)
+    }
+
+    /// The same without the fold of an id, and that fold.
+    pub(crate) fn without_fold(
+        &self,
+        alloc: Global,
+        id: u32,
+        steps: &mut Steps,
+    ) -> Result<(FoldSnapshot<L>, RangeMark), NoMemory>
+        requires there { list_any (λ f. f.id == id) self.now.folds ≡ true }
+        requires fits { PlacesFit (without id self.now) }
+        ensures ok { IfOk result (λ r. r.0 ≡ without id self.now) }
+        ensures fold { IfOk result (λ r. Contains self.now.folds (fold_of r.1)) }
+        ensures id { IfOk result (λ r. r.1.id ≡ id) }
+        ensures counted { steps.old ≤ steps.new }
+    {
+        // The folds fit the text.
+        let _len = self.text_len();
+        let mut folds = self.folds.share()?;
+        let Ok(range) = folds.remove(alloc, id, steps) else {
+            return Err(NoMemory);
+        };
+        let next = self.refolded(alloc, folds, range, steps)?;
+        Ok((next, range))
+    }
+
+    /// The same layer under other folds, which differ from these within a range.
+    fn refolded(
+        &self,
+        alloc: Global,
+        folds: RangeTree,
+        range: RangeMark,
+        steps: &mut Steps,
+    ) -> Result<FoldSnapshot<L>, NoMemory>
+        requires lawful { AreFolds self.now.text (map fold_of folds) }
+        requires fits { PlacesFit (with_folds self.now (map fold_of folds)) }
+        requires differ { let after = with_folds self.now (map fold_of folds) in
+            DifferWithin self.now after (fold_of range) }
+        ensures ok { IfOk result (λ s. s ≡ with_folds self.now (map fold_of folds)) }
+        ensures counted { steps.old ≤ steps.new }
+    {
+        // The text and its inlays are lawful.
+        let _len = self.text_len();
+        let layer = self.layer.share()?;
+        let change = Change {
+            start: range.start,
+            end: range.end,
+            last: range.end,
+        };
+        self.changed(alloc, layer, folds, change, steps)
+    }
+
+    /// The number of bytes that are shown.
+    pub(crate) fn shown_len(&self, steps: &mut Steps) -> u32
+        ensures value { result ≡ length (shown_text self.now) }
+        ensures counted { steps.old ≤ steps.new }
+    {
+        let len = self.text_len();
+        self.place_of(len, Bias::Right, steps)
+    }
+
+    /// What is replaced of what is shown where the next snapshot differs within offsets.
+    pub(crate) fn change_to(
+        &self,
+        next: &FoldSnapshot<L>,
+        start: u32,
+        end: u32,
+        steps: &mut Steps,
+    ) -> Shift
+        requires start { IsBoundary self.now.text start }
+        requires end { IsBoundary self.now.text end }
+        requires order { start ≤ end }
+        ensures change { reach_of result ≡ shown_change self.now next.now start end }
+        ensures counted { steps.old ≤ steps.new }
+    {
+        let first = self.place_of(start, Bias::Left, steps);
+        let past = self.place_of(end, Bias::Right, steps);
+        let behind = self.shown_len(steps) - past;
+        let len = next.shown_len(steps);
+        let count = len.saturating_sub(behind).saturating_sub(first);
+        Shift::new(first, past, count)
+    }
+
+    /// What is replaced of what is shown where a fold was added or removed: all of its rows.
+    pub(crate) fn fold_change(
+        &self,
+        next: &FoldSnapshot<L>,
+        range: RangeMark,
+        steps: &mut Steps,
+    ) -> Shift
+        requires start { IsBoundary self.now.text range.start }
+        requires end { IsBoundary self.now.text range.end }
+        requires order { range.start ≤ range.end }
+        ensures change { reach_of result ≡ fold_change self.now next.now (fold_of range) }
+        ensures counted { steps.old ≤ steps.new }
+    {
+        // The text is UTF-8.
+        let _len = self.text_len();
+        let first = self.layer.row_ends(range.start).0;
+        let last = self.layer.row_ends(range.end).1;
+        self.change_to(next, first, last, steps)
+    }
+}
