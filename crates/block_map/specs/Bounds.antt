@@ -1,0 +1,57 @@
+-- How many steps calls on rows with blocks between them take at most, as costs of a height h that neither tree of stops can
+-- exceed.
+use Rattle.std.specs.Prelude.{ℕ, ◌+◌, ◌*◌, ◌^◌, ◌<◌, ◌≤◌, length}
+use Rattle.block_map.specs.Between.{Between}
+
+-- neither tree of stops is higher
+abbrev pub IsHeight : ℕ → Between → Type 0
+IsHeight h b = (length b.above < 2 * 6 ^ (h + 1)) × (length b.below < 2 * 6 ^ (h + 1))
+
+-- a call takes at most `cost h` steps
+abbrev pub TakesBetween : (ℕ → ℕ) → Between → ℕ → ℕ → Type 0
+TakesBetween cost b old new = (h : ℕ) → IsHeight h b → new ≤ old + cost h
+
+-- a way down the trees of both sides
+abbrev pub both_ways : ℕ → ℕ
+both_ways h = 2 * (h + 1)
+
+-- the text row in whose zone a row lies is found by halving: at most 33 ways down the trees of both sides
+abbrev pub zoning : ℕ → ℕ
+zoning h = 66 * (h + 1)
+
+-- what stands at a place of a zone
+abbrev pub finding : ℕ → ℕ
+finding h = 4 * (h + 1)
+
+-- a row is sought and read
+abbrev pub reading : ℕ → ℕ
+reading h = 72 * (h + 1)
+
+-- a stop is put among others, or taken out: its neighbours are looked up, and one replacement is made
+abbrev pub putting : ℕ → ℕ
+putting h = 170 * (h + 1)
+
+-- a stop is put at the row of the one before it
+abbrev pub inserting : ℕ → ℕ
+inserting h = 171 * (h + 1)
+
+-- ---- a block that is added or taken out
+
+-- A call may look at every one of n blocks twice, each time on a fifth as many nodes, and takes at most `cost h` steps beside.
+abbrev pub SearchesTwice : (ℕ → ℕ) → ℕ → ℕ → ℕ → Type 0
+SearchesTwice cost n old new = (h : ℕ) → n < 2 * 6 ^ (h + 1) → 5 * new ≤ 5 * old + (2 * n + 5 * cost h)
+
+-- each of n blocks is looked at once, in one tree or the other
+abbrev pub SearchesBoth : ℕ → ℕ → ℕ → Type 0
+SearchesBoth n old new = 5 * new ≤ 5 * old + (n + 10)
+
+-- a call takes at most one step for each of n blocks, which are looked at three times, and `cost h` beside
+abbrev pub TakesOneEach : (ℕ → ℕ) → ℕ → ℕ → ℕ → Type 0
+TakesOneEach cost n old new = (h : ℕ) → n < 2 * 6 ^ (h + 1) → new ≤ old + (n + cost h)
+
+-- on its side a mark and an anchor are put in or taken out, and a stop
+abbrev pub altering_side : ℕ → ℕ
+altering_side h = 571 * (h + 1)
+
+abbrev pub altering : ℕ → ℕ
+altering h = 574 * (h + 1)

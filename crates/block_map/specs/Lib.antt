@@ -1,0 +1,9 @@
+pub mod Between
+pub mod Bounds
+pub mod Follows
+pub mod Maps
+pub mod RowCounts
+pub mod ShownRows
+pub mod Stops
+pub mod Worked
+pub mod inside

@@ -1,0 +1,27 @@
+-- Where the rows of blocks stand between rows of text.
+use Rattle.std.specs.Prelude.{ℕ, ◌==◌, Bool, nat_le, nat_lt, List, length, filter, flat_map, sum_by}
+use Rattle.cell_units.specs.declared.place.Bias.{Bias}
+use Rattle.cell_units.specs.declared.place.Bias.TheVariants.{Left, Right}
+
+-- the rows of a block, and how many rows of text stand before them
+pub record Stop : Type 0 where
+  pub row : ℕ
+  pub lines : List (List ℕ)
+
+-- the texts of the stops behind so many rows of text
+abbrev pub texts_at : ℕ → List Stop → List (List ℕ)
+texts_at row stops = flat_map (λ s. s.lines) (filter (λ s. s.row == row) stops)
+
+-- A stop stands before a place between rows of text by its row: at the place itself it stands behind it by Left, and before
+-- it by Right.
+abbrev pub stands_before : Bias → ℕ → Stop → Bool
+stands_before Left row s = nat_lt s.row row
+stands_before Right row s = nat_le s.row row
+
+-- how many rows the stops have that stand before a place
+abbrev pub rows_upto : Bias → ℕ → List Stop → ℕ
+rows_upto bias row stops = sum_by (λ s. length s.lines) (filter (stands_before bias row) stops)
+
+-- how many rows all stops have
+abbrev pub all_stop_rows : List Stop → ℕ
+all_stop_rows stops = sum_by (λ s. length s.lines) stops

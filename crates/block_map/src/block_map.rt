@@ -1,0 +1,226 @@
+//! The map: blocks that are added and removed, over lines that change.
+ghost use Rattle.std.specs.Prelude.{◌≡◌, ◌+◌, ◌<◌, ◌≤◌, None, true, false, length, IfErr, IfOk, MatchOption, OnErr, OnOk};
+ghost use Rattle.cell_units.specs.declared.limits.TheConstants.{ENTRY_LIMIT};
+ghost use Rattle.cell_units.specs.Lawful.{AreBlockLines};
+ghost use Rattle.block_map.specs.Bounds.{SearchesBoth, SearchesTwice, TakesOneEach, altering, altering_side};
+ghost use Rattle.block_map.specs.Maps.{IsOwed, add_refusal, added, fresh, has_block, remove_refusal, removed, state_of};
+ghost use Rattle.block_map.specs.inside.TwoSides.{is_kept, on_side};
+
+use crate::block_lines::BlockLines;
+use crate::block_side::BlockSide;
+use crate::given_lines::{are_block_lines, has_long_line};
+use cell_units::limits::ENTRY_LIMIT;
+use cell_units::{Fault, Layer, NoMemory, Refusal, Rows, Side, Steps, Text};
+use std::alloc::Global;
+use std::marker::Model;
+
+/// Blocks above and below lines: each at its anchor, and where it was last shown. Contracts see the lines that were last shown
+/// and the blocks of each side in order.
+///
+/// The bounds on the steps of a call are given for each h such that the number of blocks is less than 2 * 6^(h + 1). The
+/// least such h is the greatest height of a tree of so many.
+#[derive(Drop)]
+pub struct BlockMap<R: Rows> {
+    rows: R,
+    above: BlockSide,
+    below: BlockSide,
+}
+
+impl<R: Rows> Model for BlockMap<R> {
+    ghost use Rattle.block_map.specs.Maps.{BlockState};
+    ghost use Rattle.block_map.specs.inside.TwoSides.{IsState};
+
+    ghost Value = { BlockState };
+
+    ghost view = { λ m. record { lines = R.shown m.rows; above = m.above; below = m.below } };
+
+    ghost invariant = { λ m.
+        IsState (record { lines = R.shown m.rows; above = m.above; below = m.below }) };
+}
+
+impl<R: Rows> BlockMap<R> {
+    /// The rows without blocks, which count as shown. It opens no node and takes no memory.
+    pub fn new(alloc: Global, rows: R, steps: &mut Steps) -> Result<BlockMap<R>, NoMemory>
+        ensures ok { IfOk result (λ m. m ≡ state_of (R.shown rows)) }
+        ensures steps { steps.new ≡ steps.old }
+    {
+        // Nothing is opened or made.
+        let _steps = steps;
+        Ok(BlockMap {
+            rows,
+            above: BlockSide::new(alloc),
+            below: BlockSide::new(alloc),
+        })
+    }
+
+    /// An equal map, and no later change of either changes the other. It takes no memory: `NoMemory` is one holder too many.
+    pub fn share(&self) -> Result<BlockMap<R>, NoMemory>
+        ensures { IfOk result (λ m. m ≡ self.now) }
+    {
+        let rows = self.rows.share()?;
+        let above = self.above.share()?;
+        let below = self.below.share()?;
+        Ok(BlockMap { rows, above, below })
+    }
+
+    /// The number of blocks.
+    pub fn len(&self) -> u32
+        ensures { result ≡ length self.now.above + length self.now.below }
+    {
+        self.above.len() + self.below.len()
+    }
+
+    /// Adds a block: lines that are shown above or below the line of an offset's row. The offset counts bytes, and goes behind
+    /// what is inserted there. In this order `IdInUse` where the id is there, `BadRange` where the offset is past the text's
+    /// end or inside a character, `BadText` where there is no line, more than `BLOCK_LINES_LIMIT`, or one with a line break,
+    /// and `TooLong` where a line has more than `BLOCK_LINE_LIMIT` bytes or `ENTRY_LIMIT` blocks are there. Nothing is shown
+    /// of the block before the next `sync`.
+    pub fn insert<P: Layer>(
+        &mut self,
+        alloc: Global,
+        layer: &P,
+        id: u32,
+        side: Side,
+        offset: u32,
+        lines: &[Text],
+        steps: &mut Steps,
+    ) -> Result<(), Fault>
+        // What is there after it.
+        ensures ok { OnOk result (self.new ≡ added side (fresh id offset lines.now) self.old) }
+        ensures accepted { let source = P.source layer.now in
+            OnOk result (add_refusal source self.old id offset lines.now ≡ None) }
+
+        // Refusals are judged before any memory is taken.
+        ensures refused { let source = P.source layer.now in
+            IfErr result (IsOwed (add_refusal source self.old id offset lines.now)) }
+        ensures err { OnErr result (self.new ≡ self.old) }
+        ensures counted { steps.old ≤ steps.new }
+        ensures steps { let count = length self.old.above + length self.old.below in
+            TakesOneEach altering (count + 1) steps.old steps.new }
+    {
+        if let Some(refusal) = self.refusal_to_add(layer, id, offset, lines, steps) {
+            return Err(Fault::Refused(refusal));
+        }
+        let copied = BlockLines::new(alloc, lines)?;
+        self.add(alloc, id, side, offset, copied, steps)?;
+        Ok(())
+    }
+
+    /// Takes the block of this id out. `UnknownId` where there is none.
+    pub fn remove(&mut self, alloc: Global, id: u32, steps: &mut Steps) -> Result<(), Fault>
+        // What is there after it.
+        ensures ok { OnOk result (self.new ≡ removed id self.old) }
+        ensures accepted { OnOk result (remove_refusal self.old id ≡ None) }
+
+        // The refusal is judged before any memory is taken.
+        ensures refused { IfErr result (IsOwed (remove_refusal self.old id)) }
+        ensures err { OnErr result (self.new ≡ self.old) }
+        ensures counted { steps.old ≤ steps.new }
+        ensures steps { let count = length self.old.above + length self.old.below in
+            TakesOneEach altering count steps.old steps.new }
+    {
+        let Some(side) = self.side_of(id, steps) else {
+            return Err(Fault::Refused(Refusal::UnknownId));
+        };
+        self.take(alloc, id, side, steps)?;
+        Ok(())
+    }
+
+    /// The side of the block of this id, if there is one.
+    fn side_of(&self, id: u32, steps: &mut Steps) -> Option<Side>
+        ensures side { MatchOption result (has_block id self.now ≡ false) (λ side.
+            is_kept id (on_side side self.now) ≡ true) }
+        ensures counted { steps.old ≤ steps.new }
+        ensures steps { let count = length self.now.above + length self.now.below in
+            SearchesBoth count steps.old steps.new }
+    {
+        if self.above.has_id(id, steps) {
+            return Some(Side::Above);
+        }
+        if self.below.has_id(id, steps) {
+            return Some(Side::Below);
+        }
+        None
+    }
+
+    /// Why a block isn't added, if it isn't.
+    fn refusal_to_add<P: Layer>(
+        &self,
+        layer: &P,
+        id: u32,
+        offset: u32,
+        lines: &[Text],
+        steps: &mut Steps,
+    ) -> Option<Refusal>
+        ensures refusal { result ≡ add_refusal (P.source layer.now) self.now id offset lines.now }
+        ensures counted { steps.old ≤ steps.new }
+        ensures steps { let count = length self.now.above + length self.now.below in
+            SearchesBoth count steps.old steps.new }
+    {
+        // The text is UTF-8.
+        let _len = layer.buffer_len();
+        if self.side_of(id, steps).is_some() {
+            return Some(Refusal::IdInUse);
+        }
+        if !layer.on_boundary(offset) {
+            return Some(Refusal::BadRange);
+        }
+        if !are_block_lines(lines) {
+            return Some(Refusal::BadText);
+        }
+        if has_long_line(lines) {
+            return Some(Refusal::TooLong);
+        }
+        let count = self.len() as usize;
+        if count >= ENTRY_LIMIT {
+            return Some(Refusal::TooLong);
+        }
+        None
+    }
+
+    /// Adds a block to a side.
+    fn add(
+        &mut self,
+        alloc: Global,
+        id: u32,
+        side: Side,
+        offset: u32,
+        lines: BlockLines,
+        steps: &mut Steps,
+    ) -> Result<(), NoMemory>
+        requires room { length self.old.above + length self.old.below < ENTRY_LIMIT }
+        requires unused { has_block id self.old ≡ false }
+        requires lawful { AreBlockLines lines }
+        ensures ok { OnOk result (self.new ≡ added side (fresh id offset lines) self.old) }
+        ensures err { OnErr result (self.new ≡ self.old) }
+        ensures counted { steps.old ≤ steps.new }
+        ensures steps { let count = length (on_side side self.old) in
+            SearchesTwice altering_side (count + 1) steps.old steps.new }
+    {
+        match side {
+            Side::Above => self.above.add(alloc, id, offset, lines, steps),
+            Side::Below => self.below.add(alloc, id, offset, lines, steps),
+        }
+    }
+
+    /// Takes the block of this id out of the side that has it.
+    fn take(
+        &mut self,
+        alloc: Global,
+        id: u32,
+        side: Side,
+        steps: &mut Steps,
+    ) -> Result<(), NoMemory>
+        requires { is_kept id (on_side side self.old) ≡ true }
+        ensures ok { OnOk result (self.new ≡ removed id self.old) }
+        ensures err { OnErr result (self.new ≡ self.old) }
+        ensures counted { steps.old ≤ steps.new }
+        ensures steps { let count = length (on_side side self.old) in
+            SearchesTwice altering_side count steps.old steps.new }
+    {
+        match side {
+            Side::Above => self.above.take(alloc, id, steps),
+            Side::Below => self.below.take(alloc, id, steps),
+        }
+    }
+}

@@ -1,0 +1,149 @@
+//! The blocks of one side.
+ghost use Rattle.std.specs.Prelude.{◌≡◌, ◌==◌, ◌+◌, ◌<◌, ◌≤◌, ◌^◌, [], true, false, length, IfOk, OnErr, OnOk};
+ghost use Rattle.std.specs.List.{list_any};
+ghost use Rattle.cell_units.specs.declared.limits.TheConstants.{ENTRY_LIMIT};
+ghost use Rattle.cell_units.specs.Lawful.{AreBlockLines};
+ghost use Rattle.cell_units.specs.Sorting.{insert_by};
+ghost use Rattle.sum_tree.specs.Bounds.{Searches};
+ghost use Rattle.block_map.specs.Bounds.{SearchesTwice, altering_side};
+ghost use Rattle.block_map.specs.Maps.{fresh, kept_le, without};
+ghost use Rattle.cell_units.specs.declared.place.Bias.TheVariants.{Right};
+ghost use Rattle.mark_tree.specs.Marks.{mark_with};
+
+use crate::block_lines::BlockLines;
+use crate::marks_by_id::{with_new, without_any, without_known};
+use crate::stops::Stops;
+use cell_units::{Bias, NoMemory, Steps};
+use mark_tree::{Mark, MarkTree};
+use std::alloc::Global;
+use std::marker::Model;
+use sum_core::NoLoad;
+
+/// Blocks at their anchors, beside each its stop, and the anchors of those of which nothing is shown yet. Contracts see the
+/// blocks in order, each with how many rows of text stood before its own when it was shown.
+#[derive(Drop)]
+pub(crate) struct BlockSide {
+    pub(crate) marks: MarkTree<BlockLines>,
+    pub(crate) stops: Stops,
+    pub(crate) added: MarkTree<NoLoad>,
+}
+
+impl Model for BlockSide {
+    ghost use Rattle.std.specs.Prelude.{List};
+    ghost use Rattle.block_map.specs.Maps.{Kept};
+    ghost use Rattle.block_map.specs.inside.Sides.{IsSide, kept_of};
+
+    ghost Value = { List Kept };
+
+    ghost view = { λ s. kept_of s.marks s.stops };
+
+    ghost invariant = { λ s. IsSide s.marks s.stops s.added };
+}
+
+impl BlockSide {
+    /// No block. It takes no memory.
+    pub(crate) fn new(alloc: Global) -> BlockSide
+        ensures { result ≡ [] }
+    {
+        BlockSide {
+            marks: MarkTree::new(alloc),
+            stops: Stops::new(alloc),
+            added: MarkTree::new(alloc),
+        }
+    }
+
+    /// Equal blocks, which no later change of these reaches.
+    pub(crate) fn share(&self) -> Result<BlockSide, NoMemory>
+        ensures { IfOk result (λ s. s ≡ self.now) }
+    {
+        let marks = self.marks.share()?;
+        let stops = self.stops.share()?;
+        let added = self.added.share()?;
+        Ok(BlockSide {
+            marks,
+            stops,
+            added,
+        })
+    }
+
+    /// The number of blocks.
+    pub(crate) fn len(&self) -> u32
+        ensures { result ≡ length self.now }
+    {
+        self.marks.len()
+    }
+
+    /// Whether there is a block of this id.
+    pub(crate) fn has_id(&self, id: u32, steps: &mut Steps) -> bool
+        ensures value { result ≡ list_any (λ k. k.id == id) self.now }
+        ensures counted { steps.old ≤ steps.new }
+        ensures steps { Searches (length self.now) steps.old steps.new }
+    {
+        self.marks.contains(id, steps)
+    }
+
+    /// Adds a block, of which nothing is shown yet.
+    pub(crate) fn add(
+        &mut self,
+        alloc: Global,
+        id: u32,
+        offset: u32,
+        lines: BlockLines,
+        steps: &mut Steps,
+    ) -> Result<(), NoMemory>
+        requires room { length self.old < ENTRY_LIMIT }
+        requires unused { list_any (λ k. k.id == id) self.old ≡ false }
+        requires lawful { AreBlockLines lines }
+        ensures ok { OnOk result (self.new ≡ insert_by kept_le (fresh id offset lines) self.old) }
+        ensures err { OnErr result (self.new ≡ self.old) }
+        ensures counted { steps.old ≤ steps.new }
+        ensures steps { SearchesTwice altering_side (length self.old + 1) steps.old steps.new }
+    {
+        // Marks are in order, of distinct ids.
+        let _marks = self.marks.len();
+        let block = mark(offset, id, lines);
+        let (at, marks) = with_new(&self.marks, alloc, block, steps)?;
+        let stops = self.stops.with_none(alloc, at, steps)?;
+        let anchor = mark(offset, id, NoLoad);
+        let (_, added) = with_new(&self.added, alloc, anchor, steps)?;
+        *self = BlockSide {
+            marks,
+            stops,
+            added,
+        };
+        Ok(())
+    }
+
+    /// Takes out the block of this id.
+    pub(crate) fn take(&mut self, alloc: Global, id: u32, steps: &mut Steps) -> Result<(), NoMemory>
+        requires { list_any (λ k. k.id == id) self.old ≡ true }
+        ensures ok { OnOk result (self.new ≡ without id self.old) }
+        ensures err { OnErr result (self.new ≡ self.old) }
+        ensures counted { steps.old ≤ steps.new }
+        ensures steps { SearchesTwice altering_side (length self.old) steps.old steps.new }
+    {
+        // Marks are in order, of distinct ids.
+        let _marks = self.marks.len();
+        let (at, marks) = without_known(&self.marks, alloc, id, steps)?;
+        let stops = self.stops.without(alloc, at, steps)?;
+        let added = without_any(&self.added, alloc, id, steps)?;
+        *self = BlockSide {
+            marks,
+            stops,
+            added,
+        };
+        Ok(())
+    }
+}
+
+/// The mark of a block, which goes behind what is inserted at its offset.
+fn mark<P>(offset: u32, id: u32, load: P) -> Mark<P>
+    ensures { result ≡ mark_with offset Right id load }
+{
+    Mark {
+        offset,
+        bias: Bias::Right,
+        id,
+        load,
+    }
+}

@@ -1,0 +1,20 @@
+//! Rows of lines with blocks between them: texts that the buffer doesn't have, above lines and below them.
+#![tactic(auto)]
+
+mod block_lines;
+mod block_map;
+mod block_side;
+mod given_lines;
+mod laws;
+mod marks_by_id;
+mod row_count;
+mod shown;
+mod snapshot;
+mod stops;
+mod worked;
+
+pub use block_map::BlockMap;
+pub use laws::block_laws;
+pub use shown::{Kind, Shown};
+pub use snapshot::BlockSnapshot;
+pub use worked::worked_rows;

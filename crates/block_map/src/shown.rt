@@ -1,0 +1,20 @@
+//! Rows as a snapshot gives them.
+use cell_units::Text;
+
+/// What a row is of.
+#[derive(Clone, Copy, Debug, PartialEq, Eq)]
+pub enum Kind {
+    /// The first text row of a line.
+    Head,
+    /// A text row that goes on with its line.
+    More,
+    /// A row of a block.
+    Block,
+}
+
+/// A row: its kind, and its text.
+#[derive(Debug, Drop)]
+pub struct Shown {
+    pub kind: Kind,
+    pub text: Text,
+}

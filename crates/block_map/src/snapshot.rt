@@ -1,0 +1,334 @@
+//! What a block map shows at one moment.
+ghost use Rattle.std.specs.Prelude.{◌≡◌, ◌==◌, ◌+◌, ◌-◌, ◌*◌, ◌^◌, ◌<◌, ◌≤◌, ◌++◌, if◌then◌else◌, IfOk, OnOk, Some, drop, length, slice_get, take};
+ghost use Rattle.cell_units.specs.Rows.{all_rows, line_rows};
+ghost use Rattle.plain_rows.specs.Rows.{head_kind, more_kind};
+ghost use Rattle.block_map.specs.Between.{IsTextAt, block_row, place_of_row, rows_between};
+ghost use Rattle.block_map.specs.Bounds.{TakesBetween, both_ways, finding, reading, zoning};
+ghost use Rattle.block_map.specs.ShownRows.{letter_of, row_of_shown, shown_row, shown_rows};
+ghost use Rattle.block_map.specs.Stops.{texts_at};
+ghost use Rattle.block_map.specs.inside.Zones.{IsBetween, IsInZone, text_row, texts_of_kinds, zone, zone_start};
+
+use crate::shown::{Kind, Shown};
+use crate::stops::Stops;
+use cell_units::{Bias, NoMemory, Rows, Steps, Text};
+use std::alloc::Global;
+use std::marker::Model;
+
+/// Rows of lines with blocks between them. Contracts see the lines, and the stops of the blocks above and below them.
+#[derive(Drop)]
+pub struct BlockSnapshot<R: Rows> {
+    pub(crate) rows: R,
+    pub(crate) above: Stops,
+    pub(crate) below: Stops,
+}
+
+impl<R: Rows> Model for BlockSnapshot<R> {
+    ghost use Rattle.block_map.specs.Between.{Between};
+    ghost use Rattle.block_map.specs.inside.Zones.{IsBetween};
+
+    ghost Value = { Between };
+
+    ghost view = { λ s. record { lines = R.shown s.rows; above = s.above; below = s.below } };
+
+    ghost invariant = { λ s.
+        IsBetween (record { lines = R.shown s.rows; above = s.above; below = s.below }) };
+}
+
+/// Where a row lies: in the zone of which text row, and how far in it.
+#[derive(Clone, Copy)]
+struct Place {
+    text_row: u32,
+    at: u32,
+}
+
+impl<R: Rows> BlockSnapshot<R> {
+    /// An equal snapshot, which no later change of a map reaches. It takes no memory: `NoMemory` is one holder too many.
+    pub fn share(&self) -> Result<BlockSnapshot<R>, NoMemory>
+        ensures { IfOk result (λ s. s ≡ self.now) }
+    {
+        Ok(BlockSnapshot {
+            rows: self.rows.share()?,
+            above: self.above.share()?,
+            below: self.below.share()?,
+        })
+    }
+
+    /// The number of text rows.
+    fn text_rows(&self) -> u32
+        ensures count { result ≡ length (all_rows self.now.lines) }
+        ensures lawful { IsBetween self.now }
+    {
+        let lines = self.rows.lines();
+        self.rows.rows_before(lines)
+    }
+
+    /// The number of rows.
+    pub fn row_count(&self) -> u32
+        ensures { result ≡ length (rows_between self.now) }
+    {
+        self.text_rows() + self.above.all_rows() + self.below.all_rows()
+    }
+
+    /// The row at which a zone begins.
+    fn zone_start(&self, text_row: u32, steps: &mut Steps) -> u32
+        requires { text_row ≤ length (all_rows self.now.lines) }
+        ensures start { result ≡ zone_start self.now text_row }
+        ensures counted { steps.old ≤ steps.new }
+        ensures steps { TakesBetween both_ways self.now steps.old steps.new }
+    {
+        // All rows together are a u32.
+        let _count = self.text_rows();
+        let above = self.above.rows_upto(text_row, Bias::Left, steps);
+        let below = self.below.rows_upto(text_row, Bias::Right, steps);
+        text_row + above + below
+    }
+
+    /// The zone in which a row lies.
+    fn place_of(&self, row: u32, steps: &mut Steps) -> Place
+        requires { row < length (rows_between self.now) }
+        ensures place { IsInZone self.now row result.text_row result.at }
+        ensures counted { steps.old ≤ steps.new }
+        ensures steps { TakesBetween zoning self.now steps.old steps.new }
+    {
+        let mut low = 0;
+        let mut high = self.text_rows();
+        while high - low > 1 {
+            let middle = low + (high - low) / 2;
+            if self.zone_start(middle, steps) <= row {
+                low = middle;
+            } else {
+                high = middle;
+            }
+        }
+        let start = self.zone_start(low, steps);
+        Place {
+            text_row: low,
+            at: row - start,
+        }
+    }
+
+    /// The row of this number, counted from 0. `None` exactly past the last row.
+    pub fn row(&self, alloc: Global, row: u32, steps: &mut Steps) -> Result<Option<Shown>, NoMemory>
+        ensures row { IfOk result (λ shown.
+            shown_row shown ≡ slice_get (rows_between self.now) row) }
+        ensures counted { steps.old ≤ steps.new }
+        ensures steps { TakesBetween reading self.now steps.old steps.new }
+    {
+        // Stops stand between lines.
+        let _count = self.text_rows();
+        if row >= self.row_count() {
+            return Ok(None);
+        }
+        let place = self.place_of(row, steps);
+        Ok(Some(self.row_at(alloc, place, steps)?))
+    }
+
+    /// The row at a place.
+    fn row_at(&self, alloc: Global, place: Place, steps: &mut Steps) -> Result<Shown, NoMemory>
+        requires zone { place.text_row < length (all_rows self.now.lines) }
+        requires there { place.at < length (zone self.now place.text_row) }
+        ensures row { IfOk result (λ shown.
+            slice_get (zone self.now place.text_row) place.at ≡ Some (row_of_shown shown)) }
+        ensures counted { steps.old ≤ steps.new }
+        ensures steps { TakesBetween finding self.now steps.old steps.new }
+    {
+        // All rows together are a u32.
+        let _count = self.text_rows();
+        let before = self.above.rows_upto(place.text_row, Bias::Left, steps);
+        let above = self.above.rows_upto(place.text_row, Bias::Right, steps) - before;
+        if place.at < above {
+            let text = self.above.text_at(place.text_row, before, place.at, steps);
+            return block_row(alloc, text);
+        }
+        if place.at == above {
+            return self.text_row(alloc, place.text_row);
+        }
+        let next = place.text_row + 1;
+        let before = self.below.rows_upto(next, Bias::Left, steps);
+        let text = self
+            .below
+            .text_at(next, before, place.at - above - 1, steps);
+        block_row(alloc, text)
+    }
+
+    /// A text row.
+    fn text_row(&self, alloc: Global, at: u32) -> Result<Shown, NoMemory>
+        requires { at < length (all_rows self.now.lines) }
+        ensures { IfOk result (λ shown. row_of_shown shown ≡ text_row self.now at) }
+    {
+        match self.rows.line_at(at) {
+            None => unreachable!(),
+            Some((line, row)) => Ok(Shown {
+                kind: kind_of(row),
+                text: self.rows.row_text(alloc, line, row)?,
+            }),
+        }
+    }
+
+    /// The row at which a text row of a line stands.
+    pub fn row_of(&self, line: u32, row: u32, steps: &mut Steps) -> u32
+        requires line { line < length self.now.lines }
+        requires row { row < length (line_rows self.now.lines line) }
+        ensures place { result ≡ place_of_row self.now line row }
+        ensures counted { steps.old ≤ steps.new }
+        ensures steps { TakesBetween both_ways self.now steps.old steps.new }
+    {
+        // All rows together are a u32.
+        let _count = self.text_rows();
+        let text_row = self.rows.rows_before(line) + row;
+        let above = self.above.rows_upto(text_row, Bias::Right, steps);
+        let below = self.below.rows_upto(text_row, Bias::Right, steps);
+        text_row + above + below
+    }
+
+    /// The line whose text row stands at a row, and which of its text rows that is. `None` exactly at a block's row and
+    /// past the last row.
+    pub fn text_at(&self, row: u32, steps: &mut Steps) -> Option<(u32, u32)>
+        ensures text { IsTextAt self.now row result }
+        ensures counted { steps.old ≤ steps.new }
+        ensures steps { TakesBetween reading self.now steps.old steps.new }
+    {
+        // Stops stand between lines.
+        let _count = self.text_rows();
+        if row >= self.row_count() {
+            return None;
+        }
+        let place = self.place_of(row, steps);
+        if place.at != self.rows_above(place.text_row, steps) {
+            return None;
+        }
+        self.rows.line_at(place.text_row)
+    }
+
+    /// How many rows of blocks stand above a text row's line, before that row.
+    fn rows_above(&self, text_row: u32, steps: &mut Steps) -> u32
+        requires { text_row < length (all_rows self.now.lines) }
+        ensures count { result ≡ length (texts_at text_row self.now.above) }
+        ensures counted { steps.old ≤ steps.new }
+        ensures steps { TakesBetween both_ways self.now steps.old steps.new }
+    {
+        // All rows together are a u32.
+        let _count = self.text_rows();
+        let before = self.above.rows_upto(text_row, Bias::Left, steps);
+        self.above.rows_upto(text_row, Bias::Right, steps) - before
+    }
+}
+
+impl<R: Rows> BlockSnapshot<R> {
+    /// The rows from `first` on, as many as there are up to `count`. Each line is walked once.
+    pub fn rows(
+        &self,
+        alloc: Global,
+        first: u32,
+        count: u32,
+        steps: &mut Steps,
+    ) -> Result<Vec<Shown>, NoMemory>
+        ensures rows { IfOk result (λ shown.
+            shown_rows shown.items ≡ take count (drop first (rows_between self.now))) }
+        ensures counted { steps.old ≤ steps.new }
+        ensures steps { TakesBetween (λ h. count * reading h) self.now steps.old steps.new }
+    {
+        let all = self.row_count();
+        let end = first + count.min(all.saturating_sub(first));
+        let mut shown = Vec::new(alloc);
+        let mut next = first;
+        'walk: while next < end {
+            next = self.push_at(alloc, &mut shown, next, end, steps)?;
+        }
+        Ok(shown)
+    }
+
+    /// Appends a row, and where it is a text row those of its line behind it, up to the row `end`. It answers the row behind
+    /// them.
+    fn push_at(
+        &self,
+        alloc: Global,
+        shown: &mut Vec<Shown>,
+        row: u32,
+        end: u32,
+        steps: &mut Steps,
+    ) -> Result<u32, NoMemory>
+        requires some { row < end }
+        requires within { end ≤ length (rows_between self.now) }
+        ensures some { IfOk result (λ next. (row < next) × (next ≤ end)) }
+        ensures rows { IfOk result (λ next. shown_rows shown.new.items
+            ≡ shown_rows shown.old.items ++ take (next - row) (drop row (rows_between self.now))) }
+        ensures counted { steps.old ≤ steps.new }
+        ensures steps { TakesBetween reading self.now steps.old steps.new }
+    {
+        // Stops stand between lines.
+        let _count = self.text_rows();
+        let place = self.place_of(row, steps);
+        if place.at == self.rows_above(place.text_row, steps) {
+            return self.push_line(alloc, shown, place.text_row, row, end);
+        }
+        shown.push(self.row_at(alloc, place, steps)?)?;
+        Ok(row + 1)
+    }
+
+    /// Appends a text row, which stands at `row`, and those of its line behind it, up to the row `end`. It answers the row
+    /// behind them.
+    fn push_line(
+        &self,
+        alloc: Global,
+        shown: &mut Vec<Shown>,
+        text_row: u32,
+        row: u32,
+        end: u32,
+    ) -> Result<u32, NoMemory>
+        requires some { row < end }
+        requires within { end ≤ length (rows_between self.now) }
+        requires zone { let above = length (texts_at text_row self.now.above) in
+            IsInZone self.now row text_row above }
+        ensures some { IfOk result (λ next. (row < next) × (next ≤ end)) }
+        ensures rows { IfOk result (λ next. shown_rows shown.new.items
+            ≡ shown_rows shown.old.items ++ take (next - row) (drop row (rows_between self.now))) }
+    {
+        // Each line has a row.
+        let _count = self.text_rows();
+        match self.rows.line_at(text_row) {
+            None => unreachable!(),
+            Some((line, first)) => {
+                let texts = self.rows.row_texts(alloc, line, first, end - row)?;
+                let count = texts.len() as u32;
+                push_texts(shown, texts, first)?;
+                Ok(row + count)
+            }
+        }
+    }
+}
+
+/// Appends text rows of a line, of which the first is the line's row `first`.
+fn push_texts(shown: &mut Vec<Shown>, texts: Vec<Text>, first: u32) -> Result<(), NoMemory>
+    requires { first + length texts.items < 2 ^ 32 }
+    ensures { OnOk result
+        (shown_rows shown.new.items
+        ≡ shown_rows shown.old.items ++ texts_of_kinds first texts.items) }
+{
+    let mut row = first;
+    for text in texts {
+        shown.push(Shown {
+            kind: kind_of(row),
+            text,
+        })?;
+        row += 1;
+    }
+    Ok(())
+}
+
+/// The kind of a line's text row.
+fn kind_of(row: u32) -> Kind
+    ensures { letter_of result ≡ (if row == 0 then head_kind else more_kind) }
+{
+    if row == 0 { Kind::Head } else { Kind::More }
+}
+
+/// A row of a block.
+fn block_row(alloc: Global, text: &Text) -> Result<Shown, NoMemory>
+    ensures { IfOk result (λ shown. row_of_shown shown ≡ block_row text.now) }
+{
+    Ok(Shown {
+        kind: Kind::Block,
+        text: Text::from_str(alloc, text.as_str())?,
+    })
+}

@@ -1,0 +1,232 @@
+//! The stops of one side.
+ghost use Rattle.std.specs.Prelude.{OnOk, OnErr, IfSome, ◌≡◌, ◌+◌, ◌<◌, ◌≤◌, ◌^◌, [], Some, length, slice_get, take, IfOk};
+ghost use Rattle.cell_units.specs.declared.place.Bias.TheVariants.{Left};
+ghost use Rattle.sum_tree.specs.Bounds.{TakesAtMost, way};
+ghost use Rattle.block_map.specs.Bounds.{inserting, putting};
+ghost use Rattle.block_map.specs.RowCounts.{no_rows};
+ghost use Rattle.block_map.specs.Stops.{all_stop_rows, rows_upto, texts_at};
+ghost use Rattle.block_map.specs.inside.StopLists.{AreRising, IsRowFor, StopsFit, last_row, stop_with, with_stop, without_stop};
+
+use crate::block_lines::BlockLines;
+use crate::row_count::{ByRows, RowCount};
+use cell_units::{Bias, NoMemory, Steps, Text};
+use splice_tree::{Splice, SpliceTree};
+use std::alloc::Global;
+use std::marker::Model;
+use sum_core::Summary;
+
+/// Where the rows of blocks stand between rows of text. Contracts see a list of stops, whose rows don't fall.
+#[derive(Drop)]
+pub(crate) struct Stops {
+    splices: SpliceTree<RowCount, BlockLines>,
+}
+
+impl Model for Stops {
+    ghost use Rattle.std.specs.Prelude.{List};
+    ghost use Rattle.block_map.specs.Stops.{Stop};
+    ghost use Rattle.block_map.specs.inside.StopLists.{AreStopPieces, stops_from};
+
+    ghost Value = { List Stop };
+
+    ghost view = { λ s. stops_from 0 s.splices };
+
+    ghost invariant = { λ s. AreStopPieces s.splices };
+}
+
+impl Stops {
+    /// No stop. It takes no memory.
+    pub(crate) fn new(alloc: Global) -> Stops
+        ensures { result ≡ [] }
+    {
+        Stops {
+            splices: SpliceTree::new(alloc),
+        }
+    }
+
+    /// Equal stops, which no later change of these reaches.
+    pub(crate) fn share(&self) -> Result<Stops, NoMemory>
+        ensures { IfOk result (λ s. s ≡ self.now) }
+    {
+        Ok(Stops {
+            splices: self.splices.share()?,
+        })
+    }
+
+    /// How many rows all stops have.
+    pub(crate) fn all_rows(&self) -> u32
+        ensures { result ≡ all_stop_rows self.now }
+    {
+        let sum = self.splices.sum();
+        sum.upper.rows - sum.lower.rows
+    }
+
+    /// How many rows the stops have that stand before a place between rows of text.
+    pub(crate) fn rows_upto(&self, row: u32, bias: Bias, steps: &mut Steps) -> u32
+        requires { row + rows_upto bias row self.now < 2 ^ 32 }
+        ensures rows { result ≡ rows_upto bias row self.now }
+        ensures counted { steps.old ≤ steps.new }
+        ensures steps { TakesAtMost way (length self.now) steps.old steps.new }
+    {
+        self.splices.to_upper::<ByRows>(row, bias, steps) - row
+    }
+
+    /// The text of a row of the stops behind so many rows of text. `before` is how many rows the stops before them have.
+    pub(crate) fn text_at(&self, row: u32, before: u32, at: u32, steps: &mut Steps) -> &Text
+        requires there { at < length (texts_at row self.now) }
+        requires before { before ≡ rows_upto Left row self.now }
+        ensures text { slice_get (texts_at row self.now) at ≡ Some result.now }
+        ensures counted { steps.old ≤ steps.new }
+        ensures steps { TakesAtMost way (length self.now) steps.old steps.new }
+    {
+        let target = row as u64 + before as u64 + at as u64;
+        let found = self
+            .splices
+            .find_upper::<ByRows>(target, Bias::Right, steps);
+        match found.splice {
+            None => unreachable!(),
+            Some(splice) => {
+                let behind = target - found.before.upper.rows as u64 - splice.gap().rows as u64;
+                splice.load().get(behind as usize)
+            }
+        }
+    }
+}
+
+impl Stops {
+    /// The number of stops. Their rows don't fall.
+    pub(crate) fn len(&self) -> u32
+        ensures len { result ≡ length self.now }
+        ensures rising { AreRising 0 self.now }
+    {
+        self.splices.len()
+    }
+
+    /// The row of the stop before that of an index, or 0 where none is before it.
+    pub(crate) fn row_before(&self, at: u32, steps: &mut Steps) -> u32
+        requires { at ≤ length self.now }
+        ensures row { result ≡ last_row 0 (take at self.now) }
+        ensures counted { steps.old ≤ steps.new }
+        ensures steps { TakesAtMost way (length self.now) steps.old steps.new }
+    {
+        self.splices.find_at(at, steps).before.lower.rows
+    }
+
+    /// Puts a stop before that of an index, or behind all.
+    pub(crate) fn insert(
+        &mut self,
+        alloc: Global,
+        at: u32,
+        row: u32,
+        lines: BlockLines,
+        steps: &mut Steps,
+    ) -> Result<(), NoMemory>
+        requires place { IsRowFor self.old at row }
+        requires fit { StopsFit self.old }
+        requires fits { StopsFit (with_stop at (stop_with row lines) self.old) }
+        ensures ok { OnOk result (self.new ≡ with_stop at (stop_with row lines) self.old) }
+        ensures err { OnErr result (self.new ≡ self.old) }
+        ensures counted { steps.old ≤ steps.new }
+        ensures steps { TakesAtMost putting (length self.old + 1) steps.old steps.new }
+    {
+        let found = self.splices.find_at(at, steps);
+        let before = found.before.lower.rows;
+        let gap = gap_behind(found.splice, before, row);
+        let mut fresh = Vec::with_capacity(alloc, 1)?;
+        fresh.push(splice_of(row - before, lines))?;
+        self.splices.replace(alloc, at, at, fresh, gap, steps)
+    }
+
+    /// These with one more before that of an index, at the same row and without lines.
+    pub(crate) fn with_none(
+        &self,
+        alloc: Global,
+        at: u32,
+        steps: &mut Steps,
+    ) -> Result<Stops, NoMemory>
+        requires within { at ≤ length self.now }
+        requires room { length self.now + 1 < 2 ^ 32 }
+        requires fit { StopsFit self.now }
+        ensures ok { let row = last_row 0 (take at self.now) in
+            IfOk result (λ stops. stops ≡ with_stop at (stop_with row []) self.now) }
+        ensures fits { IfOk result StopsFit }
+        ensures counted { steps.old ≤ steps.new }
+        ensures steps { TakesAtMost inserting (length self.now + 1) steps.old steps.new }
+    {
+        // Rows don't fall.
+        let _count = self.len();
+        let row = self.row_before(at, steps);
+        let mut next = self.share()?;
+        next.insert(alloc, at, row, BlockLines::none(alloc)?, steps)?;
+        Ok(next)
+    }
+
+    /// These without that of an index.
+    pub(crate) fn without(
+        &self,
+        alloc: Global,
+        at: u32,
+        steps: &mut Steps,
+    ) -> Result<Stops, NoMemory>
+        requires within { at < length self.now }
+        requires fit { StopsFit self.now }
+        ensures ok { IfOk result (λ stops. stops ≡ without_stop at self.now) }
+        ensures fits { IfOk result StopsFit }
+        ensures counted { steps.old ≤ steps.new }
+        ensures steps { TakesAtMost putting (length self.now) steps.old steps.new }
+    {
+        // Rows don't fall.
+        let _count = self.len();
+        let mut next = self.share()?;
+        next.remove(alloc, at, steps)?;
+        Ok(next)
+    }
+
+    /// Takes out the stop of an index.
+    pub(crate) fn remove(
+        &mut self,
+        alloc: Global,
+        at: u32,
+        steps: &mut Steps,
+    ) -> Result<(), NoMemory>
+        requires within { at < length self.old }
+        requires fit { StopsFit self.old }
+        ensures ok { OnOk result (self.new ≡ without_stop at self.old) }
+        ensures err { OnErr result (self.new ≡ self.old) }
+        ensures counted { steps.old ≤ steps.new }
+        ensures steps { TakesAtMost putting (length self.old) steps.old steps.new }
+    {
+        let row = self.splices.find_at(at, steps).before.lower.rows;
+        let found = self.splices.find_at(at + 1, steps);
+        let gap = gap_behind(found.splice, found.before.lower.rows, row);
+        self.splices
+            .replace(alloc, at, at + 1, Vec::new(alloc), gap, steps)
+    }
+}
+
+/// The splice of a block's lines behind so many rows of text.
+fn splice_of(gap: u32, lines: BlockLines) -> Splice<RowCount, BlockLines>
+    requires { gap + length lines < 2 ^ 32 }
+    ensures { result ≡ record { gap = record { rows = gap }; old = no_rows; new = record { rows = length lines }; load = lines } }
+{
+    let rows = lines.len() as u32;
+    Splice::new(
+        RowCount { rows: gap },
+        RowCount::zero(),
+        RowCount { rows },
+        lines,
+    )
+}
+
+/// The gap that a splice has behind a row, if there is one: it has another one behind `before` rows of text.
+fn gap_behind(splice: Option<&Splice<RowCount, BlockLines>>, before: u32, row: u32) -> RowCount
+    requires { IfSome splice (λ p.
+        (row ≤ before + p.now.gap.rows) × (before + p.now.gap.rows < 2 ^ 32)) }
+    ensures { IfSome splice.entry (λ p. row + result.rows ≡ before + p.now.gap.rows) }
+{
+    match splice {
+        None => RowCount::zero(),
+        Some(splice) => RowCount {
+            rows: before + splice.gap().rows - row,
+        },
+    }
+}
