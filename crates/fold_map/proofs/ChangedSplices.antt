@@ -1,25 +1,20 @@
 -- The splices after a change: those before it, others for those that it met, and those behind it with a new first gap.
-use Rattle.std.proofs.Common.{◌≡◌, ℕ, ◌+◌, ◌-◌, ◌<◌, ◌≤◌, false, List, [], ◌∷◌, ◌++◌, length, map, take, drop, refl, sym, ap, ◌∙◌, subst, inl, inr, ◌⊎◌, arith, append_assoc, length-append}
-use Rattle.std.specs.List.{All, Contains}
-use Rattle.std.proofs.lemmas.Bool.{cases_lt, false≢true}
+use Rattle.std.proofs.Common.{◌≡◌, ℕ, ◌+◌, ◌-◌, ◌<◌, ◌≤◌, false, List, [], ◌∷◌, ◌++◌, length, map, take, drop, refl, sym, ap, ◌∙◌, arith, append_assoc, length-append}
+use Rattle.std.specs.List.{All}
 use Rattle.std.proofs.lemmas.List.{drop_at, take_at}
 use Rattle.std.proofs.lemmas.List.Elements.{All-head, All-tail}
 use Rattle.cell_units.specs.declared.place.Bias.TheVariants.{Left, Right}
 use Rattle.cell_units.specs.Folded.{inside}
 use Rattle.cell_units.specs.Inlaid.{placeholder}
-use Rattle.cell_units.specs.Joined.{ShowsOnePlaceholder}
-use Rattle.cell_units.specs.Lawful.{AreFolds, IsFoldOf}
+use Rattle.cell_units.specs.Lawful.{AreFolds}
 use Rattle.cell_units.specs.Layers.{Source}
 use Rattle.cell_units.specs.Record.{Fold, Inlay}
 use Rattle.cell_units.specs.Text.{IsBoundary}
-use Rattle.cell_units.proofs.Joined.{covered_of, inside_by}
 use Rattle.cell_units.proofs.ShownPlaces.{place-le}
 use Rattle.joined_folds.specs.declared.joined_fold.JoinedFold.{JoinedFold}
 use Rattle.joined_folds.specs.JoinedLists.{AreJoined, EndBy, last_end}
 use Rattle.joined_folds.specs.Windows.{moved_fold, moved_on}
 use Rattle.joined_folds.proofs.JoinedLists.{joined-order}
-use Rattle.joined_folds.proofs.Sweeps.{all-at}
-use Rattle.joined_folds.proofs.Windows.{one-hides}
 use Rattle.sum_core.specs.declared.load.NoLoad.{NoLoad}
 use Rattle.splice_tree.specs.Splices.{Piece, replaced, with_first_gap}
 use Rattle.fold_map.specs.declared.amount.Amount.{Amount}
@@ -29,6 +24,7 @@ use Rattle.fold_map.specs.Positions.{AreInText, hiding}
 use Rattle.fold_map.specs.Snapshots.{PlacesFit}
 use Rattle.fold_map.specs.Splices.{splice_of, splices_from}
 use Rattle.fold_map.proofs.Cuts.{length-splices}
+use Rattle.fold_map.proofs.ShownOpens.{end-boundary, start-boundary}
 use Rattle.fold_map.proofs.Sums.{place-on}
 
 -- ---- lists of splices
@@ -111,36 +107,14 @@ module _ (text : List ℕ) (inlays : List Inlay) (folds : List Fold) (are : AreF
   abbrev high : Source
   high = record { text = text; inlays = inlays; folds = folds }
 
-  -- a joined fold starts where one of its folds does
-  start-boundary : (s e : ℕ) → ShowsOnePlaceholder folds s e → IsBoundary text s
-  start-boundary s e is = go (covered_of folds s is.0) where
-    go : (f : Fold) × Contains folds f × (f.start ≤ s) × (s < f.end) → IsBoundary text s
-    go r = at (cases_lt r.0.start s) where
-      at : (r.0.start < s) ⊎ (s ≤ r.0.start) → IsBoundary text s
-      at (inl x) = absurd (false≢true (sym is.1 ∙ inside_by folds s r.0 r.1 x r.3))
-      at (inr x) =
-          let same : r.0.start ≡ s = let l = r.2 in omega (arith, l, x) in
-          subst (IsBoundary text) same (all-at (IsFoldOf text) folds r.0 are.each r.1).start
-
-  -- and ends where one does
-  end-boundary : (s e : ℕ) → s < e → ShowsOnePlaceholder folds s e → IsBoundary text e
-  end-boundary s e some is = go (covered_of folds (e - 1) (one-hides folds s e (e - 1) is (omega (arith, some)) (omega (arith, some)))) where
-    go : (f : Fold) × Contains folds f × (f.start ≤ e - 1) × (e - 1 < f.end) → IsBoundary text e
-    go r = at (cases_lt e r.0.end) where
-      at : (e < r.0.end) ⊎ (r.0.end ≤ e) → IsBoundary text e
-      at (inl x) = absurd (false≢true (sym is.3 ∙ inside_by folds e r.0 r.1 (let l = r.2 in omega (arith, l, some)) x))
-      at (inr x) =
-          let same : r.0.end ≡ e = let l = r.3 in omega (arith, l, x, some) in
-          subst (IsBoundary text) same (all-at (IsFoldOf text) folds r.0 are.each r.1).end
-
   pub in-text : (base : ℕ) (js : List JoinedFold) (to : ℕ) → AreJoined folds base js to → inside folds base ≡ false → IsBoundary text base → PlacesFit high → AreInText low base js
   in-text base [] to a out b fits = b
   in-text base (j ∷ js) to a out b fits =
-      let ended = end-boundary j.start j.end a.0.some a.0.shows in
+      let ended = end-boundary text folds are j.start j.end a.0.some a.0.shows in
       let on = place-on text inlays folds ends base j a.0 out ended.0 in (
         record {
           base_at = b;
-          start_at = start-boundary j.start j.end a.0.shows;
+          start_at = start-boundary text folds are j.start j.end a.0.shows;
           end_at = ended;
           order = a.0.order;
           some = a.0.some;

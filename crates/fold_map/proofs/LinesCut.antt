@@ -7,7 +7,7 @@ use Rattle.cell_units.specs.Cutting.{cut_lines, onto_line}
 use Rattle.cell_units.specs.Folded.{span_end}
 use Rattle.cell_units.specs.Inlaid.{Token, is_break}
 use Rattle.cell_units.proofs.CutLists.{after, ended, ended-append, lines-append, lines-cons, lines-upto, upto, upto-after, upto-ended}
-use Rattle.fold_map.proofs.ShownSplices.{breaks-append}
+use Rattle.fold_map.proofs.Sums.{breaks-append}
 
 abbrev pub Ended : List Token → Type 0
 Ended xs = ended is_break true xs ≡ true

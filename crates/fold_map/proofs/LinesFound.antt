@@ -22,7 +22,8 @@ use Rattle.fold_map.specs.declared.lines.LineStart.{LineStart}
 use Rattle.fold_map.specs.Lines.{IsLineStart}
 use Rattle.fold_map.specs.Splices.{AreSplices, splices_from}
 use Rattle.fold_map.proofs.LinesCut.{Ended, cut-behind, end-of_line, line-behind, span_end-behind}
-use Rattle.fold_map.proofs.ShownSplices.{AreSpliced, BeginAt, InSplices, IsOf, breaks-append, closing, in-splices, sums}
+use Rattle.fold_map.proofs.ShownSplices.{AreSpliced, BeginAt, InSplices, IsOf, closing, in-splices, sums}
+use Rattle.fold_map.proofs.Sums.{breaks-append}
 use Rattle.fold_map.proofs.SpotsFound.{placeholder-new, sums-next}
 use Rattle.fold_map.proofs.SpotsShown.{all-spliced, feeds-above, feeds-below, in-spot, out-at_end, start-above, start-below, text-above, text-below, tokens}
 

@@ -19,7 +19,8 @@ use Rattle.fold_map.specs.declared.lines.LineStart.{LineStart}
 use Rattle.fold_map.specs.Lines.{CoverLines, IsLineStart, LineFits, lines_of}
 use Rattle.fold_map.specs.Splices.{AreSplices, splices_from}
 use Rattle.fold_map.proofs.LinesFound.{StartsAt, breaks-above, breaks-below, last-row, last-rows, starts-at}
-use Rattle.fold_map.proofs.ShownSplices.{AreSpliced, breaks-append, in-splices, sums}
+use Rattle.fold_map.proofs.ShownSplices.{AreSpliced, in-splices, sums}
+use Rattle.fold_map.proofs.Sums.{breaks-append}
 use Rattle.fold_map.proofs.SpotsShown.{all-spliced, out-at_end, tokens}
 
 -- where a seek by line feeds finds a line

@@ -31,7 +31,8 @@ use Rattle.fold_map.specs.Lines.{IsLineStart}
 use Rattle.fold_map.specs.Splices.{AreSplices}
 use Rattle.fold_map.proofs.LinesCut.{Ended, line-behind}
 use Rattle.fold_map.proofs.LinesFound.{at-line, begins-alike, breaks-below, closed-below, folded-below, left_of, regap, tokens-above}
-use Rattle.fold_map.proofs.ShownSplices.{AreSpliced, Around, BeginAt, IsAround, breaks-append, closing, sums}
+use Rattle.fold_map.proofs.ShownSplices.{AreSpliced, Around, BeginAt, IsAround, closing, sums}
+use Rattle.fold_map.proofs.Sums.{breaks-append}
 use Rattle.fold_map.proofs.ShownOpens.{Opens}
 use Rattle.fold_map.proofs.ShownSteps.{from}
 use Rattle.fold_map.proofs.SpotsShown.{text-below}

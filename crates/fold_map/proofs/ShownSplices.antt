@@ -1,9 +1,8 @@
 -- What is shown is what the layer below shows, with a placeholder in the place of each stretch that a splice takes out.
-use Rattle.std.proofs.Common.{◌≡◌, ℕ, suc, zero, ◌+◌, ◌<◌, ◌≤◌, cond, List, [], ◌∷◌, ◌++◌, length, take, drop, get_or, refl, sym, ap, ◌∙◌, subst, inl, inr, ◌⊎◌, arith, append_assoc}
+use Rattle.std.proofs.Common.{◌≡◌, ℕ, suc, zero, ◌+◌, ◌<◌, ◌≤◌, List, [], ◌∷◌, ◌++◌, length, take, drop, get_or, refl, sym, ap, ◌∙◌, subst, inl, inr, ◌⊎◌, arith, append_assoc}
 use Rattle.std.specs.List.{count_by}
 use Rattle.std.proofs.lemmas.Bool.{cases_lt}
 use Rattle.std.proofs.lemmas.List.{drop_all, drop_more}
-use Rattle.std.proofs.lemmas.List.Sums.{sum_by-append}
 use Rattle.cell_units.specs.Text.{line_feed}
 use Rattle.cell_units.specs.Record.{Fold, Inlay}
 use Rattle.cell_units.specs.Inlaid.{Token, Byte, Hidden, inlays_at, is_break, offset_of, show_each}
@@ -25,9 +24,7 @@ use Rattle.fold_map.specs.Amounts.{nothing, together}
 use Rattle.fold_map.specs.Splices.{splices_from}
 use Rattle.fold_map.proofs.ShownOpens.{Opens, end-boundary, opens-at, opens-byte, start-boundary}
 use Rattle.fold_map.proofs.ShownSteps.{from, low, step, same-from}
-
-pub breaks-append : (xs ys : List Token) → count_by is_break (xs ++ ys) ≡ count_by is_break xs + count_by is_break ys
-breaks-append xs ys = sum_by-append (λ (t : Token). cond (is_break t) 1 0) xs ys
+use Rattle.fold_map.proofs.Sums.{breaks-append}
 
 -- the break at a source's end
 abbrev pub closing : Source → Token

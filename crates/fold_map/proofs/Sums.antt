@@ -26,7 +26,7 @@ use Rattle.fold_map.proofs.Places.{apart, low-apart}
 
 -- ---- lines
 
-breaks-append : (xs ys : List Token) → count_by is_break (xs ++ ys) ≡ count_by is_break xs + count_by is_break ys
+pub breaks-append : (xs ys : List Token) → count_by is_break (xs ++ ys) ≡ count_by is_break xs + count_by is_break ys
 breaks-append xs ys = sum_by-append (λ (t : Token). cond (is_break t) 1 0) xs ys
 
 -- the lines of the inlays at an open offset are between its positions
