@@ -1,4 +1,5 @@
 pub mod Alike
+pub mod Fewer
 pub mod JoinedLists
 pub mod Meeting
 pub mod Sweeps

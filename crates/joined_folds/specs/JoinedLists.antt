@@ -1,5 +1,5 @@
 -- The joined folds of a list of folds, as a list in order.
-use Rattle.std.specs.Prelude.{ℕ, ◌≡◌, ◌<◌, ◌≤◌, ◌&&◌, nat_le, nat_lt, Bool, false, List, [], ◌∷◌}
+use Rattle.std.specs.Prelude.{ℕ, ◌≡◌, ◌<◌, ◌≤◌, ◌&&◌, nat_le, nat_lt, Bool, false, List, [], ◌∷◌, length}
 use Rattle.std.specs.List.{All, Contains, list_any}
 use Rattle.cell_units.specs.Record.{Fold}
 use Rattle.cell_units.specs.Folded.{covered, inside}
@@ -75,3 +75,7 @@ covered_joined js o = list_any (λ j. nat_le j.start o && nat_lt o j.end) js
 abbrev pub SameTests : Type 0
 SameTests = (folds : List Fold) (n : ℕ) (js : List JoinedFold) (o : ℕ) → AreAllJoined folds n js
     → (inside folds o ≡ inside_joined js o) × (covered folds o ≡ covered_joined js o)
+
+-- there are no more of them than folds
+abbrev pub NoMoreThanFolds : Type 0
+NoMoreThanFolds = (folds : List Fold) (n : ℕ) (js : List JoinedFold) → AreAllJoined folds n js → length js ≤ length folds

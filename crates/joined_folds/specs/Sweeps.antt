@@ -1,11 +1,13 @@
 -- From which folds the joined folds of a window are made.
-use Rattle.std.specs.Prelude.{◌+◌, ◌<◌, ◌≤◌, nat_lt, if◌then◌else◌, List, [], ◌∷◌, ◌++◌, filter, map}
+use Rattle.std.specs.Prelude.{ℕ, ◌+◌, ◌<◌, ◌≤◌, ◌&&◌, nat_le, nat_lt, if◌then◌else◌, List, [], ◌∷◌, ◌++◌, length, filter, map, count_by}
 use Rattle.std.specs.List.{All, AllPairs, Contains}
 use Rattle.cell_units.specs.Record.{Fold}
 use Rattle.mark_tree.specs.Ranges.{IsRangeList, has_in_common}
 use Rattle.mark_tree.specs.declared.mark.RangeMark.{RangeMark}
 use Rattle.joined_folds.specs.declared.joined_fold.JoinedFold.{JoinedFold}
 use Rattle.joined_folds.specs.declared.window.Window.{Window}
+use Rattle.joined_folds.specs.JoinedLists.{AreJoined}
+use Rattle.joined_folds.specs.Windows.{IsWindow}
 
 -- the fold that a range stands for, and the range of a fold
 abbrev pub fold_of : RangeMark → Fold
@@ -35,3 +37,12 @@ MeetingAreMet = (ranges : List RangeMark) (w : Window) → IsRangeList ranges
 -- the list with one more, unless that is empty
 abbrev pub with_one : List JoinedFold → JoinedFold → List JoinedFold
 with_one joined one = if nat_lt one.start one.end then joined ++ one ∷ [] else joined
+
+-- how many folds meet the window from one offset to another, or start at its end
+abbrev pub count_met : ℕ → ℕ → List Fold → ℕ
+count_met start end folds = count_by (λ f. nat_le f.start end && nat_lt start f.end) folds
+
+-- a window has no more joined folds than folds that meet it or start at its end, but for the one that reaches over its start
+abbrev pub FewInWindow : Type 0
+FewInWindow = (folds : List Fold) (w : Window) (js : List JoinedFold) → All (λ f. f.start < f.end) folds → IsWindow folds w
+    → AreJoined folds w.from js w.to → length js ≤ count_met w.start w.end folds + 1

@@ -1,16 +1,18 @@
 //! What a list of joined folds is, and what a change of folds leaves of it.
-ghost use Rattle.joined_folds.specs.JoinedLists.{EachIsJoined, EachIsListed, EachIsWithin, OneList, SameTests};
-ghost use Rattle.joined_folds.specs.Sweeps.{MeetingAreMet};
+ghost use Rattle.joined_folds.specs.JoinedLists.{EachIsJoined, EachIsListed, EachIsWithin, NoMoreThanFolds, OneList, SameTests};
+ghost use Rattle.joined_folds.specs.Sweeps.{FewInWindow, MeetingAreMet};
 ghost use Rattle.joined_folds.specs.Windows.{AddedIsAlike, MovedIsAlike, OthersStay, RemovedIsAlike};
 
 /// A list of joined folds has the maximal chains of folds that overlap, each of them, and nothing else; there is one such
-/// list. Each fold lies within one of them, and they hide what the folds hide. It does nothing.
+/// list. Each fold lies within one of them, they hide what the folds hide, and there are no more of them than folds. It does
+/// nothing.
 pub fn joined_laws()
     ensures joined { EachIsJoined }
     ensures listed { EachIsListed }
     ensures one { OneList }
     ensures within { EachIsWithin }
     ensures tests { SameTests }
+    ensures few { NoMoreThanFolds }
 {}
 
 /// A change of folds within a window leaves the joined folds that don't meet it: of a fold that is added or removed the
@@ -22,7 +24,9 @@ pub fn window_laws()
     ensures moved { MovedIsAlike }
 {}
 
-/// From which ranges of a tree the joined folds of a window are made. It does nothing.
+/// From which ranges of a tree the joined folds of a window are made, and that there are no more of them than of these, and one.
+/// It does nothing.
 pub fn sweep_laws()
     ensures met { MeetingAreMet }
+    ensures few { FewInWindow }
 {}
