@@ -1,8 +1,10 @@
 pub mod ChangedFolds
 pub mod ChangedSplices
+pub mod ChangedSteps
 pub mod CopiedPieces
 pub mod Cuts
 pub mod Fits
+pub mod FoldCounts
 pub mod LinesCopied
 pub mod LinesCut
 pub mod LinesFound
@@ -30,4 +32,5 @@ pub mod StateMaps
 pub mod StateMoved
 pub mod StateOver
 pub mod StateSynced
+pub mod StepSums
 pub mod Sums

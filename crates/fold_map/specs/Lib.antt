@@ -1,4 +1,5 @@
 pub mod Amounts
+pub mod Bounds
 pub mod Changes
 pub mod Cuts
 pub mod LinePieces

@@ -4,9 +4,12 @@ ghost use Rattle.cell_units.specs.declared.place.Bias.TheVariants.{Left, Right};
 ghost use Rattle.std.specs.Option.{ForSome};
 ghost use Rattle.cell_units.specs.Text.{IsBoundary};
 ghost use Rattle.joined_folds.specs.JoinedLists.{AreAllJoined, AreJoined, last_end};
-ghost use Rattle.joined_folds.specs.Sweeps.{fold_of};
+ghost use Rattle.joined_folds.specs.Sweeps.{count_met, fold_of};
 ghost use Rattle.joined_folds.specs.Windows.{IsWindow};
+ghost use Rattle.mark_tree.specs.Bounds.{meeting};
+ghost use Rattle.sum_tree.specs.Bounds.{ChangesAtMost, TakesAtMost, way};
 ghost use Rattle.fold_map.specs.Amounts.{amount_between};
+ghost use Rattle.fold_map.specs.Bounds.{rejoining};
 ghost use Rattle.fold_map.specs.Changes.{IsChange, IsGapTo, IsMovedNext};
 ghost use Rattle.fold_map.specs.Snapshots.{with_folds};
 
@@ -28,6 +31,7 @@ impl<L: Layer> FoldSnapshot<L> {
         ensures joined { (js : List JoinedFold) → let s = self.now in
             AreAllJoined s.folds (length s.text) js → result ≡ slice_get js index }
         ensures counted { steps.old ≤ steps.new }
+        ensures steps { TakesAtMost way (length self.now.folds) steps.old steps.new }
     {
         // The text's length is a u32.
         let _len = self.text_len();
@@ -85,6 +89,9 @@ fn joined_in(
     ensures ok { let now = map fold_of folds.now in
         IfOk result (λ v. IsWindow now window → AreJoined now window.from v.items window.to) }
     ensures counted { steps.old ≤ steps.new }
+    ensures steps { let now = map fold_of folds.now in
+        let k = count_met window.start window.end now in
+        TakesAtMost (meeting k) (length now) steps.old steps.new }
 {
     // Each end is a u32.
     let _count = folds.len();
@@ -110,6 +117,9 @@ impl<L: Layer> FoldSnapshot<L> {
         ensures ok { let after = with_folds (L.source layer) (map fold_of folds) in
             IfOk result (λ s. s ≡ after) }
         ensures counted { steps.old ≤ steps.new }
+        ensures steps { let now = map fold_of folds in
+            let cost = rejoining (count_met change.start change.last now) in
+            ChangesAtMost cost (length self.now.folds) (length now) steps.old steps.new }
     {
         // The folds fit the text, and each offset and each place of the new layer is a u32.
         let _sizes = (self.text_len(), layer.buffer_len(), layer.length());

@@ -2,6 +2,7 @@
 ghost use Rattle.std.specs.Prelude.{◌≡◌, ◌+◌, ◌≤◌, ◌<◌, ◌^◌, List, length, option_map};
 ghost use Rattle.std.specs.Option.{ForSome, option_copied};
 ghost use Rattle.joined_folds.specs.JoinedLists.{AreAllJoined};
+ghost use Rattle.sum_tree.specs.Bounds.{TakesAtMost, way};
 ghost use Rattle.fold_map.specs.Cuts.{IsCut, joined_behind};
 
 use crate::amount::{Amount, ByBuffer};
@@ -25,6 +26,7 @@ impl<L: Layer> FoldSnapshot<L> {
         ensures cut { (js : List JoinedFold) → let s = self.now in
             AreAllJoined s.folds (length s.text) js → IsCut js offset result }
         ensures counted { steps.old ≤ steps.new }
+        ensures steps { TakesAtMost way (length self.now.folds) steps.old steps.new }
     {
         // The text's length is a u32.
         let _len = self.text_len();

@@ -1,8 +1,12 @@
 //! The map: folds that are added, removed and moved, and what changed since the last snapshot.
-ghost use Rattle.std.specs.Prelude.{◌≡◌, ◌≤◌, [], None, Some, option_map, IfErr, IfOk, OnErr, OnOk};
+ghost use Rattle.std.specs.Prelude.{◌≡◌, ◌≤◌, [], length, None, Some, option_map, IfErr, IfOk, OnErr, OnOk};
 ghost use Rattle.std.specs.List.{Contains};
+ghost use Rattle.cell_units.specs.Lawful.{IsWellFormed};
 ghost use Rattle.cell_units.specs.Record.{Fold};
-ghost use Rattle.joined_folds.specs.Sweeps.{fold_of};
+ghost use Rattle.joined_folds.specs.Sweeps.{count_met, fold_of};
+ghost use Rattle.sum_tree.specs.Bounds.{ChangesAtMost, Searches, TakesAtMost};
+ghost use Rattle.text_rope.specs.Bounds.{ways};
+ghost use Rattle.fold_map.specs.Bounds.{SearchesTwice, folding, folds_met, syncing};
 ghost use Rattle.fold_map.specs.Maps.{DifferWithin, IsOwed, fold_with, folded_up, opened_up, state_of, turned_to, with_fold, without};
 ghost use Rattle.fold_map.specs.Synced.{Follows, IsSynced, synced};
 ghost use Rattle.shifted_lists.specs.Leads.{reach_of};
@@ -67,6 +71,15 @@ impl<L: Layer> FoldMap<L> {
         })
     }
 
+    /// The number of folds. The text is UTF-8, and the inlays and the folds fit it.
+    pub fn len(&self) -> u32
+        ensures len { result ≡ length self.now.current.folds }
+        ensures lawful { IsWellFormed self.now.current }
+    {
+        let _text = self.current.text_len();
+        self.current.count()
+    }
+
     /// Folds the bytes of the buffer from `start` to `end`. In this order `IdInUse` where the id is there, `BadRange` where
     /// the range is empty or backwards or an end of it is past the text's end or inside a character, and `TooLong` where
     /// `ENTRY_LIMIT` folds are there.
@@ -90,6 +103,9 @@ impl<L: Layer> FoldMap<L> {
         ensures refused { IfErr result (IsOwed (fold_refusal self.old.current id start end)) }
         ensures err { OnErr result (self.new ≡ self.old) }
         ensures counted { steps.old ≤ steps.new }
+        ensures steps { let after = (with_fold (fold_with id start end) self.old.current).folds in
+            let cost = folding (count_met start end after) in
+            SearchesTwice cost (length after) steps.old steps.new }
     {
         if let Some(refusal) = self.current.refusal_to_fold(id, start, end, steps) {
             return Err(Fault::Refused(refusal));
@@ -116,6 +132,11 @@ impl<L: Layer> FoldMap<L> {
         ensures refused { IfErr result (IsOwed (unfold_refusal self.old.current id)) }
         ensures err { OnErr result (self.new ≡ self.old) }
         ensures counted { steps.old ≤ steps.new }
+        ensures steps { (f : Fold) → Contains self.old.current.folds f → f.id ≡ id →
+            let cost = folding (count_met f.start f.end (without id self.old.current).folds) in
+            SearchesTwice cost (length self.old.current.folds) steps.old steps.new }
+        ensures sought { unfold_refusal self.old.current id ≡ Some Refusal.UnknownId →
+            Searches (length self.old.current.folds) steps.old steps.new }
     {
         if !self.current.has_id(id, steps) {
             return Err(Fault::Refused(Refusal::UnknownId));
@@ -148,6 +169,9 @@ impl<L: Layer> FoldMap<L> {
             OnOk result (self.new ≡ synced (L.source layer) replaced self.old) }
         ensures err { OnErr result (self.new ≡ self.old) }
         ensures counted { steps.old ≤ steps.new }
+        ensures steps { let current = self.old.current in
+            let k = folds_met (option_map reach_of shift) (option_map reach_of below) current in
+            TakesAtMost (syncing k) (length current.folds) steps.old steps.new }
     {
         let (next, answer) = self.after(alloc, layer, shift, below, steps)?;
         let shown = next.share()?;
@@ -174,6 +198,9 @@ impl<L: Layer> FoldMap<L> {
             IfOk result (λ r.
             IsSynced (L.source layer) replaced lower self.now r.0 (option_map reach_of r.1)) }
         ensures counted { steps.old ≤ steps.new }
+        ensures steps { let current = self.now.current in
+            let k = folds_met (option_map reach_of shift) (option_map reach_of below) current in
+            TakesAtMost (syncing k) (length current.folds) steps.old steps.new }
     {
         // The folds fit the text.
         let _len = self.current.text_len();
@@ -202,6 +229,9 @@ impl<L: Layer> FoldMap<L> {
             IfOk result (λ r.
             IsSynced (L.source layer) replaced lower self.now r.0 (Some (reach_of r.1))) }
         ensures counted { steps.old ≤ steps.new }
+        ensures steps { let current = self.now.current in
+            let k = folds_met (option_map reach_of shift) (Some (reach_of below)) current in
+            TakesAtMost (syncing k) (length current.folds) steps.old steps.new }
     {
         // What is shown is within its limits, and the layer is lawful.
         let _sizes = (
@@ -219,6 +249,8 @@ impl<L: Layer> FoldMap<L> {
         requires differ { DifferWithin self.old.current next (fold_of range) }
         ensures now { self.new ≡ turned_to next (fold_of range) self.old }
         ensures counted { steps.old ≤ steps.new }
+        ensures steps { let count = length self.old.current.folds in
+            ChangesAtMost (ways 12) count (length next.folds) steps.old steps.new }
     {
         // What is shown is within its limits, before and after.
         let _sizes = (

@@ -3,6 +3,8 @@ ghost use Rattle.std.specs.Prelude.{◌≡◌, ◌+◌, ◌≤◌, ◌<◌, ◌^
 ghost use Rattle.std.specs.Option.{ForSome};
 ghost use Rattle.joined_folds.specs.JoinedLists.{AreAllJoined};
 ghost use Rattle.joined_folds.specs.Windows.{moved_on};
+ghost use Rattle.sum_tree.specs.Bounds.{TakesAtMost};
+ghost use Rattle.text_rope.specs.Bounds.{ways};
 ghost use Rattle.fold_map.specs.Met.{IsMetBy, end_met, start_met};
 
 use crate::snapshot::FoldSnapshot;
@@ -43,6 +45,7 @@ impl<L: Layer> FoldSnapshot<L> {
         ensures met { (js : List JoinedFold) → let s = self.now in
             AreAllJoined s.folds (length s.text) js → IsMetBy js change result }
         ensures counted { steps.old ≤ steps.new }
+        ensures steps { TakesAtMost (ways 2) (length self.now.folds) steps.old steps.new }
     {
         // The text's length is a u32.
         let _len = self.text_len();

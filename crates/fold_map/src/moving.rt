@@ -4,7 +4,10 @@ ghost use Rattle.std.specs.Option.{ForSome};
 ghost use Rattle.cell_units.specs.Layers.{shown_text, unfolded};
 ghost use Rattle.joined_folds.specs.Sweeps.{fold_of};
 ghost use Rattle.joined_folds.specs.Windows.{moved_on};
+ghost use Rattle.mark_tree.specs.Bounds.{shrinking};
 ghost use Rattle.shifted_lists.specs.Leads.{reach_of};
+ghost use Rattle.sum_tree.specs.Bounds.{TakesAtMost};
+ghost use Rattle.fold_map.specs.Bounds.{folds_met, syncing, touched};
 ghost use Rattle.fold_map.specs.Snapshots.{with_folds};
 ghost use Rattle.fold_map.specs.Synced.{Follows, end_after, folds_after, layer_change, row_end_at, row_start_at, source_after};
 
@@ -45,6 +48,9 @@ impl<L: Layer> FoldSnapshot<L> {
             IfOk result (λ r. r.0 ≡ source_after (L.source layer) replaced self.now) }
         ensures change { IfOk result (λ r. reach_of r.1 ≡ layer_change self.now r.0 (reach_of below)) }
         ensures counted { steps.old ≤ steps.new }
+        ensures steps { let replaced = option_map reach_of shift in
+            let k = folds_met replaced (Some (reach_of below)) self.now in
+            TakesAtMost (syncing k) (length self.now.folds) steps.old steps.new }
     {
         // The folds fit the text, and the new text's length is a u32.
         let _sizes = (self.text_len(), layer.buffer_len());
@@ -74,6 +80,8 @@ impl<L: Layer> FoldSnapshot<L> {
         ensures ok { let replaced = option_map reach_of shift in
             IfOk result (λ t. map fold_of t ≡ folds_after replaced self.now.folds) }
         ensures counted { steps.old ≤ steps.new }
+        ensures steps { let k = touched (option_map reach_of shift) self.now.folds in
+            TakesAtMost (shrinking k) (length self.now.folds) steps.old steps.new }
     {
         // The folds are within the text.
         let _len = self.text_len();

@@ -3,7 +3,7 @@ ghost use Rattle.std.specs.Prelude.{◌≡◌, ◌==◌, ◌≤◌, [], length, 
 ghost use Rattle.std.specs.List.{list_any};
 ghost use Rattle.cell_units.specs.Layers.{place_of};
 ghost use Rattle.cell_units.specs.Text.{IsBoundary, is_boundary};
-ghost use Rattle.sum_tree.specs.Bounds.{Searches};
+ghost use Rattle.sum_tree.specs.Bounds.{Searches, TakesAtMost, way};
 ghost use Rattle.fold_map.specs.Snapshots.{IsLawful, fold_refusal, is_range};
 
 use crate::amount::{Amount, ByBytes};
@@ -134,6 +134,7 @@ impl<L: Layer> FoldSnapshot<L> {
         requires { IsBoundary self.now.text offset }
         ensures place { result ≡ place_of self.now offset bias }
         ensures counted { steps.old ≤ steps.new }
+        ensures steps { TakesAtMost way (length self.now.folds) steps.old steps.new }
     {
         let below = self.layer.place(offset, bias);
         self.splices.to_upper::<ByBytes>(below, bias, steps)

@@ -3,9 +3,14 @@ ghost use Rattle.std.specs.Prelude.{◌≡◌, ◌==◌, ◌≤◌, None, length
 ghost use Rattle.std.specs.List.{Contains, list_any};
 ghost use Rattle.cell_units.specs.Layers.{shown_text};
 ghost use Rattle.cell_units.specs.Lawful.{AreFolds};
+ghost use Rattle.cell_units.specs.Record.{Fold};
 ghost use Rattle.cell_units.specs.Text.{IsBoundary};
-ghost use Rattle.joined_folds.specs.Sweeps.{fold_of};
+ghost use Rattle.joined_folds.specs.Sweeps.{count_met, fold_of};
+ghost use Rattle.mark_tree.specs.Bounds.{SearchesAndTakes};
 ghost use Rattle.shifted_lists.specs.Leads.{reach_of};
+ghost use Rattle.sum_tree.specs.Bounds.{ChangesAtMost, TakesAtMost, way};
+ghost use Rattle.text_rope.specs.Bounds.{ways};
+ghost use Rattle.fold_map.specs.Bounds.{refolding, rejoining};
 ghost use Rattle.fold_map.specs.Maps.{DifferWithin, fold_change, with_fold, without};
 ghost use Rattle.fold_map.specs.Replaced.{shown_change};
 ghost use Rattle.fold_map.specs.Snapshots.{PlacesFit, fold_refusal, with_folds};
@@ -28,6 +33,9 @@ impl<L: Layer> FoldSnapshot<L> {
         requires fits { PlacesFit (with_fold (fold_of range) self.now) }
         ensures ok { IfOk result (λ s. s ≡ with_fold (fold_of range) self.now) }
         ensures counted { steps.old ≤ steps.new }
+        ensures steps { let after = (with_fold (fold_of range) self.now).folds in
+            let cost = refolding (count_met range.start range.end after) in
+            SearchesAndTakes cost (length after) steps.old steps.new }
     {
         // The folds fit the text, and their number is a u32.
         let _sizes = (self.text_len(), self.count());
@@ -51,6 +59,9 @@ impl<L: Layer> FoldSnapshot<L> {
         ensures fold { IfOk result (λ r. Contains self.now.folds (fold_of r.1)) }
         ensures id { IfOk result (λ r. r.1.id ≡ id) }
         ensures counted { steps.old ≤ steps.new }
+        ensures steps { (f : Fold) → Contains self.now.folds f → f.id ≡ id →
+            let cost = refolding (count_met f.start f.end (without id self.now).folds) in
+            SearchesAndTakes cost (length self.now.folds) steps.old steps.new }
     {
         // The folds fit the text.
         let _len = self.text_len();
@@ -76,6 +87,9 @@ impl<L: Layer> FoldSnapshot<L> {
             DifferWithin self.now after (fold_of range) }
         ensures ok { IfOk result (λ s. s ≡ with_folds self.now (map fold_of folds)) }
         ensures counted { steps.old ≤ steps.new }
+        ensures steps { let now = map fold_of folds in
+            let cost = rejoining (count_met range.start range.end now) in
+            ChangesAtMost cost (length self.now.folds) (length now) steps.old steps.new }
     {
         // The text and its inlays are lawful.
         let _len = self.text_len();
@@ -92,6 +106,7 @@ impl<L: Layer> FoldSnapshot<L> {
     pub(crate) fn shown_len(&self, steps: &mut Steps) -> u32
         ensures value { result ≡ length (shown_text self.now) }
         ensures counted { steps.old ≤ steps.new }
+        ensures steps { TakesAtMost way (length self.now.folds) steps.old steps.new }
     {
         let len = self.text_len();
         self.place_of(len, Bias::Right, steps)
@@ -110,6 +125,8 @@ impl<L: Layer> FoldSnapshot<L> {
         requires order { start ≤ end }
         ensures change { reach_of result ≡ shown_change self.now next.now start end }
         ensures counted { steps.old ≤ steps.new }
+        ensures steps { let count = length self.now.folds in
+            ChangesAtMost (ways 4) count (length next.now.folds) steps.old steps.new }
     {
         let first = self.place_of(start, Bias::Left, steps);
         let past = self.place_of(end, Bias::Right, steps);
@@ -131,6 +148,8 @@ impl<L: Layer> FoldSnapshot<L> {
         requires order { range.start ≤ range.end }
         ensures change { reach_of result ≡ fold_change self.now next.now (fold_of range) }
         ensures counted { steps.old ≤ steps.new }
+        ensures steps { let count = length self.now.folds in
+            ChangesAtMost (ways 12) count (length next.now.folds) steps.old steps.new }
     {
         // The text is UTF-8.
         let _len = self.text_len();

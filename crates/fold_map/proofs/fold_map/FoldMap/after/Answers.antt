@@ -1,7 +1,9 @@
-use Rattle.std.proofs.Common.{Option, option_map, None, Some, sym, subst}
+use Rattle.std.proofs.Common.{◌≡◌, ℕ, length, Option, option_map, None, Some, sym, subst}
 use Rattle.cell_units.specs.declared.place.Shift.{Shift}
 use Rattle.cell_units.specs.Layers.{Source, unfolded}
 use Rattle.shifted_lists.specs.Leads.{Reach, reach_of}
+use Rattle.sum_tree.specs.Bounds.{TakesAtMost}
+use Rattle.fold_map.specs.Bounds.{folds_met, syncing}
 use Rattle.fold_map.specs.Maps.{FoldState}
 use Rattle.fold_map.specs.Synced.{Follows, IsSynced}
 use Rattle.fold_map.proofs.StateAnswers.{no-shift, synced-over}
@@ -36,3 +38,16 @@ pub returns-in_ok-next-in-Some-clause-synced : goal.returns-in_ok-next-in-Some-c
 returns-in_ok-next-in-Some-clause-synced g c =
     subst (λ (o : Option Shift). IsSynced (g.L.Layer.source c.args.layer) (option_map reach_of c.args.shift) (option_map reach_of o) c.args.self.now c.in_ok-next-in-Some.next (Some (reach_of c.in_ok-next-in-Some.answer))) (sym c.in-Some.is)
     c.in_ok-next-in-Some.ensures.synced
+
+-- ---- steps
+
+-- the folds that a replacement meets which is there
+some : (shift : Option Reach) (below : Option Shift) (x : Shift) (s : Source) (old new : ℕ) → below ≡ Some x → TakesAtMost (syncing (folds_met shift (Some (reach_of x)) s)) (length s.folds) old new
+    → TakesAtMost (syncing (folds_met shift (option_map reach_of below) s)) (length s.folds) old new
+some shift below x s old new is steps = subst (λ (o : Option Shift). TakesAtMost (syncing (folds_met shift (option_map reach_of o) s)) (length s.folds) old new) (sym is) steps
+
+pub returns-in_err-next-in-Some-clause-steps : goal.returns-in_err-next-in-Some-clause-steps
+returns-in_err-next-in-Some-clause-steps g c = some (option_map reach_of c.args.shift) c.args.below c.in-Some.below c.args.self.now.current c.args.steps.now c.moved.new.steps c.in-Some.is c.moved.ensures.steps
+
+pub returns-in_ok-next-in-Some-clause-steps : goal.returns-in_ok-next-in-Some-clause-steps
+returns-in_ok-next-in-Some-clause-steps g c = some (option_map reach_of c.args.shift) c.args.below c.in-Some.below c.args.self.now.current c.args.steps.now c.moved.new.steps c.in-Some.is c.moved.ensures.steps

@@ -1,11 +1,16 @@
-use Rattle.std.proofs.Common.{◌∙◌, Option, ap, refl, sym, subst}
+use Rattle.std.proofs.Common.{◌≡◌, ◌∙◌, ℕ, length, Option, ap, refl, sym, subst, arith}
 use Rattle.cell_units.specs.declared.fault.Fault.TheVariants.{Refused}
 use Rattle.cell_units.specs.declared.fault.Refusal.{Refusal}
 use Rattle.cell_units.specs.Layers.{Source}
+use Rattle.joined_folds.specs.Sweeps.{count_met}
+use Rattle.mark_tree.specs.Bounds.{SearchesAndTakes}
+use Rattle.fold_map.specs.Bounds.{refolding}
 use Rattle.fold_map.specs.Maps.{DifferWithin, FoldState, IsOwed, fold_with, turned_to, with_fold}
 use Rattle.fold_map.specs.Snapshots.{PlacesFit, fold_refusal}
 use Rattle.fold_map.proofs.StateFolds.{accepted-is, added-differ}
 use Rattle.fold_map.proofs.StateMaps.{owed-memory}
+use Rattle.fold_map.proofs.FoldCounts.{one-more}
+use Rattle.fold_map.proofs.StepSums.{folded-steps}
 use Rattle.fold_map.proofs.fold_map.FoldMap.fold.Goals as goal
 
 pub returns-in-Some-clause-refused : goal.returns-in-Some-clause-refused
@@ -43,3 +48,42 @@ returns-clause-ok g c =
 pub returns-clause-accepted : goal.returns-clause-accepted
 returns-clause-accepted g c =
     sym (c.in_default.ensures.refusal ∙ ap (λ (s : FoldState). fold_refusal s.current c.args.id c.args.start c.args.end) c.self.view_is)
+
+-- ---- steps
+
+pub returns-in-Some-clause-steps : goal.returns-in-Some-clause-steps
+returns-in-Some-clause-steps g c h lt =
+    let f = fold_with c.args.id c.args.start c.args.end in
+    let v = c.args.self.now.current in
+    let after = (with_fold f v).folds in
+    let was = ap (λ (s : FoldState). length s.current.folds) c.self.view_is in
+    folded-steps (count_met f.start f.end after) (length v.folds) (length after) h c.args.steps.now c.refusal_to_fold.new.steps c.refusal_to_fold.new.steps c.refusal_to_fold.new.steps
+    (omega (arith, one-more f v.folds)) (omega (arith, c.refusal_to_fold.ensures.steps, was)) (omega arith) (omega arith)
+
+-- the steps in which the fold is put among the others
+put : (id start end b new : ℕ) (m v : Source) → m ≡ v → let f = fold_with id start end in
+    SearchesAndTakes (refolding (count_met start end (with_fold f m).folds)) (length (with_fold f m).folds) b new → SearchesAndTakes (refolding (count_met start end (with_fold f v).folds)) (length (with_fold f v).folds) b new
+put id start end b new m v same steps =
+    subst (λ (s : Source). SearchesAndTakes (refolding (count_met start end (with_fold (fold_with id start end) s).folds)) (length (with_fold (fold_with id start end) s).folds) b new) same steps
+
+pub returns-in_err-next-clause-steps : goal.returns-in_err-next-clause-steps
+returns-in_err-next-clause-steps g c h lt =
+    let f = fold_with c.args.id c.args.start c.args.end in
+    let v = c.args.self.now.current in
+    let after = (with_fold f v).folds in
+    let same = ap (λ (s : FoldState). s.current) c.self.view_is in
+    folded-steps (count_met f.start f.end after) (length v.folds) (length after) h c.args.steps.now c.refusal_to_fold.new.steps c.with_fold.new.steps c.with_fold.new.steps
+    (omega (arith, one-more f v.folds)) (omega (arith, c.refusal_to_fold.ensures.steps, ap (λ (s : Source). length s.folds) same))
+    (put c.args.id c.args.start c.args.end c.refusal_to_fold.new.steps c.with_fold.new.steps c.self.inside.current v same c.with_fold.ensures.steps h lt) (omega arith)
+
+pub returns-clause-steps : goal.returns-clause-steps
+returns-clause-steps g c h lt =
+    let f = fold_with c.args.id c.args.start c.args.end in
+    let v = c.args.self.now.current in
+    let after = (with_fold f v).folds in
+    let same = ap (λ (s : FoldState). s.current) c.self.view_is in
+    let next = ap (λ (s : Source). length s.folds) (c.in_ok-next.ensures.ok ∙ ap (with_fold f) same) in
+    folded-steps (count_met f.start f.end after) (length v.folds) (length after) h c.args.steps.now c.refusal_to_fold.new.steps c.with_fold.new.steps c.turn_to.new.steps
+    (omega (arith, one-more f v.folds)) (omega (arith, c.refusal_to_fold.ensures.steps, ap (λ (s : Source). length s.folds) same))
+    (put c.args.id c.args.start c.args.end c.refusal_to_fold.new.steps c.with_fold.new.steps c.self.inside.current v same c.with_fold.ensures.steps h lt)
+    (c.turn_to.ensures.steps h (omega (arith, lt, one-more f v.folds)) (omega (arith, lt, next)))

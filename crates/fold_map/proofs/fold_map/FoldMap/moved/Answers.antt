@@ -1,7 +1,9 @@
-use Rattle.std.proofs.Common.{◌∙◌, Option, option_map, Some, ap, sym, subst}
+use Rattle.std.proofs.Common.{◌≡◌, ◌∙◌, ℕ, length, Option, option_map, Some, ap, sym, subst}
 use Rattle.cell_units.specs.Layers.{Source}
 use Rattle.shifted_lists.specs.Covering.{CoverFits, with_pending}
 use Rattle.shifted_lists.specs.Leads.{Reach, reach_of}
+use Rattle.sum_tree.specs.Bounds.{TakesAtMost}
+use Rattle.fold_map.specs.Bounds.{folds_met, syncing}
 use Rattle.fold_map.specs.Maps.{FoldState}
 use Rattle.fold_map.specs.Synced.{Follows, IsSynced, layer_change}
 use Rattle.fold_map.proofs.StateAnswers.{moved-cover, synced-moved}
@@ -37,3 +39,16 @@ returns-clause-synced g c =
     let made = synced-moved state c.text_len.ensures.lawful c.self.invariant layer c.buffer_len.ensures.well_formed shift (ordered-pending c.args.shift) below c.args.below.ordered here (ordered-pending m.pending) in
     subst (λ (v : FoldState). IsSynced layer shift (Some below) v c.in_ok-next.next (Some (reach_of c.with_pending-answer.result))) c.self.view_is
     (subst (λ (p : Source × Option Reach). IsSynced layer shift (Some below) state p.0 p.1) (λ i. (sym c.in_ok-next.ensures.ok i, sym answer i)) made)
+
+-- ---- steps
+
+-- what is said of the map's snapshot is said of the map
+seen : (shift below : Option Reach) (old new : ℕ) (m v : FoldState) → m ≡ v → TakesAtMost (syncing (folds_met shift below m.current)) (length m.current.folds) old new
+    → TakesAtMost (syncing (folds_met shift below v.current)) (length v.current.folds) old new
+seen shift below old new m v same steps = subst (λ (s : FoldState). TakesAtMost (syncing (folds_met shift below s.current)) (length s.current.folds) old new) same steps
+
+pub returns-in_err-next-clause-steps : goal.returns-in_err-next-clause-steps
+returns-in_err-next-clause-steps g c = seen (option_map reach_of c.args.shift) (Some (reach_of c.args.below)) c.args.steps.now c.moved.new.steps _ c.args.self.now c.self.view_is c.moved.ensures.steps
+
+pub returns-clause-steps : goal.returns-clause-steps
+returns-clause-steps g c = seen (option_map reach_of c.args.shift) (Some (reach_of c.args.below)) c.args.steps.now c.moved.new.steps _ c.args.self.now c.self.view_is c.moved.ensures.steps

@@ -1,4 +1,4 @@
-use Rattle.std.proofs.Common.{◌∙◌, Option, option_map, Some, ap, sym, subst}
+use Rattle.std.proofs.Common.{◌∙◌, ◌+◌, ◌*◌, ◌^◌, ◌<◌, length, Option, option_map, Some, ap, sym, subst}
 use Rattle.cell_units.specs.Layers.{Source}
 use Rattle.joined_folds.specs.Sweeps.{fold_of}
 use Rattle.shifted_lists.specs.Covering.{CoverFits, with_pending}
@@ -46,3 +46,7 @@ returns-clause-now g c =
     let pending = c.with_pending.ensures ∙ ap (λ (r : Reach). with_pending (option_map reach_of m.pending) (Some r)) c.fold_change-change.ensures.change in
     (λ i. state next m.shown (pending i))
     ∙ ap (λ (s : FoldState). state next s.shown (with_pending s.pending (Some (fold_change s.current next (fold_of c.args.range))))) c.self.view_is
+
+pub returns-clause-steps : goal.returns-clause-steps
+returns-clause-steps g c h lt lt' =
+    c.fold_change-change.ensures.steps h (subst (λ (v : FoldState). length v.current.folds < 2 * 6 ^ (h + 1)) (sym c.self.view_is) lt) lt'

@@ -1,14 +1,19 @@
-use Rattle.std.proofs.Common.{◌≡◌, ◌∙◌, ℕ, Option, ap, refl, sym, subst}
+use Rattle.std.proofs.Common.{◌≡◌, ◌∙◌, ℕ, length, Option, ap, refl, sym, subst, arith}
 use Rattle.std.specs.List.{Contains}
 use Rattle.cell_units.specs.declared.fault.Fault.TheVariants.{Refused}
 use Rattle.cell_units.specs.declared.fault.Refusal.{Refusal}
 use Rattle.cell_units.specs.declared.fault.Refusal.TheVariants.{UnknownId}
 use Rattle.cell_units.specs.Layers.{Source}
-use Rattle.joined_folds.specs.Sweeps.{fold_of}
+use Rattle.cell_units.specs.Record.{Fold}
+use Rattle.joined_folds.specs.Sweeps.{count_met, fold_of}
+use Rattle.mark_tree.specs.Bounds.{SearchesAndTakes}
+use Rattle.fold_map.specs.Bounds.{refolding}
 use Rattle.fold_map.specs.Maps.{DifferWithin, FoldState, IsOwed, turned_to, without}
 use Rattle.fold_map.specs.Snapshots.{PlacesFit, unfold_refusal}
 use Rattle.fold_map.proofs.StateFolds.{one-id, removed-differ}
 use Rattle.fold_map.proofs.StateMaps.{known-id, owed-memory, unknown-id}
+use Rattle.fold_map.proofs.FoldCounts.{fewer-left}
+use Rattle.fold_map.proofs.StepSums.{folded-steps}
 use Rattle.fold_map.proofs.fold_map.FoldMap.unfold.Goals as goal
 
 pub returns-then-not-has_id-clause-refused : goal.returns-then-not-has_id-clause-refused
@@ -48,3 +53,51 @@ returns-clause-ok g c f has same =
 pub returns-clause-accepted : goal.returns-clause-accepted
 returns-clause-accepted g c =
     sym (known-id c.self.inside.current c.args.id (sym c.has_id.ensures.value ∙ c.if-not-has_id.false) ∙ ap (λ (s : FoldState). unfold_refusal s.current c.args.id) c.self.view_is)
+
+-- ---- steps
+
+pub returns-then-not-has_id-clause-steps : goal.returns-then-not-has_id-clause-steps
+returns-then-not-has_id-clause-steps g c f has same h lt =
+    let v = c.args.self.now.current in
+    let was = ap (λ (s : FoldState). length s.current.folds) c.self.view_is in
+    folded-steps (count_met f.start f.end (without c.args.id v).folds) (length v.folds) (length v.folds) h c.args.steps.now c.has_id.new.steps c.has_id.new.steps c.has_id.new.steps
+    (omega arith) (omega (arith, c.has_id.ensures.steps, was)) (omega arith) (omega arith)
+
+-- the steps in which the fold is taken from the others
+taken : (f : Fold) (id b new : ℕ) (m v : Source) → m ≡ v → Contains v.folds f → f.id ≡ id
+    → ((f : Fold) → Contains m.folds f → f.id ≡ id → SearchesAndTakes (refolding (count_met f.start f.end (without id m).folds)) (length m.folds) b new)
+    → SearchesAndTakes (refolding (count_met f.start f.end (without id v).folds)) (length v.folds) b new
+taken f id b new m v same has is steps =
+    subst (λ (s : Source). (f : Fold) → Contains s.folds f → f.id ≡ id → SearchesAndTakes (refolding (count_met f.start f.end (without id s).folds)) (length s.folds) b new) same steps f has is
+
+pub returns-in_err-next-clause-steps : goal.returns-in_err-next-clause-steps
+returns-in_err-next-clause-steps g c f has is h lt =
+    let v = c.args.self.now.current in
+    let same = ap (λ (s : FoldState). s.current) c.self.view_is in
+    folded-steps (count_met f.start f.end (without c.args.id v).folds) (length v.folds) (length v.folds) h c.args.steps.now c.has_id.new.steps c.without_fold.new.steps c.without_fold.new.steps
+    (omega arith) (omega (arith, c.has_id.ensures.steps, ap (λ (s : Source). length s.folds) same))
+    (taken f c.args.id c.has_id.new.steps c.without_fold.new.steps c.self.inside.current v same has is c.without_fold.ensures.steps h lt) (omega arith)
+
+pub returns-clause-steps : goal.returns-clause-steps
+returns-clause-steps g c f has is h lt =
+    let v = c.args.self.now.current in
+    let same = ap (λ (s : FoldState). s.current) c.self.view_is in
+    let next = ap (λ (s : Source). length s.folds) (c.in_ok-next.ensures.ok ∙ ap (without c.args.id) same) in
+    folded-steps (count_met f.start f.end (without c.args.id v).folds) (length v.folds) (length v.folds) h c.args.steps.now c.has_id.new.steps c.without_fold.new.steps c.turn_to.new.steps
+    (omega arith) (omega (arith, c.has_id.ensures.steps, ap (λ (s : Source). length s.folds) same))
+    (taken f c.args.id c.has_id.new.steps c.without_fold.new.steps c.self.inside.current v same has is c.without_fold.ensures.steps h lt)
+    (c.turn_to.ensures.steps h lt (omega (arith, lt, next, fewer-left c.args.id v.folds)))
+
+pub returns-then-not-has_id-clause-sought : goal.returns-then-not-has_id-clause-sought
+returns-then-not-has_id-clause-sought g c e = omega (arith, c.has_id.ensures.steps, ap (λ (s : FoldState). length s.current.folds) c.self.view_is)
+
+-- the id is there
+pub returns-in_err-next-clause-sought : goal.returns-in_err-next-clause-sought
+returns-in_err-next-clause-sought g c e =
+    let known = known-id c.self.inside.current c.args.id (sym c.has_id.ensures.value ∙ c.if-not-has_id.false) ∙ ap (λ (s : FoldState). unfold_refusal s.current c.args.id) c.self.view_is in
+    absurd (cc (known, e))
+
+pub returns-clause-sought : goal.returns-clause-sought
+returns-clause-sought g c e =
+    let known = known-id c.self.inside.current c.args.id (sym c.has_id.ensures.value ∙ c.if-not-has_id.false) ∙ ap (λ (s : FoldState). unfold_refusal s.current c.args.id) c.self.view_is in
+    absurd (cc (known, e))

@@ -16,3 +16,7 @@ new-requires g c =
       places-left_first c.args.self.now c.args.start,
       places-rise c.args.self.now c.args.start c.args.end Right c.requires.order c.requires.end.0,
     )
+
+pub returns-clause-steps : goal.returns-clause-steps
+returns-clause-steps g c h lt lt' =
+    omega (arith, c.place_of-first.ensures.steps h lt, c.place_of-past.ensures.steps h lt, c.shown_len.ensures.steps h lt, c.shown_len-len.ensures.steps h lt')

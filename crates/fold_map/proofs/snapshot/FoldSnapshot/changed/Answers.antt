@@ -1,4 +1,4 @@
-use Rattle.std.proofs.Common.{◌≡◌, ℕ, ◌<◌, ◌^◌, List, length, map, Some, ap, sym, ◌∙◌, subst, arith}
+use Rattle.std.proofs.Common.{◌≡◌, ℕ, ◌+◌, ◌*◌, ◌<◌, ◌≤◌, ◌^◌, List, length, map, Some, ap, sym, ◌∙◌, subst, arith}
 use Rattle.std.specs.List.{slice_get}
 use Rattle.cell_units.specs.Layers.{Source, unfolded}
 use Rattle.cell_units.specs.Text.{IsBoundary}
@@ -7,8 +7,10 @@ use Rattle.joined_folds.specs.JoinedLists.{AreJoined, last_end}
 use Rattle.joined_folds.specs.Sweeps.{fold_of}
 use Rattle.sum_core.specs.Sums.{total}
 use Rattle.sum_core.specs.declared.load.NoLoad.{NoLoad}
+use Rattle.splice_tree.specs.Bounds.{splicing}
 use Rattle.splice_tree.specs.Sides.{BothFit, both, none}
 use Rattle.splice_tree.specs.Splices.{Piece, piece_sum, replaced}
+use Rattle.sum_tree.specs.Bounds.{ChangesAtMost}
 use Rattle.fold_map.specs.declared.amount.Amount.{Amount}
 use Rattle.fold_map.specs.Amounts.{AmountFits, nothing, together}
 use Rattle.fold_map.specs.Changes.{IsGapTo, IsMovedNext}
@@ -16,6 +18,11 @@ use Rattle.fold_map.specs.Positions.{AreInText}
 use Rattle.fold_map.specs.Snapshots.{IsSnapshot, PlacesFit}
 use Rattle.fold_map.specs.Splices.{AreSplices, splices_from}
 use Rattle.fold_map.proofs.ChangedFolds.{after-fits, after-small, base-in, gap-fits, met-within, next-moved, snapshot-after, spliced-by, stand, window-is}
+use Rattle.joined_folds.specs.Sweeps.{count_met}
+use Rattle.fold_map.proofs.ChangedSteps.{few-after, few-fresh, found-met}
+use Rattle.fold_map.proofs.Cuts.{length-splices}
+use Rattle.fold_map.proofs.FoldCounts.{snapshot-splices}
+use Rattle.fold_map.proofs.StepSums.{rejoined-steps}
 use Rattle.fold_map.proofs.snapshot.FoldSnapshot.changed.Goals as goal
 use Rattle.fold_map.proofs.snapshot.FoldSnapshot.changed.Goals.{In_ok-splices}
 use Rattle.fold_map.proofs.snapshot.FoldSnapshot.changed.Given.{Over}
@@ -143,3 +150,65 @@ invariant_of-result g c =
     subst (IsSnapshot (g.L.Layer.source c.args.layer) (map fold_of c.args.folds)) (sym (c.in_ok-replace.ensures.ok ∙ after-is g a))
     (snapshot-after c.args.self.now is.joined is.all (g.L.Layer.source c.args.layer) c.requires.bare (map fold_of c.args.folds) c.args.change c.requires.change c.met-met.result (c.met-met.ensures.met is.joined is.all)
     c.in_ok-joined.joined.items (made g a) c.in_ok-splices.splices (spliced g a) c.gap_to-gap.result (gap-is g a))
+
+-- ---- steps
+
+-- the folds that the change meets are found
+pub returns-in_err-joined-clause-steps : goal.returns-in_err-joined-clause-steps
+returns-in_err-joined-clause-steps g c h lt lt' =
+    let is = c.text_len.ensures.lawful in
+    let now = map fold_of c.args.folds in
+    let found = found-met c.args.self.now is.joined is.all (g.L.Layer.source c.args.layer) c.requires.bare now c.args.change c.requires.change c.met-met.result (c.met-met.ensures.met is.joined is.all)
+    h c.met-met.new.steps c.joined_in.new.steps c.joined_in.ensures.steps lt' in
+    rejoined-steps (count_met c.args.change.start c.args.change.last now) 0 h c.args.steps.now c.met-met.new.steps c.joined_in.new.steps c.joined_in.new.steps c.joined_in.new.steps
+    (omega arith) (c.met-met.ensures.steps h lt) found (omega arith) (omega arith)
+
+pub returns-in_err-fresh-clause-steps : goal.returns-in_err-fresh-clause-steps
+returns-in_err-fresh-clause-steps g c h lt lt' =
+    let is = c.text_len.ensures.lawful in
+    let now = map fold_of c.args.folds in
+    let found = found-met c.args.self.now is.joined is.all (g.L.Layer.source c.args.layer) c.requires.bare now c.args.change c.requires.change c.met-met.result (c.met-met.ensures.met is.joined is.all)
+    h c.met-met.new.steps c.joined_in.new.steps c.joined_in.ensures.steps lt' in
+    rejoined-steps (count_met c.args.change.start c.args.change.last now) 0 h c.args.steps.now c.met-met.new.steps c.joined_in.new.steps c.joined_in.new.steps c.joined_in.new.steps
+    (omega arith) (c.met-met.ensures.steps h lt) found (omega arith) (omega arith)
+
+pub returns-in_err-splices-clause-steps : goal.returns-in_err-splices-clause-steps
+returns-in_err-splices-clause-steps g c h lt lt' =
+    let is = c.text_len.ensures.lawful in
+    let now = map fold_of c.args.folds in
+    let found = found-met c.args.self.now is.joined is.all (g.L.Layer.source c.args.layer) c.requires.bare now c.args.change c.requires.change c.met-met.result (c.met-met.ensures.met is.joined is.all)
+    h c.met-met.new.steps c.joined_in.new.steps c.joined_in.ensures.steps lt' in
+    rejoined-steps (count_met c.args.change.start c.args.change.last now) 0 h c.args.steps.now c.met-met.new.steps c.joined_in.new.steps c.joined_at-next.new.steps c.joined_at-next.new.steps
+    (omega arith) (c.met-met.ensures.steps h lt) found (c.joined_at-next.ensures.steps h lt) (omega arith)
+
+-- no more splices are put in place than that, and one
+full : (g : Over) (c : In_ok-splices g) (h new : ℕ) → length c.args.self.now.folds < 2 * 6 ^ (h + 1) → length (map fold_of c.args.folds) < 2 * 6 ^ (h + 1)
+    → ChangesAtMost (splicing (length c.in_ok-fresh.fresh.items)) (length c.in_ok-splices.splices) (length (replaced c.met-met.result.first c.met-met.result.last c.in_ok-fresh.fresh.items c.gap_to-gap.result c.in_ok-splices.splices)) c.joined_at-next.new.steps new
+    → new ≤ c.args.steps.now + 250 * (count_met c.args.change.start c.args.change.last (map fold_of c.args.folds) + 1) * (h + 1)
+full g c h new lt lt' replacing =
+    let s = c.args.self.now in
+    let layer = g.L.Layer.source c.args.layer in
+    let is = c.text_len.ensures.lawful in
+    let now = map fold_of c.args.folds in
+    let m = c.met-met.result in
+    let met = c.met-met.ensures.met is.joined is.all in
+    let found = found-met s is.joined is.all layer c.requires.bare now c.args.change c.requires.change m met h c.met-met.new.steps c.joined_in.new.steps c.joined_in.ensures.steps lt' in
+    let size =
+    ap (λ (l : List (Piece Amount NoLoad)). length l) c.in_ok-fresh.ensures.ok
+    ∙ length-splices layer m.base c.as_slice.result.now
+    ∙ ap (λ (l : List JoinedFold). length l) c.as_slice.ensures.value in
+    let few = few-fresh s is.joined is.all layer c.requires.bare now c.args.change c.requires.change m met c.in_ok-joined.joined.items (made g c) in
+    let before = ap (λ (l : List (Piece Amount NoLoad)). length l) c.in_ok-splices.ensures in
+    let fewer = snapshot-splices (g.L.Layer.source c.self.inside.layer) (map fold_of c.self.inside.folds) c.self.inside.splices s c.self.invariant c.self.view_is in
+    let after =
+    few-after layer now _
+    (snapshot-after s is.joined is.all layer c.requires.bare now c.args.change c.requires.change m met c.in_ok-joined.joined.items (made g c) c.in_ok-splices.splices (spliced g c) c.gap_to-gap.result (gap-is g c)) in
+    let same = ap (λ (l : List (Piece Amount NoLoad)). length l) (after-is g c) in
+    rejoined-steps (count_met c.args.change.start c.args.change.last now) (length c.in_ok-fresh.fresh.items) h c.args.steps.now c.met-met.new.steps c.joined_in.new.steps c.joined_at-next.new.steps new
+    (omega (arith, size, few)) (c.met-met.ensures.steps h lt) found (c.joined_at-next.ensures.steps h lt) (replacing h (omega (arith, lt, before, fewer)) (omega (arith, lt', same, after)))
+
+pub returns-in_err-replace-clause-steps : goal.returns-in_err-replace-clause-steps
+returns-in_err-replace-clause-steps g c h lt lt' = full g (goal.at.returns-in_err-replace-clause-steps g c).In_ok-splices h c.replace.new.steps lt lt' c.replace.ensures.steps
+
+pub returns-clause-steps : goal.returns-clause-steps
+returns-clause-steps g c h lt lt' = full g (goal.at.returns-clause-steps g c).In_ok-splices h c.replace.new.steps lt lt' c.replace.ensures.steps

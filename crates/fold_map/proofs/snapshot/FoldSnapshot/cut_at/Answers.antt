@@ -17,6 +17,7 @@ use Rattle.fold_map.specs.declared.cut.Cut.{Cut}
 use Rattle.fold_map.specs.Amounts.{buffer_of, nothing, together}
 use Rattle.fold_map.specs.Cuts.{IsCut}
 use Rattle.fold_map.proofs.Cuts.{found-cut, next-within, number-is}
+use Rattle.fold_map.proofs.FoldCounts.{snapshot-splices}
 use Rattle.fold_map.proofs.snapshot.FoldSnapshot.cut_at.Goals as goal
 
 pub joined_behind-requires : goal.joined_behind-requires
@@ -51,3 +52,8 @@ returns-clause-cut g c js all =
     let is = c.find_lower-found.ensures.splice ∙ ap (λ (ps : List (Piece Amount NoLoad)). slice_get ps i) spliced.spliced in
     subst (λ (l : List JoinedFold). IsCut l c.args.offset cut) same
     (found-cut low.text low.inlays folds spliced.joined spliced.all c.args.offset cut first _ base is c.joined_behind.ensures)
+
+pub returns-clause-steps : goal.returns-clause-steps
+returns-clause-steps g c h lt =
+    c.find_lower-found.ensures.steps h
+    (omega (arith, lt, snapshot-splices (g.L.Layer.source c.self.inside.layer) (map fold_of c.self.inside.folds) c.self.inside.splices c.args.self.now c.self.invariant c.self.view_is))

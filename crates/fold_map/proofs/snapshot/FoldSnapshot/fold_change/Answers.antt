@@ -45,3 +45,6 @@ returns-clause-change g c =
     let a = (goal.at.returns-clause-change g c).After-row_ends-last in
     c.change_to.ensures.change
     ∙ (λ i. shown_change c.args.self.now c.args.next.now (first-is g a i) (last-is g a i))
+
+pub returns-clause-steps : goal.returns-clause-steps
+returns-clause-steps g c h lt lt' = omega (arith, c.change_to.ensures.steps h lt lt')

@@ -15,6 +15,7 @@ use Rattle.fold_map.specs.declared.amount.Amount.{Amount}
 use Rattle.fold_map.specs.Amounts.{nothing, together}
 use Rattle.fold_map.specs.Cuts.{joined_behind}
 use Rattle.fold_map.proofs.Cuts.{length-splices, next-is, next-within, number-is, slice-min}
+use Rattle.fold_map.proofs.FoldCounts.{snapshot-splices}
 use Rattle.fold_map.proofs.snapshot.FoldSnapshot.joined_at.Goals as goal
 
 pub joined_behind-requires : goal.joined_behind-requires
@@ -52,3 +53,8 @@ returns-clause-joined g c js all =
     ∙ next-is (unfolded low) folds 0 spliced.joined (length low.text) i spliced.all.1
     ∙ ap (λ (l : List JoinedFold). slice_get l i) same
     ∙ slice-min js c.args.index i (c.find_at-found.ensures.index ∙ ap (min c.args.index) long)
+
+pub returns-clause-steps : goal.returns-clause-steps
+returns-clause-steps g c h lt =
+    c.find_at-found.ensures.steps h
+    (omega (arith, lt, snapshot-splices (g.L.Layer.source c.self.inside.layer) (map fold_of c.self.inside.folds) c.self.inside.splices c.args.self.now c.self.invariant c.self.view_is))

@@ -47,3 +47,6 @@ returns-clause-met g c js all =
       window = record { from = sym c.start_met.ensures i; start = ch.start; end = ch.last; to = moved_on ch.end ch.last (sym c.end_met-end.ensures i).offset };
     })
     (met-found s.folds (length s.text) js all ch c.cut_at-front.result c.cut_at-back.result ca cb c.requires.order)
+
+pub returns-clause-steps : goal.returns-clause-steps
+returns-clause-steps g c h lt = omega (arith, c.cut_at-front.ensures.steps h lt, c.cut_at-back.ensures.steps h lt)

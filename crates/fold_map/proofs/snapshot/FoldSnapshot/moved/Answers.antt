@@ -1,4 +1,4 @@
-use Rattle.std.proofs.Common.{◌≡◌, [], ℕ, ◌+◌, ◌≤◌, List, length, map, Option, option_map, refl, ap, sym, ◌∙◌, subst, arith}
+use Rattle.std.proofs.Common.{◌≡◌, [], ℕ, ◌+◌, ◌*◌, ◌^◌, ◌<◌, ◌≤◌, List, length, map, Option, option_map, refl, ap, sym, ◌∙◌, subst, arith}
 use Rattle.std.proofs.lemmas.List.{length-drop}
 use Rattle.cell_units.specs.declared.place.Shift.{Shift}
 use Rattle.cell_units.specs.Layers.{Source, shown_text, unfolded}
@@ -14,6 +14,11 @@ use Rattle.fold_map.specs.Synced.{end_after, row_end_at, row_start_at}
 use Rattle.fold_map.proofs.Positions.{unfold-same}
 use Rattle.fold_map.proofs.StateMaps.{ordered-pending}
 use Rattle.fold_map.proofs.StateSynced.{below-within, last-size, low-is, met-end, moved-change, row-end-in, row-start-in, rows-in_order, start-within}
+use Rattle.joined_folds.specs.Sweeps.{count_met}
+use Rattle.sum_tree.specs.Bounds.{ChangesAtMost}
+use Rattle.fold_map.specs.Bounds.{met_on_rows, rejoining, touched}
+use Rattle.fold_map.proofs.FoldCounts.{fewer-moved}
+use Rattle.fold_map.proofs.StepSums.{synced-steps}
 use Rattle.fold_map.proofs.snapshot.FoldSnapshot.moved.Goals as goal
 use Rattle.fold_map.proofs.snapshot.FoldSnapshot.moved.Goals.{After-row_end_at-end}
 use Rattle.fold_map.proofs.snapshot.FoldSnapshot.moved.Given.{Over}
@@ -124,3 +129,41 @@ pub returns-clause-change : goal.returns-clause-change
 returns-clause-change g c =
     let a = (goal.at.returns-clause-change g c).After-row_end_at-end in
     c.change_to-replaced.ensures.change ∙ (λ i. shown_change c.args.self.now c.in_ok-next.next (start-is g a i) (end-is g a i))
+
+-- ---- steps
+
+-- the folds that meet the rows are joined anew
+joined : (g : Over) (c : After-row_end_at-end g) (last h new : ℕ) → last ≡ end_after (option_map reach_of c.args.shift) c.row_end_at-end.result
+    → ChangesAtMost (rejoining (count_met c.row_start_at-start.result last (map fold_of c.in_ok-folds.folds))) (length c.args.self.now.folds) (length (map fold_of c.in_ok-folds.folds)) c.moved_folds.new.steps new
+    → length c.args.self.now.folds < 2 * 6 ^ (h + 1) → new ≤ c.moved_folds.new.steps + 250 * (met_on_rows (option_map reach_of c.args.shift) (reach_of c.args.below) c.args.self.now + 1) * (h + 1)
+joined g c last h new is steps lt =
+    let s = c.args.self.now in
+    let shift = option_map reach_of c.args.shift in
+    let last-is = is ∙ ap (end_after shift) (end-is g c) in
+    let here =
+    subst (λ (p : (ℕ × ℕ) × List Fold). ChangesAtMost (rejoining (count_met (p.0).0 (p.0).1 p.1)) (length s.folds) (length p.1) c.moved_folds.new.steps new)
+    (λ i. ((start-is g c i, last-is i), c.in_ok-folds.ensures.ok i)) steps in
+    here h lt (omega (arith, lt, fewer-moved shift s.folds))
+
+pub returns-in_err-folds-clause-steps : goal.returns-in_err-folds-clause-steps
+returns-in_err-folds-clause-steps g c h lt =
+    synced-steps (touched (option_map reach_of c.args.shift) c.args.self.now.folds) (met_on_rows (option_map reach_of c.args.shift) (reach_of c.args.below) c.args.self.now) h
+    c.args.steps.now c.moved_folds.new.steps c.moved_folds.new.steps c.moved_folds.new.steps (c.moved_folds.ensures.steps h lt) (omega arith) (omega arith)
+
+pub returns-in_err-next-clause-steps : goal.returns-in_err-next-clause-steps
+returns-in_err-next-clause-steps g c h lt =
+    let a = (goal.at.returns-in_err-next-clause-steps g c).After-row_end_at-end in
+    synced-steps (touched (option_map reach_of c.args.shift) c.args.self.now.folds) (met_on_rows (option_map reach_of c.args.shift) (reach_of c.args.below) c.args.self.now) h
+    c.args.steps.now c.moved_folds.new.steps c.changed.new.steps c.changed.new.steps (c.moved_folds.ensures.steps h lt)
+    (joined g a c.end_after.result h c.changed.new.steps c.end_after.ensures c.changed.ensures.steps lt) (omega arith)
+
+pub returns-clause-steps : goal.returns-clause-steps
+returns-clause-steps g c h lt =
+    let s = c.args.self.now in
+    let shift = option_map reach_of c.args.shift in
+    let a = (goal.at.returns-clause-steps g c).After-row_end_at-end in
+    let size = ap (λ (v : Source). length v.folds) c.in_ok-next.ensures.ok in
+    let moved = ap (λ (l : List Fold). length l) c.in_ok-folds.ensures.ok in
+    synced-steps (touched shift s.folds) (met_on_rows shift (reach_of c.args.below) s) h c.args.steps.now c.moved_folds.new.steps c.changed.new.steps c.change_to-replaced.new.steps (c.moved_folds.ensures.steps h lt)
+    (joined g a c.end_after.result h c.changed.new.steps c.end_after.ensures c.changed.ensures.steps lt)
+    (c.change_to-replaced.ensures.steps h lt (omega (arith, lt, size, moved, fewer-moved shift s.folds)))

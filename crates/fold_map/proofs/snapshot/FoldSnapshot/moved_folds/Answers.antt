@@ -10,6 +10,7 @@ use Rattle.shifted_lists.specs.Leads.{reach_of}
 use Rattle.fold_map.specs.Synced.{folds_after}
 use Rattle.fold_map.proofs.StateMoved.{moved-ranges}
 use Rattle.fold_map.proofs.StateOver.{moved-fit}
+use Rattle.fold_map.proofs.FoldCounts.{moved-steps}
 use Rattle.fold_map.proofs.snapshot.FoldSnapshot.moved_folds.Goals as goal
 use Rattle.fold_map.proofs.snapshot.FoldSnapshot.moved_folds.Goals.{In_ok-folds}
 use Rattle.fold_map.proofs.snapshot.FoldSnapshot.moved_folds.Given.{Over}
@@ -40,3 +41,11 @@ returns-in_ok-apply-in-Some-clause-ok g c =
     ∙ moved-ranges x c.in_ok-folds.folds
     ∙ ap (moved_folds x.start x.end x.count) (folds-are g (goal.at.returns-in_ok-apply-in-Some-clause-ok g c).In_ok-folds)
     ∙ ap (λ (o : Option Shift). folds_after (option_map reach_of o) c.args.self.now.folds) (sym c.in-Some.is)
+
+pub returns-in_err-apply-in-Some-clause-steps : goal.returns-in_err-apply-in-Some-clause-steps
+returns-in_err-apply-in-Some-clause-steps g c =
+    moved-steps c.in-Some.shift c.in_ok-folds.folds c.args.shift c.args.self.now.folds c.args.steps.now c.apply.new.steps c.in-Some.is (folds-are g (goal.at.returns-in_err-apply-in-Some-clause-steps g c).In_ok-folds) c.apply.ensures.steps
+
+pub returns-in_ok-apply-in-Some-clause-steps : goal.returns-in_ok-apply-in-Some-clause-steps
+returns-in_ok-apply-in-Some-clause-steps g c =
+    moved-steps c.in-Some.shift c.in_ok-folds.folds c.args.shift c.args.self.now.folds c.args.steps.now c.apply.new.steps c.in-Some.is (folds-are g (goal.at.returns-in_ok-apply-in-Some-clause-steps g c).In_ok-folds) c.apply.ensures.steps

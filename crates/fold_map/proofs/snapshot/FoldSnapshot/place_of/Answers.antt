@@ -6,6 +6,7 @@ use Rattle.joined_folds.specs.Sweeps.{fold_of}
 use Rattle.fold_map.specs.Amounts.{bytes_of}
 use Rattle.fold_map.specs.Snapshots.{with_folds}
 use Rattle.fold_map.proofs.Places.{carried-by}
+use Rattle.fold_map.proofs.FoldCounts.{snapshot-splices}
 use Rattle.fold_map.proofs.snapshot.FoldSnapshot.place_of.Goals as goal
 
 pub to_upper-requires : goal.to_upper-requires
@@ -26,3 +27,8 @@ returns-clause-place g c =
     ∙ ap (to_upper c.args.bias (map (measured bytes_of) c.self.inside.splices)) c.place-below.ensures
     ∙ sym carried
     ∙ ap (λ (v : Source). place_of v c.args.offset c.args.bias) c.self.view_is
+
+pub returns-clause-steps : goal.returns-clause-steps
+returns-clause-steps g c h lt =
+    c.to_upper.ensures.steps h
+    (omega (arith, lt, snapshot-splices (g.L.Layer.source c.self.inside.layer) (map fold_of c.self.inside.folds) c.self.inside.splices c.args.self.now c.self.invariant c.self.view_is))

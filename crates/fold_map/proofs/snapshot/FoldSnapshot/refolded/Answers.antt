@@ -25,3 +25,6 @@ changed-requires-clause-change g c κs h =
 
 pub returns-clause-ok : goal.returns-clause-ok
 returns-clause-ok g c = ok-as c.changed.result (layer-is g (goal.at.returns-clause-ok g c).In_ok-layer) c.changed.ensures.ok
+
+pub returns-clause-steps : goal.returns-clause-steps
+returns-clause-steps g c = c.changed.ensures.steps

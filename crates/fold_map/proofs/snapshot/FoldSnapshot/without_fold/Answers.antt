@@ -1,16 +1,23 @@
-use Rattle.std.proofs.Common.{◌≡◌, ℕ, List, map, ap, sym, ◌∙◌, subst}
+use Rattle.std.proofs.Common.{◌≡◌, ℕ, ◌+◌, ◌*◌, ◌^◌, ◌<◌, ◌≤◌, List, map, length, ap, sym, ◌∙◌, subst, arith}
 use Rattle.std.specs.List.{Contains}
+use Rattle.std.proofs.lemmas.List.{length-map}
 use Rattle.cell_units.specs.Lawful.{AreFolds}
 use Rattle.cell_units.specs.Layers.{Source}
 use Rattle.cell_units.specs.Operation.{without_fold}
 use Rattle.cell_units.specs.Record.{Fold}
-use Rattle.joined_folds.specs.Sweeps.{fold_of}
+use Rattle.joined_folds.specs.Sweeps.{count_met, fold_of}
+use Rattle.mark_tree.specs.Bounds.{SearchesAndTakes, changing}
 use Rattle.mark_tree.specs.declared.mark.RangeMark.{RangeMark}
+use Rattle.sum_tree.specs.Bounds.{ChangesAtMost}
+use Rattle.fold_map.specs.Bounds.{rejoining}
 use Rattle.fold_map.specs.Maps.{DifferWithin}
 use Rattle.fold_map.specs.Snapshots.{PlacesFit, with_folds}
 use Rattle.fold_map.proofs.StateFolds.{contains-fold, kept-folds, removed-differ, removed-lawful}
+use Rattle.fold_map.proofs.FoldCounts.{fewer-left}
+use Rattle.fold_map.proofs.StateFolds.{one-id}
+use Rattle.fold_map.proofs.StepSums.{refolded-steps}
 use Rattle.fold_map.proofs.snapshot.FoldSnapshot.without_fold.Goals as goal
-use Rattle.fold_map.proofs.snapshot.FoldSnapshot.without_fold.Goals.{In-Ok}
+use Rattle.fold_map.proofs.snapshot.FoldSnapshot.without_fold.Goals.{In-Ok, In_ok-folds}
 use Rattle.fold_map.proofs.snapshot.FoldSnapshot.without_fold.Given.{Over}
 
 -- the folds with one less
@@ -54,3 +61,49 @@ returns-clause-fold g c = there g (goal.at.returns-clause-fold g c).In-Ok
 
 pub returns-clause-id : goal.returns-clause-id
 returns-clause-id g c = c.in-Ok.ensures.id
+
+-- ---- steps
+
+-- the fold is taken from the others
+taken : (g : Over) (c : In_ok-folds g) (h new : ℕ) → SearchesAndTakes changing (length c.in_ok-folds.folds) c.args.steps.now new → length c.args.self.now.folds < 2 * 6 ^ (h + 1)
+    → 5 * new ≤ 5 * c.args.steps.now + (length c.args.self.now.folds + 5 * (200 * (h + 1)))
+taken g c h new steps lt =
+    let size : length c.in_ok-folds.folds ≡ length c.args.self.now.folds =
+    omega (
+      arith,
+      ap (λ (l : List RangeMark). length l) c.in_ok-folds.ensures,
+      length-map c.self.inside.folds fold_of,
+      ap (λ (v : Source). length v.folds) c.self.view_is,
+    ) in
+    subst (λ (n : ℕ). n < 2 * 6 ^ (h + 1) → 5 * new ≤ 5 * c.args.steps.now + (n + 5 * (200 * (h + 1)))) size (steps h) lt
+
+-- and those that it met are joined anew
+joined : (g : Over) (c : In-Ok g) (f : Fold) (h new : ℕ) → Contains c.args.self.now.folds f → f.id ≡ c.args.id
+    → ChangesAtMost (rejoining (count_met c.in-Ok.range.start c.in-Ok.range.end (map fold_of c.remove.new.self))) (length c.args.self.now.folds) (length (map fold_of c.remove.new.self)) c.remove.new.steps new
+    → length c.args.self.now.folds < 2 * 6 ^ (h + 1) → new ≤ c.remove.new.steps + 250 * (count_met f.start f.end (without_fold c.args.id c.args.self.now.folds) + 1) * (h + 1)
+joined g c f h new has same steps lt =
+    let s = c.args.self.now in
+    let this = one-id c.args.id s.folds (c.text_len-len.ensures.lawful.formed.folds.distinct c.args.id) f (fold_of c.in-Ok.range) has (there g c) same c.in-Ok.ensures.id in
+    let here =
+    subst (λ (p : Fold × List Fold). ChangesAtMost (rejoining (count_met p.0.start p.0.end p.1)) (length s.folds) (length p.1) c.remove.new.steps new) (λ i. (this i, folds-are g c i)) steps in
+    here h lt (omega (arith, lt, fewer-left c.args.id s.folds))
+
+pub returns-in_default-clause-steps : goal.returns-in_default-clause-steps
+returns-in_default-clause-steps g c f has same h lt =
+    let s = c.args.self.now in
+    refolded-steps (count_met f.start f.end (without_fold c.args.id s.folds)) (length s.folds) h c.args.steps.now c.remove.new.steps c.remove.new.steps
+    (taken g (goal.at.returns-in_default-clause-steps g c).In_ok-folds h c.remove.new.steps c.remove.ensures.steps lt) (omega arith)
+
+pub returns-in_err-next-clause-steps : goal.returns-in_err-next-clause-steps
+returns-in_err-next-clause-steps g c f has same h lt =
+    let s = c.args.self.now in
+    let a = goal.at.returns-in_err-next-clause-steps g c in
+    refolded-steps (count_met f.start f.end (without_fold c.args.id s.folds)) (length s.folds) h c.args.steps.now c.remove.new.steps c.refolded.new.steps
+    (taken g a.In_ok-folds h c.remove.new.steps c.remove.ensures.steps lt) (joined g a.In-Ok f h c.refolded.new.steps has same c.refolded.ensures.steps lt)
+
+pub returns-clause-steps : goal.returns-clause-steps
+returns-clause-steps g c f has same h lt =
+    let s = c.args.self.now in
+    let a = goal.at.returns-clause-steps g c in
+    refolded-steps (count_met f.start f.end (without_fold c.args.id s.folds)) (length s.folds) h c.args.steps.now c.remove.new.steps c.refolded.new.steps
+    (taken g a.In_ok-folds h c.remove.new.steps c.remove.ensures.steps lt) (joined g a.In-Ok f h c.refolded.new.steps has same c.refolded.ensures.steps lt)
