@@ -20,6 +20,9 @@ use std::alloc::Global;
 use std::marker::Model;
 
 /// A layer with folds, as it is now and as it was last shown.
+///
+/// The bounds on the steps of a call are given for each h such that the number of folds is less than 2 * 6^(h + 1). The least
+/// such h is the greatest height of a tree of so many.
 #[derive(Drop)]
 pub struct FoldMap<L: Layer> {
     current: FoldSnapshot<L>,

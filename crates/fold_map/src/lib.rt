@@ -2,7 +2,8 @@
 //!
 //! A [`FoldSnapshot`] is seen as the lower layer's text and inlays with the folds. Folds stand in a tree of ranges. Beside it is a
 //! list of splices, one for each joined fold: how much of the lower layer is shown before it, and how much it hides. So each
-//! question is a way or two down a tree and one of the lower layer, and a change makes anew just the joined folds that it meets.
+//! question is a way or two down a tree and one of the lower layer, and a change makes anew just the joined folds that it meets. Its
+//! steps grow with the folds that it meets and the height of the tree, beside the search for an id (`specs/Bounds.antt`).
 #![tactic(auto)]
 
 mod amount;
