@@ -3,7 +3,7 @@ use Rattle.std.proofs.Common.{◌≡◌, ℕ, zero, suc, ◌<◌, ◌≤◌, ◌
 use Rattle.std.specs.List.{Contains, list_any}
 use Rattle.std.specs.Result.{IfOk}
 use Rattle.std.specs.Str.{IsUtf8}
-use Rattle.std.proofs.lemmas.Bool.{eq-eqb}
+use Rattle.std.proofs.lemmas.Bool.{eq-eqb, eqb-true}
 use Rattle.std.proofs.lemmas.Bool.Decides.{nat_tests}
 use Rattle.cell_units.specs.declared.limits.TheConstants.{ENTRY_LIMIT}
 use Rattle.cell_units.specs.declared.fault.Refusal.TheVariants.{BadRange, IdInUse, TooLong}
@@ -27,9 +27,10 @@ use Rattle.mark_tree.specs.declared.mark.RangeMark.{RangeMark}
 use Rattle.mark_tree.specs.Ranges.{lacks_range_id, range_le}
 use Rattle.text_rope.proofs.Layers.{row_end_is}
 use Rattle.text_rope.proofs.RowStarts.{end_boundary, row_start_is, start_boundary}
-use Rattle.fold_map.specs.Amounts.{amount_between}
+use Rattle.cell_units.specs.declared.place.Bias.TheVariants.{Left, Right}
+use Rattle.fold_map.specs.Amounts.{amount_between, line_at}
 use Rattle.fold_map.specs.Changes.{IsChange}
-use Rattle.fold_map.specs.Maps.{DifferWithin, with_fold, without}
+use Rattle.fold_map.specs.Maps.{DifferWithin, shown_from, shown_to, with_fold, without}
 use Rattle.fold_map.specs.Snapshots.{PlacesFit, fold_refusal, is_range, with_folds}
 
 -- ---- the folds of ranges
@@ -218,3 +219,48 @@ pub row-last : (text : List ℕ) (o : ℕ) → IsUtf8 text → o ≤ length text
 row-last text o utf8 l =
     let is = row_end_is text o l in
     (subst (IsBoundary text) (sym is) (end_boundary text (row_of text o) utf8 (row_of-lt text o)), omega (arith, is, (line_of_offset text o l).1))
+
+-- what it replaces begins in its first row and ends in its last
+pub from-first : (s : Source) (o : ℕ) → IsUtf8 s.text → IsBoundary s.text o → IsBoundary s.text (shown_from s o) × (shown_from s o ≤ o)
+from-first s o utf8 is = go (line_at s (row_start s.text o) Left == line_at s o Left) where
+  go : (b : Bool) → IsBoundary s.text (cond b o (row_start s.text o)) × (cond b o (row_start s.text o) ≤ o)
+  go true = (is, omega arith)
+  go false = row-first s.text o utf8 is.0
+
+pub to-last : (s : Source) (o : ℕ) → IsUtf8 s.text → IsBoundary s.text o → IsBoundary s.text (shown_to s o) × (o ≤ shown_to s o)
+to-last s o utf8 is = go (line_at s (row_end s.text o) Right == line_at s o Right) where
+  go : (b : Bool) → IsBoundary s.text (cond b o (row_end s.text o)) × (o ≤ cond b o (row_end s.text o))
+  go true = (is, omega arith)
+  go false = row-last s.text o utf8 is.0
+
+-- two numbers, and whether a test tells them apart
+same-number : (m n : ℕ) → m ≡ n → (m == n) ≡ true
+same-number m n e = eq-eqb m n e
+
+other-number : (m n : ℕ) → (m ≡ n → ⊥) → (m == n) ≡ false
+other-number m n other = go (m == n) refl where
+  go : (b : Bool) → (m == n) ≡ b → (m == n) ≡ false
+  go true e = absurd (other (eqb-true m n e))
+  go false e = e
+
+-- it begins at the fold's start where that is on one line with the row's, and else at the row's; and so it ends
+module _ (s : Source) (o row x y : ℕ) where
+  pub from-fold : row ≡ row_start s.text o → x ≡ line_at s row Left → y ≡ line_at s o Left → x ≡ y → o ≡ shown_from s o
+  from-fold is first line same =
+      let lines = ap (λ r. line_at s r Left) (sym is) ∙ sym first ∙ same ∙ line in
+      sym (ap {B = ℕ} (λ (b : Bool). cond b o (row_start s.text o)) (same-number (line_at s (row_start s.text o) Left) (line_at s o Left) lines))
+
+  pub from-row : row ≡ row_start s.text o → x ≡ line_at s row Left → y ≡ line_at s o Left → (x ≡ y → ⊥) → row ≡ shown_from s o
+  from-row is first line other =
+      let apart = other-number (line_at s (row_start s.text o) Left) (line_at s o Left) (λ e. other (first ∙ ap (λ r. line_at s r Left) is ∙ e ∙ sym line)) in
+      is ∙ sym (ap {B = ℕ} (λ (b : Bool). cond b o (row_start s.text o)) apart)
+
+  pub to-fold : row ≡ row_end s.text o → x ≡ line_at s row Right → y ≡ line_at s o Right → x ≡ y → o ≡ shown_to s o
+  to-fold is last line same =
+      let lines = ap (λ r. line_at s r Right) (sym is) ∙ sym last ∙ same ∙ line in
+      sym (ap {B = ℕ} (λ (b : Bool). cond b o (row_end s.text o)) (same-number (line_at s (row_end s.text o) Right) (line_at s o Right) lines))
+
+  pub to-row : row ≡ row_end s.text o → x ≡ line_at s row Right → y ≡ line_at s o Right → (x ≡ y → ⊥) → row ≡ shown_to s o
+  to-row is last line other =
+      let apart = other-number (line_at s (row_end s.text o) Right) (line_at s o Right) (λ e. other (last ∙ ap (λ r. line_at s r Right) is ∙ e ∙ sym line)) in
+      is ∙ sym (ap {B = ℕ} (λ (b : Bool). cond b o (row_end s.text o)) apart)

@@ -13,7 +13,6 @@ use Rattle.cell_units.specs.Folded.{covered, folded_to, inside}
 use Rattle.cell_units.specs.Inlaid.{Byte, Hidden, InlayByte, Token}
 use Rattle.cell_units.specs.Layers.{Source, place_of, unfolded}
 use Rattle.cell_units.specs.Record.{Fold}
-use Rattle.cell_units.specs.Text.{row_end, row_start}
 use Rattle.cell_units.proofs.ShownPlaces.{place-le, places-left_first, places-rise}
 use Rattle.joined_folds.specs.Windows.{AreAlike}
 use Rattle.shifted_lists.specs.Covering.{CoverFits, with_pending}
@@ -21,10 +20,10 @@ use Rattle.shifted_lists.specs.LayerLeads.{LayerLeads, layer_places, token_after
 use Rattle.shifted_lists.specs.Leads.{Leads, Reach, reach_of}
 use Rattle.shifted_lists.proofs.CoverLeads.{covers, lists-fit}
 use Rattle.shifted_lists.proofs.TokenPlaces.{length-at_places}
-use Rattle.fold_map.specs.Maps.{DifferWithin, IsKept, IsOwed, fold_change}
+use Rattle.fold_map.specs.Maps.{DifferWithin, IsKept, IsOwed, fold_change, shown_from, shown_to}
 use Rattle.fold_map.specs.Snapshots.{IsLawful, unfold_refusal}
 use Rattle.fold_map.proofs.MapLeads.{change-leads}
-use Rattle.fold_map.proofs.StateFolds.{row-first, row-last}
+use Rattle.fold_map.proofs.StateFolds.{from-first, to-last}
 
 -- ---- refusals
 
@@ -107,19 +106,19 @@ places-fit s is = let f = is.fits in omega (arith, f, length-at_places (folded_t
 
 module _ (current next : Source) (f : Fold) (is : IsLawful current) (is' : IsLawful next) (d : DifferWithin current next f) where
   abbrev start : ℕ
-  start = row_start current.text f.start
+  start = shown_from current f.start
 
   abbrev end : ℕ
-  end = row_end current.text f.end
+  end = shown_to current f.end
 
   first : start ≤ f.start
-  first = (row-first current.text f.start is.formed.text.0 d.start.0).1
+  first = (from-first current f.start is.formed.text.0 d.start).1
 
   last : f.end ≤ end
-  last = (row-last current.text f.end is.formed.text.0 d.end.0).1
+  last = (to-last current f.end is.formed.text.0 d.end).1
 
   within : end ≤ length current.text
-  within = (row-last current.text f.end is.formed.text.0 d.end.0).0.0
+  within = (to-last current f.end is.formed.text.0 d.end).0.0
 
   order : start ≤ end
   order = let o = d.alike.order in let a = first in let b = last in omega (arith, o, a, b)

@@ -1,8 +1,9 @@
 -- What a fold map is seen as, and what its calls make of it.
-use Rattle.std.specs.Prelude.{◌≡◌, ℕ, false, Option, Some, None}
+use Rattle.std.specs.Prelude.{◌≡◌, ℕ, ◌==◌, false, if◌then◌else◌, Option, Some, None}
 use Rattle.cell_units.specs.declared.fault.Fault.{Fault}
 use Rattle.cell_units.specs.declared.fault.Fault.TheVariants.{NoMemory, Refused}
 use Rattle.cell_units.specs.declared.fault.Refusal.{Refusal}
+use Rattle.cell_units.specs.declared.place.Bias.TheVariants.{Left, Right}
 use Rattle.cell_units.specs.Folded.{inside}
 use Rattle.cell_units.specs.Layers.{Source, unfolded}
 use Rattle.cell_units.specs.Operation.{without_fold}
@@ -13,6 +14,7 @@ use Rattle.joined_folds.specs.Windows.{AreAlike}
 use Rattle.shifted_lists.specs.Covering.{with_pending}
 use Rattle.shifted_lists.specs.LayerLeads.{LayerLeads}
 use Rattle.shifted_lists.specs.Leads.{Reach}
+use Rattle.fold_map.specs.Amounts.{line_at}
 use Rattle.fold_map.specs.Replaced.{shown_change}
 use Rattle.fold_map.specs.Snapshots.{with_folds}
 
@@ -43,9 +45,18 @@ with_fold f s = with_folds s (insert_by fold_le f s.folds)
 abbrev pub without : ℕ → Source → Source
 without id s = with_folds s (without_fold id s.folds)
 
--- what a fold replaces of what is shown that was added or removed: all of its rows
+-- What a fold that starts at an offset replaces of what is shown begins there, or at the start of its row where that is shown
+-- on another line.
+abbrev pub shown_from : Source → ℕ → ℕ
+shown_from s o = let row = row_start s.text o in if line_at s row Left == line_at s o Left then o else row
+
+-- What a fold that ends at an offset replaces ends there, or at the end of its row where that is shown on another line.
+abbrev pub shown_to : Source → ℕ → ℕ
+shown_to s o = let row = row_end s.text o in if line_at s row Right == line_at s o Right then o else row
+
+-- what a fold replaces of what is shown that was added or removed
 abbrev pub fold_change : Source → Source → Fold → Reach
-fold_change before after f = shown_change before after (row_start before.text f.start) (row_end before.text f.end)
+fold_change before after f = shown_change before after (shown_from before f.start) (shown_to before f.end)
 
 -- The folds differ within a range alone, and none is strictly around its end that wasn't.
 pub record DifferWithin (before after : Source) (f : Fold) : Type 0 where

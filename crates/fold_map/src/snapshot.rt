@@ -4,9 +4,12 @@ ghost use Rattle.std.specs.List.{list_any};
 ghost use Rattle.cell_units.specs.Layers.{place_of};
 ghost use Rattle.cell_units.specs.Text.{IsBoundary, is_boundary};
 ghost use Rattle.sum_tree.specs.Bounds.{Searches, TakesAtMost, way};
+ghost use Rattle.text_rope.specs.Bounds.{ways};
+ghost use Rattle.fold_map.specs.Amounts.{line_at};
 ghost use Rattle.fold_map.specs.Snapshots.{IsLawful, fold_refusal, is_range};
 
 use crate::amount::{Amount, ByBytes};
+use crate::spots::spot_at;
 use cell_units::limits::ENTRY_LIMIT;
 use cell_units::{Bias, Layer, NoMemory, Refusal, Steps};
 use mark_tree::RangeTree;
@@ -138,5 +141,20 @@ impl<L: Layer> FoldSnapshot<L> {
     {
         let below = self.layer.place(offset, bias);
         self.splices.to_upper::<ByBytes>(below, bias, steps)
+    }
+
+    /// The line on which an offset is shown.
+    pub(crate) fn line_of(&self, offset: u32, bias: Bias, steps: &mut Steps) -> u32
+        requires { IsBoundary self.now.text offset }
+        ensures line { result ≡ line_at self.now offset bias }
+        ensures counted { steps.old ≤ steps.new }
+        ensures steps { TakesAtMost (ways 2) (length self.now.folds) steps.old steps.new }
+    {
+        // The folds fit the text, and each place of the lower layer is a u32.
+        let _sizes = (self.text_len(), self.layer.length());
+        let place = self.place_of(offset, bias, steps);
+        let spot = spot_at(&self.splices, place, steps);
+        let below = self.layer.point(spot.below).row;
+        spot.before.upper.feeds + (below - spot.before.lower.feeds)
     }
 }

@@ -1,5 +1,6 @@
 //! Where a place of what is shown lies.
-ghost use Rattle.std.specs.Prelude.{◌≤◌};
+ghost use Rattle.std.specs.Prelude.{◌≤◌, length};
+ghost use Rattle.sum_tree.specs.Bounds.{TakesAtMost, way};
 ghost use Rattle.fold_map.specs.Spots.{IsSpotAt, SpotFits};
 
 use crate::amount::{Amount, ByBytes};
@@ -21,6 +22,7 @@ pub(crate) fn spot_at(splices: &SpliceTree<Amount, NoLoad>, place: u32, steps: &
     requires { SpotFits splices.now place }
     ensures spot { IsSpotAt splices.now place result }
     ensures counted { steps.old ≤ steps.new }
+    ensures steps { TakesAtMost way (length splices.now) steps.old steps.new }
 {
     let found = splices.find_upper::<ByBytes>(place as u64, Bias::Right, steps);
     let rest = place - found.before.upper.bytes;

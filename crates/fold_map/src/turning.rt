@@ -11,7 +11,7 @@ ghost use Rattle.shifted_lists.specs.Leads.{reach_of};
 ghost use Rattle.sum_tree.specs.Bounds.{ChangesAtMost, TakesAtMost, way};
 ghost use Rattle.text_rope.specs.Bounds.{ways};
 ghost use Rattle.fold_map.specs.Bounds.{refolding, rejoining};
-ghost use Rattle.fold_map.specs.Maps.{DifferWithin, fold_change, with_fold, without};
+ghost use Rattle.fold_map.specs.Maps.{DifferWithin, fold_change, shown_from, shown_to, with_fold, without};
 ghost use Rattle.fold_map.specs.Replaced.{shown_change};
 ghost use Rattle.fold_map.specs.Snapshots.{PlacesFit, fold_refusal, with_folds};
 
@@ -136,7 +136,38 @@ impl<L: Layer> FoldSnapshot<L> {
         Shift::new(first, past, count)
     }
 
-    /// What is replaced of what is shown where a fold was added or removed: all of its rows.
+    /// Where what a fold replaces of what is shown begins: at the fold's start, or at that of its row where this is shown on
+    /// another line.
+    fn shown_from(&self, start: u32, steps: &mut Steps) -> u32
+        requires { IsBoundary self.now.text start }
+        ensures from { result ≡ shown_from self.now start }
+        ensures counted { steps.old ≤ steps.new }
+        ensures steps { TakesAtMost (ways 4) (length self.now.folds) steps.old steps.new }
+    {
+        // The text is UTF-8.
+        let _len = self.text_len();
+        let row = self.layer.row_ends(start).0;
+        let first = self.line_of(row, Bias::Left, steps);
+        let line = self.line_of(start, Bias::Left, steps);
+        if first == line { start } else { row }
+    }
+
+    /// And where it ends: at the fold's end, or at that of its row where this is shown on another line.
+    fn shown_to(&self, end: u32, steps: &mut Steps) -> u32
+        requires { IsBoundary self.now.text end }
+        ensures to { result ≡ shown_to self.now end }
+        ensures counted { steps.old ≤ steps.new }
+        ensures steps { TakesAtMost (ways 4) (length self.now.folds) steps.old steps.new }
+    {
+        // The text is UTF-8.
+        let _len = self.text_len();
+        let row = self.layer.row_ends(end).1;
+        let last = self.line_of(row, Bias::Right, steps);
+        let line = self.line_of(end, Bias::Right, steps);
+        if last == line { end } else { row }
+    }
+
+    /// What is replaced of what is shown where a fold was added or removed.
     pub(crate) fn fold_change(
         &self,
         next: &FoldSnapshot<L>,
@@ -153,8 +184,8 @@ impl<L: Layer> FoldSnapshot<L> {
     {
         // The text is UTF-8.
         let _len = self.text_len();
-        let first = self.layer.row_ends(range.start).0;
-        let last = self.layer.row_ends(range.end).1;
+        let first = self.shown_from(range.start, steps);
+        let last = self.shown_to(range.end, steps);
         self.change_to(next, first, last, steps)
     }
 }
