@@ -16,6 +16,10 @@ pub mod MapPlaces
 pub mod MapRows
 pub mod MapTokens
 pub mod MetFolds
+pub mod MetLines
+pub mod MetPlaces
+pub mod MetRows
+pub mod MetSpans
 pub mod Places
 pub mod Positions
 pub mod Refusals

@@ -76,7 +76,7 @@ inlays-no_bytes : (o : ℕ) (is : List Inlay) → Every (IsByteBefore o) (flat_m
 inlays-no_bytes o [] = tt
 inlays-no_bytes o (i ∷ is) = Every-append (IsByteBefore o) (inlay_bytes i) (flat_map inlay_bytes is) (inlay-no_bytes o i.offset i.id (clean i.text)) (inlays-no_bytes o is)
 
-count-append : (xs ys : List Token) → count_by is_break (xs ++ ys) ≡ count_by is_break xs + count_by is_break ys
+pub count-append : (xs ys : List Token) → count_by is_break (xs ++ ys) ≡ count_by is_break xs + count_by is_break ys
 count-append xs ys = sum_by-append (λ (t : Token). cond (is_break t) 1 0) xs ys
 
 module _ (text : List ℕ) (inlays : List Inlay) where
@@ -91,13 +91,13 @@ module _ (text : List ℕ) (inlays : List Inlay) where
 
   -- ---- the token of a byte stands at its right place, and nowhere else
 
-  record ByteAt (o : ℕ) : Type 0 where
-    byte : ℕ
-    rest : List Token
-    is : drop (place o Right) L ≡ Byte o byte ∷ rest
-    later : Every (λ t. o < offset_of t) rest
+  pub record ByteAt (o : ℕ) : Type 0 where
+    pub byte : ℕ
+    pub rest : List Token
+    pub is : drop (place o Right) L ≡ Byte o byte ∷ rest
+    pub later : Every (λ t. o < offset_of t) rest
 
-  byte-at : (o : ℕ) → o < length text → ByteAt o
+  pub byte-at : (o : ℕ) → o < length text → ByteAt o
   byte-at o l = go (drop o text) refl where
     go : (xs : List ℕ) → drop o text ≡ xs → ByteAt o
     go [] e = absurd (omega (arith, ap length e, length-drop o text, l))
@@ -220,7 +220,7 @@ module _ (shift : Option Reach) (text text' : List ℕ) (inlays inlays' : List I
   past-end : (o : ℕ) → end ≤ o → o ≤ length text → s.end ≤ P o Right
   past-end o l u = let r = places-rise (inlay_source text inlays) end o Right l u in omega (arith, r, second)
 
-  behind-drop : (k : ℕ) → s.end ≤ k → drop (k - s.end + base) (bare text' inlays') ≡ map (token_after shift) (drop k (bare text inlays))
+  pub behind-drop : (k : ℕ) → s.end ≤ k → drop (k - s.end + base) (bare text' inlays') ≡ map (token_after shift) (drop k (bare text inlays))
   behind-drop k l =
       let here : base + (k - s.end) ≡ k - s.end + base = omega arith in
       let there : s.end + (k - s.end) ≡ k = omega (arith, l) in

@@ -10,7 +10,7 @@ use Rattle.cell_units.specs.Inlaid.{Token, is_break, offset_of, show_each}
 use Rattle.cell_units.specs.Lawful.{IsWellFormed}
 use Rattle.cell_units.specs.Layers.{Source, inlay_source, line_tokens, place_of, shown_lines, shown_text, span_of}
 use Rattle.cell_units.specs.Pieces.{pieces_of}
-use Rattle.cell_units.specs.Record.{Inlay, line_count}
+use Rattle.cell_units.specs.Record.{Fold, Inlay, line_count}
 use Rattle.cell_units.specs.Text.{line_feed, row_of}
 use Rattle.cell_units.proofs.BufferLines.{line_bounds, line_end_last, line_end_next, row_of_end, row_of_start}
 use Rattle.cell_units.proofs.CutLists.{Every, Every-append, FirstIs, First-lines}
@@ -26,7 +26,7 @@ module _ (text : List ℕ) where
   row t = row_of text (offset_of t)
 
   -- rows don't fall
-  abbrev Rises : List Token → Type 0
+  abbrev pub Rises : List Token → Type 0
   Rises [] = Unit {0}
   Rises (t ∷ ts) = Every (λ u. row t ≤ row u) ts × Rises ts
 
@@ -39,13 +39,13 @@ module _ (text : List ℕ) where
     rises-same o xs ys a.1 b r,
   )
 
-  rises-each : (inlays : List Inlay) (o : ℕ) (bs : List ℕ) → Rises (show_each (shown inlays []) o bs)
-  rises-each inlays o [] = tt
-  rises-each inlays o (b ∷ bs) =
-      rises-same o (shown inlays [] o b) (show_each (shown inlays []) (o + 1) bs) (Every-shown inlays [] o b)
-      (Every-show_each (shown inlays []) (λ t. o ≤ offset_of t) (o + 1) bs
-      (λ k c h l. every-by (λ t. offset_of t ≡ k) (λ t. o ≤ offset_of t) (λ t e. omega (arith, e, h)) (shown inlays [] k c) (Every-shown inlays [] k c)))
-      (rises-each inlays (o + 1) bs)
+  pub rises-each : (inlays : List Inlay) (folds : List Fold) (o : ℕ) (bs : List ℕ) → Rises (show_each (shown inlays folds) o bs)
+  rises-each inlays folds o [] = tt
+  rises-each inlays folds o (b ∷ bs) =
+      rises-same o (shown inlays folds o b) (show_each (shown inlays folds) (o + 1) bs) (Every-shown inlays folds o b)
+      (Every-show_each (shown inlays folds) (λ t. o ≤ offset_of t) (o + 1) bs
+      (λ k c h l. every-by (λ t. offset_of t ≡ k) (λ t. o ≤ offset_of t) (λ t e. omega (arith, e, h)) (shown inlays folds k c) (Every-shown inlays folds k c)))
+      (rises-each inlays folds (o + 1) bs)
 
   -- ---- lines
 
@@ -98,7 +98,7 @@ module _ (text : List ℕ) (inlays : List Inlay) (formed : IsWellFormed (inlay_s
   one-row line lt = lines-in_one_row text inlays line [] (omega (arith, lt, few))
 
   pub rise : (k m : ℕ) → k ≤ m → m < lines → (span_of v k).0 ≤ (span_of v m).0
-  rise k m le lt = starts-rise text (display_lines text inlays []) k m (lines-rise text (folded text inlays []) (rises-each text inlays 0 (text ++ line_feed ∷ []))) le (omega (arith, lt, few))
+  rise k m le lt = starts-rise text (display_lines text inlays []) k m (lines-rise text (folded text inlays []) (rises-each text inlays [] 0 (text ++ line_feed ∷ []))) le (omega (arith, lt, few))
 
   module _ (place : ℕ) (within : place ≤ length (shown_text v)) where
     abbrev line : ℕ
@@ -114,7 +114,7 @@ module _ (text : List ℕ) (inlays : List Inlay) (formed : IsWellFormed (inlay_s
     is-row = start-row text (line_tokens v line)
 
     -- the line of the position of an offset
-    has-row : (o : ℕ) → o ≤ length text → (row_of (shown_text v) (place_of v o Right) < lines) × ((span_of v (row_of (shown_text v) (place_of v o Right))).0 ≡ row_of text o)
+    pub has-row : (o : ℕ) → o ≤ length text → (row_of (shown_text v) (place_of v o Right) < lines) × ((span_of v (row_of (shown_text v) (place_of v o Right))).0 ≡ row_of text o)
     has-row o u =
         let has = span-has v (ends_open v formed) o Right u in
         let at = place-line v (ends_open v formed) o Right u in
@@ -122,7 +122,7 @@ module _ (text : List ℕ) (inlays : List Inlay) (formed : IsWellFormed (inlay_s
         let one = one-row (row_of (shown_text v) (place_of v o Right)) lt in
         (lt, omega (arith, one, has.0, has.1, ap (λ k. (span_of v k).0) at, ap (λ k. (span_of v k).1) at))
 
-    has-row_left : (o : ℕ) → o ≤ length text → (row_of (shown_text v) (place_of v o Left) < lines) × ((span_of v (row_of (shown_text v) (place_of v o Left))).0 ≡ row_of text o)
+    pub has-row_left : (o : ℕ) → o ≤ length text → (row_of (shown_text v) (place_of v o Left) < lines) × ((span_of v (row_of (shown_text v) (place_of v o Left))).0 ≡ row_of text o)
     has-row_left o u =
         let has = span-has v (ends_open v formed) o Left u in
         let at = place-line v (ends_open v formed) o Left u in

@@ -56,7 +56,7 @@ module _ (shift : Option Reach) (old new : List Fold) where
     go true = refl
     go false = refl
 
-  each-moved : (ts : List Token) → Every Alike ts → fold_each new (map moved ts) ≡ map moved (fold_each old ts)
+  pub each-moved : (ts : List Token) → Every Alike ts → fold_each new (map moved ts) ≡ map moved (fold_each old ts)
   each-moved [] a = refl
   each-moved (t ∷ ts) a = (λ i. token-moved t a.0 i ++ each-moved ts a.1 i) ∙ sym (map-append moved (folded_token old t) (fold_each old ts))
 
@@ -65,7 +65,7 @@ module _ (shift : Option Reach) (old new : List Fold) where
   token-same (InlayByte o id b) a = λ i. cond (a.inside_as i) [] (InlayByte o id b ∷ [])
   token-same (Hidden o) a = λ i. cond (a.inside_as i) [] (Hidden o ∷ [])
 
-  each-same : (ts : List Token) → Every (λ t. HideAlike old new (offset_of t) (offset_of t)) ts → fold_each new ts ≡ fold_each old ts
+  pub each-same : (ts : List Token) → Every (λ t. HideAlike old new (offset_of t) (offset_of t)) ts → fold_each new ts ≡ fold_each old ts
   each-same [] a = refl
   each-same (t ∷ ts) a = λ i. token-same t a.0 i ++ each-same ts a.1 i
 

@@ -72,7 +72,7 @@ still-leads l start end order within =
     }
 
 -- a change within a range is one within a wider one
-wider : (old new : List Fold) (start end start' end' : ℕ) → AreAlike old new start end end → start' ≤ start → end ≤ end' → AreAlike old new start' end' end'
+pub wider : (old new : List Fold) (start end start' end' : ℕ) → AreAlike old new start end end → start' ≤ start → end ≤ end' → AreAlike old new start' end' end'
 wider old new start end start' end' a l u = record {
   order = let o = a.order in omega (arith, o, l, u);
   reach = let o = a.order in omega (arith, o, l, u);
@@ -90,7 +90,7 @@ wider old new start end start' end' a l u = record {
         let e : start ≡ start' = omega (arith, x, l) in
         subst (λ (k : ℕ). inside new k ≡ false) e (a.start_open (subst (λ (k : ℕ). inside old k ≡ false) (sym e) out))
 
-wider-end : (old new : List Fold) (start end end' : ℕ) → AreAlike old new start end end → (inside old end ≡ false → inside new end ≡ false) → end ≤ end' → inside old end' ≡ false → inside new end' ≡ false
+pub wider-end : (old new : List Fold) (start end end' : ℕ) → AreAlike old new start end end → (inside old end ≡ false → inside new end ≡ false) → end ≤ end' → inside old end' ≡ false → inside new end' ≡ false
 wider-end old new start end end' a opens u out = go (cases_lt end end') where
   go : (end < end') ⊎ (end' ≤ end) → inside new end' ≡ false
   go (inl x) = let e : end + (end' - end) ≡ end' = omega (arith, u) in ap (inside new) (sym e) ∙ a.inside_behind (end' - end) (omega (arith, x)) ∙ ap (inside old) e ∙ out

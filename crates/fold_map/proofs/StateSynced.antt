@@ -185,7 +185,7 @@ folds-lawful (Some r) text text' folds led are stand = moved-lawful text text' r
 
 -- ---- the change of a snapshot
 
-met-rows : (low : Source) (shift : Option Reach) (below : Reach) → MeetsTouched low shift (Some below) → (r : Reach) → shift ≡ Some r → (row_start_at low below.start ≤ r.start) × (r.end ≤ row_end_at low below.end)
+pub met-rows : (low : Source) (shift : Option Reach) (below : Reach) → MeetsTouched low shift (Some below) → (r : Reach) → shift ≡ Some r → (row_start_at low below.start ≤ r.start) × (r.end ≤ row_end_at low below.end)
 met-rows low None below m r e = absurd (cc e)
 met-rows low (Some s) below m r e = subst (λ (x : Reach). (row_start_at low below.start ≤ x.start) × (x.end ≤ row_end_at low below.end)) (some-same s r e) (m.first, m.last) where
   some-same : (x y : Reach) → Some x ≡ Some y → x ≡ y

@@ -6,6 +6,7 @@ pub mod LinePieces
 pub mod Lines
 pub mod Maps
 pub mod Met
+pub mod MetLines
 pub mod Positions
 pub mod Replaced
 pub mod Snapshots

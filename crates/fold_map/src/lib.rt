@@ -23,5 +23,5 @@ mod spots;
 mod turning;
 
 pub use fold_map::FoldMap;
-pub use laws::place_laws;
+pub use laws::{met_laws, place_laws};
 pub use snapshot::FoldSnapshot;

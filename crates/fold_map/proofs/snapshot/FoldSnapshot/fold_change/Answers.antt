@@ -1,4 +1,4 @@
-use Rattle.std.proofs.Common.{◌≡◌, ℕ, ◌∙◌, subst, sym, arith}
+use Rattle.std.proofs.Common.{◌∙◌, subst, sym, arith}
 use Rattle.cell_units.specs.Text.{IsBoundary}
 use Rattle.fold_map.specs.Replaced.{shown_change}
 use Rattle.fold_map.proofs.StateFolds.{from-first, to-last}

@@ -1,4 +1,4 @@
-use Rattle.std.proofs.Common.{◌≡◌, ◌+◌, ◌-◌, ◌<◌, ◌≤◌, ℕ, length, map, ap, sym, ◌∙◌, subst, arith}
+use Rattle.std.proofs.Common.{◌≤◌, ℕ, length, map, ap, sym, ◌∙◌, subst, arith}
 use Rattle.cell_units.specs.declared.place.Point.{Point}
 use Rattle.cell_units.specs.Layers.{Source, shown_text}
 use Rattle.cell_units.specs.Text.{row_of}

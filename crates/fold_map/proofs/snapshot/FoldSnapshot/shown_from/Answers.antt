@@ -1,4 +1,4 @@
-use Rattle.std.proofs.Common.{◌≡◌, ℕ, ap, sym, subst, ◌∙◌}
+use Rattle.std.proofs.Common.{ℕ, ap, sym, subst, ◌∙◌}
 use Rattle.cell_units.specs.Layers.{Source}
 use Rattle.cell_units.specs.Text.{IsBoundary, row_start}
 use Rattle.fold_map.proofs.StateFolds.{from-fold, from-row, row-first}

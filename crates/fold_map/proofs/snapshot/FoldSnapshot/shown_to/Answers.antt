@@ -1,4 +1,4 @@
-use Rattle.std.proofs.Common.{◌≡◌, ℕ, ap, sym, subst, ◌∙◌}
+use Rattle.std.proofs.Common.{ℕ, ap, sym, subst, ◌∙◌}
 use Rattle.cell_units.specs.Layers.{Source}
 use Rattle.cell_units.specs.Text.{IsBoundary, row_end}
 use Rattle.fold_map.proofs.StateFolds.{to-fold, to-row, row-last}
