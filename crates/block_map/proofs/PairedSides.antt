@@ -171,11 +171,11 @@ insert-at k (suc at) (l ∷ ks) new e = go (kept_le k l) e (insert-at k at ks (r
 as_inlay : BlockMark → Inlay
 as_inlay m = record { offset = m.offset; bias = m.bias; id = m.id; text = [] }
 
-mark-total : (m n : BlockMark) → mark_le m n ≡ false → mark_le n m ≡ true
+pub mark-total : (m n : BlockMark) → mark_le m n ≡ false → mark_le n m ≡ true
 unfolding as_inlay
 mark-total m n = inlay_total (as_inlay m) (as_inlay n)
 
-mark-trans : (m n o : BlockMark) → mark_le m n ≡ true → mark_le n o ≡ true → mark_le m o ≡ true
+pub mark-trans : (m n o : BlockMark) → mark_le m n ≡ true → mark_le n o ≡ true → mark_le m o ≡ true
 unfolding as_inlay
 mark-trans m n o = inlay_trans (as_inlay m) (as_inlay n) (as_inlay o)
 

@@ -57,16 +57,16 @@ rows-with zero row (s ∷ ss) = omega (arith, sum_by-cons (λ (s : Stop). length
 rows-with (suc at) row (s ∷ ss) =
     omega (arith, sum_by-cons (λ (s : Stop). length s.lines) s (with_stop at (stop_with row []) ss), sum_by-cons (λ (s : Stop). length s.lines) s ss, rows-with at row ss)
 
-length-with : (at row : ℕ) (ss : List Stop) → length (with_stop at (stop_with row []) ss) ≡ length ss + 1
-length-with zero row [] = refl
-length-with (suc at) row [] = refl
-length-with zero row (s ∷ ss) = omega arith
-length-with (suc at) row (s ∷ ss) = omega (arith, length-with at row ss)
+pub length-more : (at : ℕ) (t : Stop) (ss : List Stop) → length (with_stop at t ss) ≡ length ss + 1
+length-more zero t [] = refl
+length-more (suc at) t [] = refl
+length-more zero t (s ∷ ss) = omega arith
+length-more (suc at) t (s ∷ ss) = omega (arith, length-more at t ss)
 
 pub fits-with : (ss : List Stop) (at row : ℕ) → row ≡ last_row 0 (take at ss) → length ss + 1 < 2 ^ 32 → StopsFit ss → StopsFit (with_stop at (stop_with row []) ss)
 fits-with ss at row is few fit = record {
   rows = omega (arith, last-with 0 at row ss is, rows-with at row ss, fit.rows);
-  count = omega (arith, length-with at row ss, few);
+  count = omega (arith, length-more at (stop_with row []) ss, few);
 }
 
 -- ---- one less

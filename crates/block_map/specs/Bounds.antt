@@ -55,3 +55,21 @@ altering_side h = 571 * (h + 1)
 
 abbrev pub altering : ℕ → ℕ
 altering h = 574 * (h + 1)
+
+-- ---- a `sync`
+
+-- the place of a block of which nothing is shown yet is found from its anchor
+abbrev pub seeking : ℕ → ℕ
+seeking h = 35 * (h + 1)
+
+-- the places of the blocks to be shown anew are found: by the replacement, from so many anchors, and by so many edits
+abbrev pub gathering : ℕ → ℕ → ℕ → ℕ
+gathering anchors edits h = (35 * anchors + 2 * edits + 2) * (h + 1)
+
+-- of one side so many blocks are shown anew, and so many edits move the others
+abbrev pub syncing_side : ℕ → ℕ → ℕ → ℕ
+syncing_side anew edits h = (546 * anew + 342 * edits + 172) * (h + 1)
+
+-- of both sides together
+abbrev pub syncing : ℕ → ℕ → ℕ → ℕ
+syncing anew edits h = (546 * anew + 684 * edits + 344) * (h + 1)

@@ -1,5 +1,6 @@
 pub mod Between
 pub mod Bounds
+pub mod Carried
 pub mod Follows
 pub mod Maps
 pub mod RowCounts

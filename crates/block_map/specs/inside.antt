@@ -1,5 +1,9 @@
+pub mod Anew
 pub mod RowMoves
+pub mod ShownStops
+pub mod SideMoves
 pub mod Sides
 pub mod StopLists
 pub mod TwoSides
+pub mod Without
 pub mod Zones

@@ -21,9 +21,9 @@ use std::marker::Model;
 /// least such h is the greatest height of a tree of so many.
 #[derive(Drop)]
 pub struct BlockMap<R: Rows> {
-    rows: R,
-    above: BlockSide,
-    below: BlockSide,
+    pub(crate) rows: R,
+    pub(crate) above: BlockSide,
+    pub(crate) below: BlockSide,
 }
 
 impl<R: Rows> Model for BlockMap<R> {

@@ -1,15 +1,20 @@
 //! Rows of lines with blocks between them: texts that the buffer doesn't have, above lines and below them.
 #![tactic(auto)]
 
+mod anew;
 mod block_lines;
 mod block_map;
 mod block_side;
 mod given_lines;
 mod laws;
+mod map_sync;
 mod marks_by_id;
+mod placing;
 mod row_count;
 mod shown;
+mod side_sync;
 mod snapshot;
+mod stop_moves;
 mod stops;
 mod worked;
 

@@ -1,15 +1,16 @@
 //! The stops of one side.
-ghost use Rattle.std.specs.Prelude.{OnOk, OnErr, IfSome, ◌≡◌, ◌+◌, ◌<◌, ◌≤◌, ◌^◌, [], Some, length, slice_get, take, IfOk};
+ghost use Rattle.std.specs.Prelude.{ℕ, ◌↔◌, true, OnOk, OnErr, IfSome, ◌≡◌, ◌+◌, ◌<◌, ◌≤◌, ◌^◌, [], Some, length, map, slice_get, take, IfOk};
 ghost use Rattle.cell_units.specs.declared.place.Bias.TheVariants.{Left};
 ghost use Rattle.sum_tree.specs.Bounds.{TakesAtMost, way};
 ghost use Rattle.block_map.specs.Bounds.{inserting, putting};
 ghost use Rattle.block_map.specs.RowCounts.{no_rows};
-ghost use Rattle.block_map.specs.Stops.{all_stop_rows, rows_upto, texts_at};
-ghost use Rattle.block_map.specs.inside.StopLists.{AreRising, IsRowFor, StopsFit, last_row, stop_with, with_stop, without_stop};
+ghost use Rattle.block_map.specs.Stops.{Stop, all_stop_rows, rows_upto, stands_before, texts_at};
+ghost use Rattle.block_map.specs.inside.RowMoves.{AreClear, moved_stop};
+ghost use Rattle.block_map.specs.inside.StopLists.{AreRising, MayBePut, StopsFit, last_row, stop_with, with_stop, without_stop};
 
 use crate::block_lines::BlockLines;
 use crate::row_count::{ByRows, RowCount};
-use cell_units::{Bias, NoMemory, Steps, Text};
+use cell_units::{Bias, NoMemory, Shift, Steps, Text};
 use splice_tree::{Splice, SpliceTree};
 use std::alloc::Global;
 use std::marker::Model;
@@ -120,9 +121,7 @@ impl Stops {
         lines: BlockLines,
         steps: &mut Steps,
     ) -> Result<(), NoMemory>
-        requires place { IsRowFor self.old at row }
-        requires fit { StopsFit self.old }
-        requires fits { StopsFit (with_stop at (stop_with row lines) self.old) }
+        requires { MayBePut self.old at (stop_with row lines) }
         ensures ok { OnOk result (self.new ≡ with_stop at (stop_with row lines) self.old) }
         ensures err { OnErr result (self.new ≡ self.old) }
         ensures counted { steps.old ≤ steps.new }
@@ -200,6 +199,55 @@ impl Stops {
         let gap = gap_behind(found.splice, found.before.lower.rows, row);
         self.splices
             .replace(alloc, at, at + 1, Vec::new(alloc), gap, steps)
+    }
+}
+
+impl Stops {
+    /// The index of the first stop that doesn't stand before a place between rows of text, or their number.
+    pub(crate) fn first_behind(&self, row: u32, bias: Bias, steps: &mut Steps) -> u32
+        ensures within { result ≤ length self.now }
+        ensures place { (k : ℕ) (s : Stop) → slice_get self.now k ≡ Some s →
+            (k < result) ↔ (stands_before bias row s ≡ true) }
+        ensures counted { steps.old ≤ steps.new }
+        ensures steps { TakesAtMost way (length self.now) steps.old steps.new }
+    {
+        self.splices
+            .find_lower::<ByRows>(row as u64, bias, steps)
+            .index
+    }
+
+    /// Moves the stops that don't stand before the end of replaced rows of text, as the replacement moves the rows there. At
+    /// the end itself a stop stands before it by Right, and not by Left.
+    pub(crate) fn move_behind(
+        &mut self,
+        alloc: Global,
+        bias: Bias,
+        rows: Shift,
+        steps: &mut Steps,
+    ) -> Result<(), NoMemory>
+        requires clear { AreClear bias rows.start rows.end self.old }
+        requires fits { StopsFit (map (moved_stop bias rows.start rows.end rows.count) self.old) }
+        ensures ok { OnOk result
+            (self.new ≡ map (moved_stop bias rows.start rows.end rows.count) self.old) }
+        ensures err { OnErr result (self.new ≡ self.old) }
+        ensures counted { steps.old ≤ steps.new }
+        ensures steps { TakesAtMost putting (length self.old) steps.old steps.new }
+    {
+        let found = self
+            .splices
+            .find_lower::<ByRows>(rows.end as u64, bias, steps);
+        match found.splice {
+            None => Ok(()),
+            Some(splice) => {
+                let kept = splice.gap().rows - (rows.end - rows.start);
+                let gap = RowCount {
+                    rows: kept + rows.count,
+                };
+                let at = found.index;
+                self.splices
+                    .replace(alloc, at, at, Vec::new(alloc), gap, steps)
+            }
+        }
     }
 }
 

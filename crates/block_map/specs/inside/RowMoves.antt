@@ -1,23 +1,49 @@
--- Where edits of rows move what stands behind them.
-use Rattle.std.specs.Prelude.{ℕ, ◌+◌, ◌-◌, nat_le, if◌then◌else◌, List, [], ◌∷◌, map}
+-- Where stops go that edits of rows keep.
+use Rattle.std.specs.Prelude.{◌≡◌, ℕ, ◌+◌, ◌-◌, ◌≤◌, true, if◌then◌else◌, List, [], ◌∷◌, Some, map}
+use Rattle.std.specs.List.{All}
+use Rattle.cell_units.specs.declared.place.Bias.{Bias}
+use Rattle.cell_units.specs.declared.place.Bias.TheVariants.{Left, Right}
 use Rattle.edit_patch.specs.declared.edit.Edit.{Edit}
-use Rattle.edit_patch.specs.Fits.{added_count, removed_count}
+use Rattle.edit_patch.specs.Came.{carry_of}
+use Rattle.edit_patch.specs.Fits.{added_count}
+use Rattle.block_map.specs.Stops.{Stop, stands_before}
+use Rattle.block_map.specs.inside.StopLists.{AreRising, StopsFit}
 
--- a row of text behind the end of an edit moves by what that adds and takes away, and by all edits behind that one first
-abbrev pub row_after : List Edit → ℕ → ℕ
-row_after [] row = row
-row_after (e ∷ es) row = if nat_le e.old_end row then row_after es row + added_count e - removed_count e else row
+-- A stop that doesn't stand before the end of some rows moves where others take their place.
+abbrev pub moved_stop : Bias → ℕ → ℕ → ℕ → Stop → Stop
+moved_stop bias start end count s =
+    if stands_before bias end s then s else record s { row = s.row + count - (end - start) }
 
--- a row from an edit's end on is moved by it
-abbrev pub moved_row : Edit → ℕ → ℕ
-moved_row e row = if nat_le e.old_end row then row + added_count e - removed_count e else row
+-- each edit takes its rows away, from the last to the first
+abbrev pub shrunk : Bias → List Edit → Stop → Stop
+shrunk bias [] s = s
+shrunk bias (e ∷ es) s = moved_stop bias e.old_start e.old_end 0 (shrunk bias es s)
 
--- by each edit, from the last to the first
-abbrev pub each_after : List Edit → ℕ → ℕ
-each_after [] row = row
-each_after (e ∷ es) row = moved_row e (each_after es row)
+-- then each puts in its own, from the first to the last
+abbrev pub grown : Bias → List Edit → Stop → Stop
+grown bias [] s = s
+grown bias (e ∷ es) s = grown bias es (moved_stop bias e.new_start e.new_start (added_count e) s)
 
--- the same of rows, all by one edit after the other
-abbrev pub rows_after : List Edit → List ℕ → List ℕ
-rows_after [] rows = rows
-rows_after (e ∷ es) rows = map (moved_row e) (rows_after es rows)
+-- of the stops that stand before the end of some rows none stands behind their start
+abbrev pub AreClear : Bias → ℕ → ℕ → List Stop → Type 0
+AreClear bias start end stops = All (λ s. stands_before bias end s ≡ true → s.row ≤ start) stops
+
+-- by all edits
+abbrev pub carried : Bias → List Edit → Stop → Stop
+carried bias es s = grown bias es (shrunk bias es s)
+
+-- a stop has before it as many rows as its own row has (Left), or that row too (Right)
+abbrev pub own : Bias → ℕ
+own Left = 0
+own Right = 1
+
+-- the edits keep the own row of a stop
+abbrev pub IsKeptStop : Bias → List Edit → Stop → Type 0
+IsKeptStop bias es s = (row j : ℕ) × ((s.row ≡ row + own bias) × (carry_of es row ≡ Some j))
+
+-- Stops may be moved by edits: these keep the own row of each, and behind them as before the rows are a u32 and in order.
+pub record MayBeMoved (bias : Bias) (es : List Edit) (stops : List Stop) : Type 0 where
+  pub kept : All (IsKeptStop bias es) stops
+  pub fit : StopsFit stops
+  pub rising : AreRising 0 (map (carried bias es) stops)
+  pub fits : StopsFit (map (carried bias es) stops)

@@ -52,6 +52,12 @@ stop_with row lines = record { row = row; lines = lines }
 abbrev pub with_stop : ℕ → Stop → List Stop → List Stop
 with_stop at s stops = take at stops ++ s ∷ drop at stops
 
+-- A stop may be put before an index: there is its row, and all rows are a u32 without it and with it.
+pub record MayBePut (stops : List Stop) (at : ℕ) (s : Stop) : Type 0 where
+  pub place : IsRowFor stops at s.row
+  pub fit : StopsFit stops
+  pub fits : StopsFit (with_stop at s stops)
+
 -- the stops without that of an index
 abbrev pub without_stop : ℕ → List Stop → List Stop
 without_stop at stops = take at stops ++ drop (at + 1) stops

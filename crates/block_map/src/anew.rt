@@ -1,0 +1,257 @@
+//! Which stops a `sync` makes anew.
+ghost use Rattle.std.specs.Prelude.{◌≡◌, ℕ, ◌+◌, ◌*◌, ◌<◌, ◌≤◌, nat_le, Some, [], ◌∷◌, length, slice_get, IfOk, OnOk};
+ghost use Rattle.std.specs.List.{All, Contains, position_or_len};
+ghost use Rattle.cell_units.specs.Rows.{all_rows};
+ghost use Rattle.cell_units.specs.declared.place.Bias.TheVariants.{Right};
+ghost use Rattle.mark_tree.specs.declared.mark.Mark.{Mark};
+ghost use Rattle.mark_tree.specs.Marks.{is_not_before};
+ghost use Rattle.sum_core.specs.declared.load.NoLoad.{NoLoad};
+ghost use Rattle.sum_tree.specs.Bounds.{ChangesAtMost, TakesAtMost, way};
+ghost use Rattle.block_map.specs.Bounds.{both_ways, gathering, seeking};
+ghost use Rattle.block_map.specs.Maps.{row_at_line};
+ghost use Rattle.block_map.specs.inside.Anew.{Grows, IsAnchoredAt, IsAnewAt, IsEditedAt, IsIn, IsMetAt, IsOfLine, IsTouchedAt};
+ghost use Rattle.block_map.specs.inside.SideMoves.{LeaveCarried};
+ghost use Rattle.block_map.specs.inside.Sides.{IsSide};
+ghost use Rattle.block_map.specs.inside.Without.{IsRising};
+
+use crate::block_lines::BlockLines;
+use crate::stops::Stops;
+use cell_units::{Bias, NoMemory, Rows, Shift, Side, Steps};
+use edit_patch::Edit;
+use mark_tree::MarkTree;
+use std::alloc::Global;
+use sum_core::NoLoad;
+
+/// The places of the stops that are made anew, in order: those of marks that the replacement meets, of blocks of which nothing
+/// was shown yet, and at lines of which edits replace a row. `rows` are the old ones.
+pub(crate) fn places_anew<R: Rows>(
+    alloc: Global,
+    marks: &MarkTree<BlockLines>,
+    stops: &Stops,
+    anchors: &MarkTree<NoLoad>,
+    side: Side,
+    shift: Option<Shift>,
+    rows: &R,
+    edits: &[Edit],
+    steps: &mut Steps,
+) -> Result<Vec<u32>, NoMemory>
+    requires side { IsSide marks.now stops.now anchors.now }
+    requires edits { All (λ e. e.old_end ≤ length (all_rows (R.shown rows.now))) edits.now }
+    ensures rising { IfOk result (λ places. IsRising 0 places.items) }
+    ensures within { IfOk result (λ places. All (λ a. a < length stops.now) places.items) }
+    ensures others { IfOk result (λ places.
+        LeaveCarried shift edits.now (R.shown rows.now) side marks.now stops.now places.items) }
+    ensures only { IfOk result (λ places. (k : ℕ) → Contains places.items k →
+        IsAnewAt shift edits.now (R.shown rows.now) side marks.now stops.now anchors.now k) }
+    ensures counted { steps.old ≤ steps.new }
+    ensures steps { let cost = gathering (length anchors.now) (length edits.now) in
+        TakesAtMost cost (length marks.now) steps.old steps.new }
+{
+    // Marks are in order, no two with one id.
+    let _count = marks.len();
+    let mut places = Vec::new(alloc);
+    push_met(&mut places, marks, shift, steps)?;
+    push_anchored(&mut places, marks, anchors, steps)?;
+    push_edited(&mut places, stops, side, rows, edits, steps)?;
+    put_in_order(&mut places);
+    Ok(places)
+}
+
+/// Adds the places from one up to another.
+fn push_range(places: &mut Vec<u32>, from: u32, to: u32) -> Result<(), NoMemory>
+    ensures { (n : ℕ) → to ≤ n →
+        OnOk result (Grows n (IsIn from to) (IsIn from to) places.old.items places.new.items) }
+{
+    let mut next = from;
+    while next < to {
+        places.push(next)?;
+        next += 1;
+    }
+    Ok(())
+}
+
+/// The place of the first mark from an offset on, or the number of marks.
+fn first_from(marks: &MarkTree<BlockLines>, offset: u32, steps: &mut Steps) -> u32
+    ensures place { result ≡ position_or_len (λ m. nat_le offset m.offset) marks.now }
+    ensures within { result ≤ length marks.now }
+    ensures counted { steps.old ≤ steps.new }
+    ensures steps { TakesAtMost way (length marks.now) steps.old steps.new }
+{
+    match marks.at_or_after(offset, steps) {
+        None => marks.len(),
+        Some(at) => at,
+    }
+}
+
+/// The same of those behind an offset.
+fn first_past(marks: &MarkTree<BlockLines>, offset: u32, steps: &mut Steps) -> u32
+    ensures place { result ≡ position_or_len (λ m. nat_le (offset + 1) m.offset) marks.now }
+    ensures within { result ≤ length marks.now }
+    ensures counted { steps.old ≤ steps.new }
+    ensures steps { TakesAtMost way (length marks.now) steps.old steps.new }
+{
+    match offset.checked_add(1) {
+        // Each offset is a u32.
+        None => marks.len(),
+        Some(next) => first_from(marks, next, steps),
+    }
+}
+
+/// Adds the places of the marks that a replacement meets, if there was one.
+fn push_met(
+    places: &mut Vec<u32>,
+    marks: &MarkTree<BlockLines>,
+    shift: Option<Shift>,
+    steps: &mut Steps,
+) -> Result<(), NoMemory>
+    ensures ok { let met = IsMetAt shift marks.now in
+        OnOk result (Grows (length marks.now) met met places.old.items places.new.items) }
+    ensures counted { steps.old ≤ steps.new }
+    ensures steps { TakesAtMost both_ways (length marks.now) steps.old steps.new }
+{
+    // Marks are in order.
+    let _count = marks.len();
+    match shift {
+        None => Ok(()),
+        Some(shift) => {
+            let from = first_from(marks, shift.start, steps);
+            let to = first_past(marks, shift.end, steps);
+            push_range(places, from, to)
+        }
+    }
+}
+
+/// The place of the mark of an anchor.
+fn place_of_anchor(
+    marks: &MarkTree<BlockLines>,
+    anchors: &MarkTree<NoLoad>,
+    at: u32,
+    steps: &mut Steps,
+) -> u32
+    requires { at < length anchors.now }
+    ensures place { (a : Mark NoLoad) → slice_get anchors.now at ≡ Some a →
+        result ≡ position_or_len (is_not_before a.offset Right a.id) marks.now }
+    ensures counted { steps.old ≤ steps.new }
+    ensures steps { let count = length anchors.now in
+        ChangesAtMost seeking count (length marks.now) steps.old steps.new }
+{
+    match anchors.get(at, steps) {
+        None => unreachable!(),
+        Some((offset, _, id, _)) => marks.place_of(offset, Bias::Right, id, steps),
+    }
+}
+
+/// Adds the places of the marks of anchors.
+fn push_anchored(
+    places: &mut Vec<u32>,
+    marks: &MarkTree<BlockLines>,
+    anchors: &MarkTree<NoLoad>,
+    steps: &mut Steps,
+) -> Result<(), NoMemory>
+    requires { (k : ℕ) → IsAnchoredAt anchors.now marks.now k → k < length marks.now }
+    ensures ok { let anchored = IsAnchoredAt anchors.now marks.now in
+        OnOk result (Grows (length marks.now) anchored anchored places.old.items places.new.items) }
+    ensures counted { steps.old ≤ steps.new }
+    ensures steps { let count = length anchors.now in
+        ChangesAtMost (λ h. count * seeking h) count (length marks.now) steps.old steps.new }
+{
+    let mut next = 0;
+    while next < anchors.len() {
+        places.push(place_of_anchor(marks, anchors, next, steps))?;
+        next += 1;
+    }
+    Ok(())
+}
+
+/// The line of a row.
+fn line_of_row<R: Rows>(rows: &R, row: u32) -> u32
+    requires { row < length (all_rows (R.shown rows.now)) }
+    ensures { IsOfLine (R.shown rows.now) result row }
+{
+    match rows.line_at(row) {
+        None => unreachable!(),
+        Some((line, at)) => {
+            let _at = at;
+            line
+        }
+    }
+}
+
+/// How many rows stand before what stands on a side of a line.
+fn row_of_line<R: Rows>(rows: &R, side: Side, line: u32) -> u32
+    requires { line < length (R.shown rows.now) }
+    ensures { result ≡ row_at_line (R.shown rows.now) side line }
+{
+    let _lines = rows.lines();
+    match side {
+        Side::Above => rows.rows_before(line),
+        Side::Below => rows.rows_before(line + 1),
+    }
+}
+
+/// Adds the places of the stops at lines of which edits replace a row.
+fn push_edited<R: Rows>(
+    places: &mut Vec<u32>,
+    stops: &Stops,
+    side: Side,
+    rows: &R,
+    edits: &[Edit],
+    steps: &mut Steps,
+) -> Result<(), NoMemory>
+    requires { All (λ e. e.old_end ≤ length (all_rows (R.shown rows.now))) edits.now }
+    ensures ok { let edited = IsEditedAt edits.now (R.shown rows.now) side stops.now in
+        let touched = IsTouchedAt edits.now (R.shown rows.now) side stops.now in
+        OnOk result (Grows (length stops.now) edited touched places.old.items places.new.items) }
+    ensures counted { steps.old ≤ steps.new }
+    ensures steps { let count = length edits.now in
+        TakesAtMost (λ h. count * both_ways h) (length stops.now) steps.old steps.new }
+{
+    let mut next = 0;
+    while next < edits.len() {
+        push_lines_of(places, stops, side, rows, edits[next], steps)?;
+        next += 1;
+    }
+    Ok(())
+}
+
+/// Adds the places of the stops at lines of which one edit replaces a row.
+fn push_lines_of<R: Rows>(
+    places: &mut Vec<u32>,
+    stops: &Stops,
+    side: Side,
+    rows: &R,
+    edit: Edit,
+    steps: &mut Steps,
+) -> Result<(), NoMemory>
+    requires { edit.old_end ≤ length (all_rows (R.shown rows.now)) }
+    ensures ok { let edited = IsEditedAt (edit ∷ []) (R.shown rows.now) side stops.now in
+        let touched = IsTouchedAt (edit ∷ []) (R.shown rows.now) side stops.now in
+        OnOk result (Grows (length stops.now) edited touched places.old.items places.new.items) }
+    ensures counted { steps.old ≤ steps.new }
+    ensures steps { TakesAtMost both_ways (length stops.now) steps.old steps.new }
+{
+    // Each line has a row.
+    let _lines = rows.lines();
+    if edit.old_end <= edit.old_start {
+        return Ok(());
+    }
+    let first = line_of_row(rows, edit.old_start);
+    let last = line_of_row(rows, edit.old_end - 1);
+    let low = row_of_line(rows, side, first);
+    let high = row_of_line(rows, side, last);
+    let from = stops.first_behind(low, Bias::Left, steps);
+    let to = stops.first_behind(high, Bias::Right, steps);
+    push_range(places, from, to)
+}
+
+/// Puts places in order, each once.
+fn put_in_order(places: &mut Vec<u32>)
+    ensures rising { IsRising 0 places.new.items }
+    ensures kept { (k : ℕ) → Contains places.old.items k → Contains places.new.items k }
+    ensures only { (k : ℕ) → Contains places.new.items k → Contains places.old.items k }
+    ensures within { (n : ℕ) → All (λ a. a < n) places.old.items →
+        All (λ a. a < n) places.new.items }
+{
+    places.sort_unstable();
+    places.dedup();
+}
