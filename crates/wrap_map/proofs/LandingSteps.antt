@@ -20,7 +20,7 @@ use Rattle.wrap_map.proofs.Carried.{IsLandingTo, came-same, came-within, landed-
 use Rattle.wrap_map.proofs.Groups.{all-done, finished-done, group-mixed}
 use Rattle.wrap_map.proofs.Landed.{patch-of_landed}
 use Rattle.wrap_map.proofs.Standings.{stood}
-use Rattle.wrap_map.proofs.StoodRows.{length-mixed, rows-next, rows-span}
+use Rattle.wrap_map.proofs.StoodRows.{drop-mixed, length-mixed, rows-next, rows-span}
 use Rattle.wrap_map.proofs.Synced.{length-stood_of}
 
 -- the rows after it fit, where those between do
@@ -51,6 +51,9 @@ can-close s since run width l next before is count fit e t =
     let g = ap rows_in (group-mixed old-list new-list (is_landed since run) l t.done (landed-plan s since run width e) o) in
     omega (arith, r, g) in
     record {
+      unlanded = ap (drop l.start) o.done_to.lines_are
+          ∙ drop-mixed old-list new-list t.done l.start (let gap = o.gap in omega arith) (omega (arith, done, long, long-new))
+          ∙ ap (drop l.start) (sym is);
       same_long = lines-long ∙ ap length (sym is);
       within = omega (arith, within, lines-long);
       lines_fit = omega (arith, lines-long, long, count);

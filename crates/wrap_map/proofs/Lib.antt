@@ -20,3 +20,4 @@ pub mod Calls
 pub mod WorkedRows
 pub mod Clearings
 pub mod Rooms
+pub mod Rises

@@ -1,12 +1,12 @@
 -- The next stretch at another mark, by how often the mark changes.
-use Rattle.std.proofs.Common.{◌≡◌, ℕ, zero, suc, ◌+◌, ◌-◌, ◌<◌, ◌≤◌, Bool, List, length, get_or, take, Option, Some, None, refl, sym, ap, subst, ◌∙◌, inl, inr, arith, add-one}
+use Rattle.std.proofs.Common.{◌≡◌, ◌≢◌, ℕ, zero, suc, ◌+◌, ◌-◌, ◌<◌, ◌≤◌, Bool, List, length, get_or, max, min, take, Option, Some, None, refl, sym, ap, subst, ◌∙◌, inl, inr, arith, add-one}
 use Rattle.std.specs.List.{slice_get}
 use Rattle.std.specs.Prelude.{◌==◌, if◌then◌else◌, All}
 use Rattle.std.proofs.lemmas.Bool.{cases_lt, cases_Bool, eqb-false, eqb-true}
 use Rattle.std.proofs.lemmas.Option.{slice_get_within, slice_get-get_or}
 use Rattle.cell_units.specs.declared.place.Bias.TheVariants.{Right}
 use Rattle.sum_tree.specs.Firsts.{IsFirst}
-use Rattle.wrap_map.specs.Stood.{IsOther, IsOtherIfAny, Stood, stood_at, unwrapped}
+use Rattle.wrap_map.specs.Stood.{IsNextAt, IsOther, IsOtherIfAny, Stood, stood_at, unwrapped}
 use Rattle.wrap_map.specs.declared.extent.Ends.{Ends}
 use Rattle.wrap_map.specs.declared.extent.Extent.{Extent}
 use Rattle.wrap_map.specs.inside.Extents.{extent_laws, joined_ends, joined_extents, no_extent, switch_between}
@@ -138,7 +138,7 @@ all-same ss width i j (suc d) s e mark within few le =
     (next-same ss width i m t f (all-same ss width i j d s e mark within few (omega arith)) none)
 
 -- the stretches from the one of the line up to the one that is found
-found-behind : (ss : List Stretched) (i j : ℕ) (s : Stretched) → slice_get ss i ≡ Some s → IsAtSwitch ss (switches_to ss (i + 1)) j → i + 1 ≤ j
+pub found-behind : (ss : List Stretched) (i j : ℕ) (s : Stretched) → slice_get ss i ≡ Some s → IsAtSwitch ss (switches_to ss (i + 1)) j → i + 1 ≤ j
 found-behind ss i j s e found = elim (cases_lt i j) [
   | inl more ↦ omega arith
   | inr le ↦
@@ -200,3 +200,78 @@ none-past ss n width i e at =
     let all : lines_to ss i ≡ length (spread ss) = ap (λ (l : List Stretched). length (spread l)) (all-before ss i e) in
     let low = line-low Right ss n i at in
     λ k from to. absurd (omega arith)
+
+-- ---- from change to change
+
+-- the lines from one on up to a stretch stand at other marks than the width, and that line is not behind the stretch
+pub record IsPassedTo (ss : List Stretched) (line width i : ℕ) : Type 0 where
+  pub behind : (s : Stretched) → slice_get ss i ≡ Some s → line < lines_to ss i + s.lines
+  pub other : (k : ℕ) → line ≤ k → k < lines_to ss i → (stood_at (spread ss) k).mark ≢ width
+
+pub passed-first : (ss : List Stretched) (line width i : ℕ) → IsAtLine ss line Right i → IsPassedTo ss line width i
+passed-first ss line width i at = record {
+  behind = λ s e. line-high-Right ss line i s e at;
+  other = λ k low high. absurd (omega (arith, line-low Right ss line i at));
+}
+
+module _ (ss : List Stretched) (line width i : ℕ) (s : Stretched) (each : All IsStretch ss) (e : slice_get ss i ≡ Some s)
+    (passed : IsPassedTo ss line width i) where
+  -- the line from which this stretch counts
+  pub from-within : max (lines_to ss i) line < lines_to ss i + s.lines
+  from-within = omega (arith, passed.behind s e, (All-at IsStretch ss i s e each).some)
+
+  pub stretch-within : lines_to ss i + s.lines ≤ length (spread ss)
+  stretch-within = lines-within ss i s e
+
+  -- it stands at the width
+  pub next-here : (end : ℕ) → line < end → s.stood.mark ≡ width → IsNextAt (spread ss) line end width (min (max (lines_to ss i) line) end)
+  next-here end some mark = record {
+    order = omega arith;
+    within = omega arith;
+    before = λ k low high. passed.other k low (omega arith);
+    at = λ less.
+        let there : min (max (lines_to ss i) line) end ≡ max (lines_to ss i) line = omega arith in
+        ap (λ (k : ℕ). (stood_at (spread ss) k).mark) there
+        ∙ ap (λ (l : Stood). l.mark) (stood-in ss i (max (lines_to ss i) line) s e (omega arith) from-within) ∙ mark;
+  }
+
+  -- it stands at another mark, and goes on to the end
+  pub next-end : (end : ℕ) → line < end → s.stood.mark ≢ width → end ≤ lines_to ss i + s.lines → IsNextAt (spread ss) line end width end
+  next-end end some other reached = record {
+    order = omega arith;
+    within = omega arith;
+    before = λ k low high. elim (cases_lt k (lines_to ss i)) [
+      | inl less ↦ passed.other k low less
+      | inr more ↦ λ is. other (sym (ap (λ (l : Stood). l.mark) (stood-in ss i k s e more (omega arith))) ∙ is)
+    ];
+    at = λ less. absurd (omega arith);
+  }
+
+  -- it stands at another mark, and so do all up to the next change
+  pub passed-on : (j : ℕ) → s.stood.mark ≢ width → IsAtSwitch ss (switches_to ss (i + 1)) j → IsPassedTo ss line width j × (max (lines_to ss i) line < lines_to ss j)
+  passed-on j other found =
+      let behind = found-behind ss i j s e found in
+      let step = lines-step ss i s e in
+      let more = lines_more ss (i + 1) j behind in
+      let same = same-to ss s.stood.mark i j s e refl found in (
+        record {
+          behind = λ t f. let some = (All-at IsStretch ss j t f each).some in omega (arith, from-within, step, more, some);
+          other = λ k low high. elim (cases_lt k (lines_to ss i)) [
+            | inl less ↦ passed.other k low less
+            | inr at ↦ λ is. other (sym (same.each k at high) ∙ is)
+          ];
+        },
+        omega (arith, from-within, step, more),
+      )
+
+-- past the last stretch
+pub next-none : (ss : List Stretched) (line width i end : ℕ) → IsPassedTo ss line width i → slice_get ss i ≡ None → line < end → end ≤ length (spread ss)
+    → IsNextAt (spread ss) line end width end
+next-none ss line width i end passed e some within =
+    let all : lines_to ss i ≡ length (spread ss) = ap (λ (l : List Stretched). length (spread l)) (all-before ss i e) in
+    record {
+      order = omega arith;
+      within = omega arith;
+      before = λ k low high. passed.other k low (omega arith);
+      at = λ less. absurd (omega arith);
+    }

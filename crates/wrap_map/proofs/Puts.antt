@@ -337,3 +337,11 @@ either (Err e) P Q R p q f g = g q
 pub on_ok : {A E : Type 0} (r : Result A E) (P Q : Type 0) → OnOk r P → (P → Q) → OnOk r Q
 on_ok (Ok a) P Q p f = f p
 on_ok (Err e) P Q p f = p
+
+-- ---- the rows before a part
+
+pub head-rows : (ss part : List Stretched) (n at : ℕ) → All IsStretch ss → IsHead ss n part at
+    → rows_in (take n (spread ss)) ≡ (extents (take at ss)).rows + (extents part).rows
+head-rows ss part n at each h =
+    ap rows_in (sym h.spread_is) ∙ rows-append (spread (take at ss)) (spread part)
+    ∙ omega (arith, rows-spread (take at ss) (all-take IsStretch at ss each), rows-spread part h.each)

@@ -25,7 +25,7 @@ length-cuts es width =
     cond_both (width == 0) [] (row_starts es (width - indent_of es width) (length es) (next_start_of es width 0))
     (λ xs. length xs ≤ length es) (λ t. omega arith) (λ f. length-row_starts es (width - indent_of es width) (length es) (next_start_of es width 0))
 
-rows-few : (lines : List (List Element)) (marks : List ℕ) → rows_in (stood_of (record { lines = lines; marks = marks })) ≤ sum_by (λ es. length es + 1) lines
+pub rows-few : (lines : List (List Element)) (marks : List ℕ) → rows_in (stood_of (record { lines = lines; marks = marks })) ≤ sum_by (λ es. length es + 1) lines
 rows-few [] marks = omega arith
 rows-few (es ∷ lines) [] = omega arith
 rows-few (es ∷ lines) (mark ∷ marks) =

@@ -177,3 +177,13 @@ rows-lead old put a b order within =
           ∙ ap (drop (length (A ++ P))) new-is ∙ drop-append_seam (A ++ P) C
           ∙ sym (ap (drop (length (all_rows (take b old)))) old-is ∙ drop-append_seam (all_rows (take b old)) C);
     }
+
+-- ---- no more lines are shown than there are
+
+pairs-few : {X Y Z : Type 0} (f : X × Y → Z) (xs : List X) (ys : List Y) → length (map f (zip xs ys)) ≤ length xs
+pairs-few f [] ys = omega arith
+pairs-few f (x ∷ xs) [] = omega arith
+pairs-few f (x ∷ xs) (y ∷ ys) = omega (arith, pairs-few f xs ys)
+
+pub shown-few : (s : Standing) → length (shown_rows s) ≤ length s.lines
+shown-few s = pairs-few (λ p. row_texts_of p.0 p.1) s.lines s.marks

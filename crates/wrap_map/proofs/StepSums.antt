@@ -9,7 +9,7 @@ one-more n m k first before after a b le = let h = mul-le-mul_right k le in omeg
 
 -- a group is closed after n lines of a run
 pub landing-closed : (n count h fresh first before after : ℕ) → before + 4 * fresh ≤ first + n * (170 * (h + 1))
-    → after ≤ before + (2 * (h + 1) + (160 * h + (87 + 4 * (fresh + 2 + 1))) + 4 * (h + 1)) → n ≤ count → after ≤ first + putting_run count h
+    → after ≤ before + (2 * (h + 1) + (160 * h + (87 + 4 * (fresh + 2 + 1)))) → n ≤ count → after ≤ first + putting_run count h
 landing-closed n count h fresh first before after a b le =
     let p = mul-le-mul_right (h + 1) le in
     omega (arith, a, b, p)

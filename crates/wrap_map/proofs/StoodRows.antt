@@ -1,8 +1,8 @@
 -- The rows of lines up to one of them, and lists of lines that are mixed of two.
 use Rattle.std.proofs.Common.{◌≡◌, ℕ, zero, suc, ◌+◌, ◌-◌, ◌<◌, ◌≤◌, List, [], ◌∷◌, ◌++◌, length, take, drop, refl, ap, sym, ◌∙◌, arith, append_assoc, length-append, length-drop}
-use Rattle.std.proofs.Math.Seq.{drop-append-add, take-add}
-use Rattle.std.proofs.lemmas.List.{ext_get_or, get_or-drop, get_or-take, length-take-le, take-append-drop, take-append-le, take_more}
-use Rattle.wrap_map.specs.Stood.{Stood, rows_in, stood_at, unwrapped}
+use Rattle.std.proofs.Math.Seq.{drop-append-add, drop-append_seam, take-add}
+use Rattle.std.proofs.lemmas.List.{ext_get_or, get_or-drop, get_or-take, length-take-le, take-append-drop, take-append-le, take_all, take_more}
+use Rattle.wrap_map.specs.Stood.{Stood, put_in, rows_in, stood_at, unwrapped}
 use Rattle.wrap_map.proofs.Spreads.{lines-rows, rows-append}
 use Rattle.wrap_map.proofs.Standings.{drop-add}
 
@@ -90,3 +90,45 @@ length-mixed xs ys d h e =
     let b = length-take-le d ys h in
     let c = length-drop d xs in
     omega (arith, a, b, c, e)
+
+-- ---- a group put in the place of as many lines
+
+pub rows-parts : (d : ℕ) (ls : List Stood) → rows_in ls ≡ rows_in (take d ls) + rows_in (drop d ls)
+rows-parts d ls = ap rows_in (sym (take-append-drop d ls)) ∙ rows-append (take d ls) (drop d ls)
+
+-- the rows before the group's start and its end, and behind it, in the lines before any landed, just before it and after it
+pub record AreRound (before lines after : List Stood) (start end : ℕ) : Type 0 where
+  pub behind : ℕ
+  pub first : rows_in before ≡ rows_in (take end before) + behind
+  pub all : rows_in lines ≡ rows_in (take end lines) + behind
+  pub now : rows_in after ≡ rows_in (take end after) + behind
+  pub group : rows_in (take end before) + rows_in (take start lines) ≡ rows_in (take end lines) + rows_in (take start before)
+  pub order : rows_in (take start lines) ≤ rows_in (take end lines)
+  pub start_is : rows_in (take start after) ≡ rows_in (take start lines)
+
+pub group-round : (before lines fresh : List Stood) (start end : ℕ) → drop start lines ≡ drop start before → start + length fresh ≡ end → end ≤ length lines
+    → AreRound before lines (put_in start end fresh lines) start end
+group-round before lines fresh start end same long within =
+    let after = put_in start end fresh lines in
+    let k = end - start in
+    let e : end ≡ start + k = omega arith in
+    let front = length-take-le start lines (omega arith) in
+    let reach : length (take start lines ++ fresh) ≡ end = let h = length-append (take start lines) fresh in omega (arith, h, front, long) in
+    let over : drop end lines ≡ drop end before =
+    ap (λ (n : ℕ). drop n lines) e ∙ sym (drop-add k start lines) ∙ ap (drop k) same ∙ drop-add k start before ∙ ap (λ (n : ℕ). drop n before) (sym e) in
+    let rest : drop end after ≡ drop end lines = ap (λ (n : ℕ). drop n after) (sym reach) ∙ drop-append_seam (take start lines ++ fresh) (drop end lines) in
+    let old-span = ap rows_in (split-take before start end (omega arith)) ∙ rows-append (take start before) (take k (drop start before)) in
+    let span = ap rows_in (split-take lines start end (omega arith)) ∙ rows-append (take start lines) (take k (drop start lines)) in
+    let inside = ap (λ (ls : List Stood). rows_in (take k ls)) same in
+    record {
+      behind = rows_in (drop end lines);
+      first = rows-parts end before ∙ ap (λ (ls : List Stood). rows_in (take end before) + rows_in ls) (sym over);
+      all = rows-parts end lines;
+      now = rows-parts end after ∙ ap (λ (ls : List Stood). rows_in (take end after) + rows_in ls) rest;
+      group = omega (arith, old-span, span, inside);
+      order = rows_rise lines start end (omega arith) within;
+      start_is = ap rows_in
+          (take-append-le start (take start lines ++ fresh) (drop end lines) (omega (arith, reach))
+          ∙ take-append-le start (take start lines) fresh (omega (arith, front))
+          ∙ take_all start (take start lines) (omega (arith, front)));
+    }

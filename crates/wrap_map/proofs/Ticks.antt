@@ -49,3 +49,10 @@ pub put-second : (ss : List Stretched) (k n s0 s1 s2 : ℕ) → All IsStretch ss
 put-second ss k n s0 s1 s2 each first second = λ h small after.
     let before : length ss < 2 * 6 ^ (h + 1) = omega (arith, few-stretches ss each) in
     omega (arith, first h before, second h before)
+
+-- a seek for each line that was passed, and the first one
+pub seeks-more : (n m w s0 s1 s2 : ℕ) → s1 ≤ s0 + n * w → s2 ≤ s1 + w → n + 1 ≤ m → s2 ≤ s0 + m * w
+seeks-more n m w s0 s1 s2 before more le = let h = mul-le (n + 1) w m w le (omega arith) in omega (arith, before, more, h, add-mul n 1 w)
+
+pub seeks-within : (n m w s0 s1 : ℕ) → n ≤ m → s1 ≤ s0 + n * w → s1 ≤ s0 + m * w
+seeks-within n m w s0 s1 le before = omega (arith, before, mul-le n w m w le (omega arith))

@@ -48,3 +48,10 @@ abbrev pub IsOtherIfAny : List Stood → ℕ → ℕ → Option ℕ → Type 0
 IsOtherIfAny lines from width None =
     (k : ℕ) → from ≤ k → k < length lines → (stood_at lines k).mark ≡ width
 IsOtherIfAny lines from width (Some line) = IsOther lines from width line
+
+-- the first line from this one on, before an end, that stands at the width, or the end
+pub record IsNextAt (lines : List Stood) (from end width line : ℕ) : Type 0 where
+  pub order : from ≤ line
+  pub within : line ≤ end
+  pub before : (k : ℕ) → from ≤ k → k < line → (stood_at lines k).mark ≢ width
+  pub at : line < end → (stood_at lines line).mark ≡ width

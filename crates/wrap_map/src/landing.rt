@@ -1,14 +1,17 @@
 //! Lines that land, in groups of neighbours.
-ghost use Rattle.std.specs.Prelude.{◌≡◌, ℕ, ◌+◌, ◌*◌, ◌^◌, ◌<◌, ◌≤◌, [], All, length, map, IfOk, IfSome, OnOk};
+ghost use Rattle.std.specs.Prelude.{◌≡◌, ℕ, ◌+◌, ◌*◌, ◌^◌, ◌<◌, ◌≤◌, ◌↔◌, [], All, drop, length, map, sum_by, IfOk, IfSome, IsTrue, OnErr, OnOk};
 ghost use Rattle.edit_patch.specs.Came.{carry_of};
 ghost use Rattle.edit_patch.specs.Patch.{IsPatch};
 ghost use Rattle.sum_tree.specs.Bounds.{TakesAtMost};
-ghost use Rattle.wrap_map.specs.inside.Bounds.{closing, grouping, putting_run};
+ghost use Rattle.wrap_map.specs.Bounds.{landing};
+ghost use Rattle.wrap_map.specs.inside.Bounds.{PutsAtMost, closing, grouping, putting_run};
+ghost use Rattle.cell_units.specs.Rows.{all_rows};
 ghost use Rattle.edit_patch.specs.Fits.{Fits};
 ghost use Rattle.wrap_map.specs.Landing.{cuts_of_run, standing_landed};
-ghost use Rattle.wrap_map.specs.Standing.{StandSo, standing_of, stood_of};
-ghost use Rattle.wrap_map.specs.inside.Landings.{FitBetween, IsPut, CanClose, begun, carried, closed_if_any, edit_between, end_of, moved_to, taken};
-ghost use Rattle.wrap_map.specs.Stood.{Stood};
+ghost use Rattle.wrap_map.specs.Standing.{StandSo, shown_rows, standing_of, stood_of};
+ghost use Rattle.wrap_map.specs.inside.Landings.{FitBetween, IsLate, IsPut, CanClose, begun, carried, closed_if_any, edit_between, end_of, moved_to, taken};
+ghost use Rattle.wrap_map.specs.Stood.{Stood, put_in, rows_in};
+ghost use Rattle.wrap_map.specs.inside.Stretches.{spread};
 
 use crate::stretch::Stretch;
 use crate::stretches::Stretches;
@@ -104,7 +107,7 @@ impl Landing {
         ensures grouped { OnOk result (TakesAtMost grouping (length before.now)
             (steps.old + 4 * length self.old.fresh) (steps.new + 4 * length self.new.fresh)) }
     {
-        let stretch = Stretch::of_line(alloc, mark, cuts)?;
+        let stretch = self.stretches.of_line(alloc, mark, cuts)?;
         self.move_to(alloc, before, line, steps)?;
         self.fresh.push(stretch)?;
         Ok(())
@@ -161,8 +164,7 @@ impl Landing {
         let start = self.start;
         let end = start + self.fresh.len() as u32;
         let fresh = mem::replace(&mut self.fresh, Vec::new(alloc));
-        self.stretches.put(alloc, start, end, fresh, steps)?;
-        let edit = edit_over(before, &self.stretches, start, end, steps);
+        let edit = put_group(alloc, &mut self.stretches, before, start, end, fresh, steps)?;
         self.edits.push(edit)?;
         self.start = end;
         Ok(())
@@ -197,26 +199,43 @@ impl Landing {
     }
 }
 
-/// The edit that replaces the rows of the lines from `start` to `end`.
-fn edit_over(before: &Stretches, after: &Stretches, start: u32, end: u32, steps: &mut Steps) -> Edit
-    requires same_long { length after.now ≡ length before.now }
-    requires order { start ≤ end }
-    requires within { end ≤ length before.now }
-    ensures edit { result ≡ edit_between before.now after.now start end }
+/// Puts stretches in the place of the lines from `start` to `end`, and answers the edit that replaces their rows. From `start` on
+/// all lines stand as they did before any landed.
+fn put_group(
+    alloc: Global,
+    lines: &mut Stretches,
+    before: &Stretches,
+    start: u32,
+    end: u32,
+    fresh: Vec<Stretch>,
+    steps: &mut Steps,
+) -> Result<Edit, NoMemory>
+    requires unlanded { drop start lines.old ≡ drop start before.now }
+    requires group { start + length (spread fresh.items) ≡ end }
+    requires within { end ≤ length lines.old }
+    requires rows_fit { rows_in (put_in start end (spread fresh.items) lines.old) < 2 ^ 32 }
+    ensures put { OnOk result (lines.new ≡ put_in start end (spread fresh.items) lines.old) }
+    ensures edit { IfOk result (λ edit. edit ≡ edit_between before.now lines.new start end) }
+    ensures unchanged { OnErr result (lines.new ≡ lines.old) }
     ensures counted { steps.old ≤ steps.new }
-    ensures steps { TakesAtMost (λ h. 4 * (h + 1)) (length before.now) steps.old steps.new }
+    ensures steps { PutsAtMost start end fresh.items lines.old steps.old steps.new }
 {
-    Edit {
-        old_start: before.rows_before(start, steps),
-        old_end: before.rows_before(end, steps),
-        new_start: after.rows_before(start, steps),
-        new_end: after.rows_before(end, steps),
-    }
+    let all = lines.rows();
+    let rows = lines.put(alloc, start, end, fresh, steps)?;
+    // As many rows stand behind the group as before any line landed.
+    let behind = all - rows.end;
+    let old_end = before.rows() - behind;
+    Ok(Edit {
+        old_start: old_end - (rows.end - rows.start),
+        old_end,
+        new_start: rows.start,
+        new_end: lines.rows() - behind,
+    })
 }
 
 /// The lines of a run that are still there, put at a mark with the cuts that the run's lines have there: all lines as they
 /// stand then, and the patch that replaces the rows of those.
-pub fn put_run<N: Lines>(
+fn put_run<N: Lines>(
     alloc: Global,
     lines: &N,
     from: &Stretches,
@@ -227,13 +246,9 @@ pub fn put_run<N: Lines>(
     wraps: &[Cuts],
     steps: &mut Steps,
 ) -> Result<(Stretches, Patch), NoMemory>
-    // How the lines stand, and what the run was.
-    requires stands { StandSo (N.elements_by_line lines.now) from.now }
-    requires since { Fits since.now (N.elements_by_line old.now) (N.elements_by_line lines.now) }
-    requires within { run.first + run.count ≤ length (N.elements_by_line old.now) }
-    requires wraps { let lines = N.elements_by_line old.now in
-        map (λ cuts. cuts.items) wraps.now ≡ cuts_of_run lines run mark }
-
+    requires late { let lines = N.elements_by_line lines.now in
+        let old = N.elements_by_line old.now in
+        IsLate lines old from.now since.now run mark (map (λ cuts. cuts.items) wraps.now) }
     // All lists between have u32 rows.
     requires fits { let standing = standing_of (N.elements_by_line lines.now) from.now in
         FitBetween from.now (stood_of (standing_landed since.now run mark standing)) }
@@ -253,8 +268,91 @@ pub fn put_run<N: Lines>(
     landing.finish(alloc, from, steps)
 }
 
+/// The same where only the rows at the end are known to be u32. Lines are put in one row each before they stand at the mark,
+/// so rows fall before they rise: at no time are there more of them than before and after.
+fn put_twice<N: Lines>(
+    alloc: Global,
+    lines: &N,
+    from: &Stretches,
+    old: &N,
+    since: &Patch,
+    run: Run,
+    mark: u32,
+    wraps: &[Cuts],
+    steps: &mut Steps,
+) -> Result<(Stretches, Patch), NoMemory>
+    requires late { let lines = N.elements_by_line lines.now in
+        let old = N.elements_by_line old.now in
+        IsLate lines old from.now since.now run mark (map (λ cuts. cuts.items) wraps.now) }
+    requires rows_fit { let standing = standing_of (N.elements_by_line lines.now) from.now in
+        length (all_rows (shown_rows (standing_landed since.now run mark standing))) < 2 ^ 32 }
+    ensures put { let standing = standing_of (N.elements_by_line lines.now) from.now in
+        IfOk result (λ made. IsPut standing since.now run mark made.0 made.1) }
+    ensures counted { steps.old ≤ steps.new }
+    ensures steps { TakesAtMost (landing run.count) (length from.now) steps.old steps.new }
+{
+    let none = no_cuts(alloc, run.count)?;
+    let (cleared, falls) = put_run(
+        alloc,
+        lines,
+        from,
+        old,
+        since,
+        run,
+        0,
+        none.as_slice(),
+        steps,
+    )?;
+    let (landed, rises) = put_run(alloc, lines, &cleared, old, since, run, mark, wraps, steps)?;
+    let patch = falls.compose(alloc, &rises)?;
+    Ok((landed, patch))
+}
+
+/// Whether all rows are u32 even if one is added for each cut that lands and none is taken off.
+fn may_rise(from: &Stretches, wraps: &[Cuts]) -> bool
+    ensures { let added = sum_by (λ cuts. length cuts.items) wraps.now in
+        IsTrue result ↔ (rows_in from.now + added < 2 ^ 32) }
+{
+    let mut rows = from.rows() as u64;
+    for cuts in wraps {
+        rows = rows.saturating_add(cuts.len() as u64);
+    }
+    rows <= u32::MAX as u64
+}
+
+/// The lines of a run that are still there, put at once where there is room for all rows that are added, and else twice.
+pub fn put_landed<N: Lines>(
+    alloc: Global,
+    lines: &N,
+    from: &Stretches,
+    old: &N,
+    since: &Patch,
+    run: Run,
+    mark: u32,
+    wraps: &[Cuts],
+    steps: &mut Steps,
+) -> Result<(Stretches, Patch), NoMemory>
+    requires late { let lines = N.elements_by_line lines.now in
+        let old = N.elements_by_line old.now in
+        IsLate lines old from.now since.now run mark (map (λ cuts. cuts.items) wraps.now) }
+    requires rows_fit { let standing = standing_of (N.elements_by_line lines.now) from.now in
+        length (all_rows (shown_rows (standing_landed since.now run mark standing))) < 2 ^ 32 }
+    ensures put { let standing = standing_of (N.elements_by_line lines.now) from.now in
+        IfOk result (λ made. IsPut standing since.now run mark made.0 made.1) }
+    ensures counted { steps.old ≤ steps.new }
+    ensures steps { TakesAtMost (landing run.count) (length from.now) steps.old steps.new }
+{
+    // What `since` keeps in its type is what its edits ensure.
+    let _edits = since.edits();
+    if may_rise(from, wraps) {
+        put_run(alloc, lines, from, old, since, run, mark, wraps, steps)
+    } else {
+        put_twice(alloc, lines, from, old, since, run, mark, wraps, steps)
+    }
+}
+
 /// So many empty lists of cuts.
-pub fn no_cuts(alloc: Global, count: u32) -> Result<Vec<Cuts>, NoMemory>
+fn no_cuts(alloc: Global, count: u32) -> Result<Vec<Cuts>, NoMemory>
     ensures count { IfOk result (λ wraps. length wraps.items ≡ count) }
     ensures empty { IfOk result (λ wraps. All (λ cuts. cuts.items ≡ []) wraps.items) }
 {

@@ -12,7 +12,7 @@ ghost use Rattle.wrap_map.specs.Landing.{IsLanded, cuts_of_run, standing_landed}
 ghost use Rattle.wrap_map.specs.Standing.{HasRoom, IsSynced, all_at, shown_rows, standing_after};
 ghost use Rattle.wrap_map.specs.Waiting.{AreApart, IsNextIfAny};
 
-use crate::landing::{no_cuts, put_run};
+use crate::landing::put_landed;
 use crate::replacing::replaced_if_any;
 use crate::snapshot::WrapSnapshot;
 use crate::stretches::Stretches;
@@ -162,24 +162,17 @@ impl<N: Lines> WrapMap<N> {
         if width != self.width {
             return Ok(Patch::none(alloc));
         }
-        // Rows fall before they rise: at no time are there more of them than before and after.
-        let none = no_cuts(alloc, run.count)?;
-        let lines = &self.lines;
-        let (cleared, falls) = put_run(
+        let (stretches, patch) = put_landed(
             alloc,
-            lines,
+            &self.lines,
             &self.stretches,
             old,
             since,
             run,
-            0,
-            none.as_slice(),
+            width,
+            wraps,
             steps,
         )?;
-        let (stretches, rises) = put_run(
-            alloc, lines, &cleared, old, since, run, width, wraps, steps,
-        )?;
-        let patch = falls.compose(alloc, &rises)?;
         self.stretches = stretches;
         Ok(patch)
     }

@@ -53,10 +53,8 @@ fn replaced(
 {
     let mut after = lines.share()?;
     let fresh = unwrapped_lines(alloc, lines, below.count)?;
-    after.put(alloc, below.start, below.end, fresh, steps)?;
-    let start = lines.rows_before(below.start, steps);
-    let end = lines.rows_before(below.end, steps);
-    Ok((after, Shift::new(start, end, below.count)))
+    let rows = after.put(alloc, below.start, below.end, fresh, steps)?;
+    Ok((after, Shift::new(rows.start, rows.end, below.count)))
 }
 
 /// So many lines in one row each.

@@ -46,7 +46,7 @@ impl Stretch {
     }
 
     /// One line with its cuts.
-    pub fn of_line(alloc: Global, mark: u32, cuts: &Cuts) -> Result<Stretch, NoMemory>
+    pub fn cut(alloc: Global, mark: u32, cuts: &Cuts) -> Result<Stretch, NoMemory>
         requires { length cuts.now.items + 1 < 2 ^ 32 }
         ensures { IfOk result (λ s. s ≡ stretched mark 1 cuts.now.items) }
     {

@@ -1,14 +1,16 @@
 //! How each line stands, kept as one tree of stretches.
-ghost use Rattle.std.specs.Prelude.{◌≡◌, ◌+◌, ◌*◌, ◌^◌, ◌<◌, ◌≤◌, ◌++◌, [], length, take, replicate, IfOk, OnOk, OnErr};
+ghost use Rattle.std.specs.Prelude.{◌≡◌, ◌+◌, ◌-◌, ◌*◌, ◌^◌, ◌<◌, ◌≤◌, ◌++◌, [], length, take, replicate, IfOk, OnOk, OnErr};
 ghost use Rattle.sum_tree.specs.Bounds.{TakesAtMost, way};
 ghost use Rattle.wrap_map.specs.Bounds.{ListsAtMost};
 ghost use Rattle.wrap_map.specs.Standing.{runs_from};
-ghost use Rattle.wrap_map.specs.Stood.{IsOtherIfAny, marks_in, put_in, rows_in, runs_in, stood_at, unwrapped};
-ghost use Rattle.wrap_map.specs.inside.Bounds.{PutsAtMost, two_ways};
+ghost use Rattle.wrap_map.specs.Stood.{IsNextAt, IsOtherIfAny, marks_in, put_in, rows_in, runs_in, stood_at, unwrapped};
+ghost use Rattle.wrap_map.specs.inside.Bounds.{PutsAtMost, each_way, two_ways};
+ghost use Rattle.wrap_map.specs.inside.Changes.{AreRowsAt};
+ghost use Rattle.wrap_map.specs.inside.Extents.{joined_extents};
 ghost use Rattle.wrap_map.specs.inside.Gathering.{IsHead, IsTail};
-ghost use Rattle.wrap_map.specs.inside.Stretches.{AreStretches, spread, stretched};
+ghost use Rattle.wrap_map.specs.inside.Stretches.{AreStretches, extent_of, spread, stretched};
 
-use crate::extent::{ByLines, ByRows, BySwitches, switch_between};
+use crate::extent::{ByLines, ByRows, BySwitches, Extent, switch_between};
 use crate::gathering::gather;
 use crate::marks::MarkRun;
 use crate::stretch::Stretch;
@@ -17,6 +19,7 @@ use cell_units::{Bias, NoMemory, Steps};
 use std::alloc::Global;
 use std::marker::Model;
 use std::sync::Arc;
+use sum_core::Item;
 use sum_tree::SumTree;
 
 /// A list of lines, each as it stands. Copies share what they have in common.
@@ -53,11 +56,20 @@ fn stretch_of<'a>(tree: &'a SumTree<Stretch>, line: u32, steps: &mut Steps) -> &
     }
 }
 
-/// A part of one stretch, or nothing, and the place where the stretches that stay end or begin.
+/// A part of one stretch, or nothing, the place where the stretches that stay end or begin, and how many rows stand before
+/// the line at which the stretch is parted.
 #[derive(Drop)]
 struct Part {
     stretches: Vec<Stretch>,
     at: u32,
+    rows: u32,
+}
+
+/// The rows of some lines, from the first of them up to the one behind them.
+#[derive(Clone, Copy)]
+pub struct RowRange {
+    pub start: u32,
+    pub end: u32,
 }
 
 /// What lies before a line of the stretch that ends there or has it.
@@ -70,20 +82,25 @@ fn part_before(
     requires stretches { AreStretches tree.now }
     requires within { line ≤ length (spread tree.now) }
     ensures head { IfOk result (λ part. IsHead tree.now line part.stretches.items part.at) }
+    ensures rows { IfOk result (λ part. part.rows ≡ rows_in (take line (spread tree.now))) }
     ensures counted { steps.old ≤ steps.new }
     ensures steps { TakesAtMost way (length tree.now) steps.old steps.new }
 {
     let found = tree.find::<ByLines>(line as u64, Bias::Left, steps);
     let mut stretches = Vec::new(alloc);
+    let mut rows = found.before.rows;
     if let Some(first) = found.item {
         let lines = line - found.before.lines;
         if lines > 0 {
-            stretches.push(first.part(lines)?)?;
+            let part = first.part(lines)?;
+            rows += part.sum().rows;
+            stretches.push(part)?;
         }
     }
     Ok(Part {
         stretches,
         at: found.index,
+        rows,
     })
 }
 
@@ -97,6 +114,7 @@ fn part_behind(
     requires stretches { AreStretches tree.now }
     requires within { line ≤ length (spread tree.now) }
     ensures tail { IfOk result (λ part. IsTail tree.now line part.stretches.items part.at) }
+    ensures rows { IfOk result (λ part. part.rows ≡ rows_in (take line (spread tree.now))) }
     ensures counted { steps.old ≤ steps.new }
     ensures steps { TakesAtMost way (length tree.now) steps.old steps.new }
 {
@@ -104,18 +122,30 @@ fn part_behind(
     let _count = tree.len();
     let found = tree.find::<ByLines>(line as u64, Bias::Right, steps);
     let mut stretches = Vec::new(alloc);
+    // Before a line each line of its own stretch has one row.
+    let passed = line - found.before.lines;
+    let rows = found.before.rows + passed;
     let Some(last) = found.item else {
         return Ok(Part {
             stretches,
             at: found.index,
+            rows,
         });
     };
-    let lines = last.lines() - (line - found.before.lines);
-    stretches.push(last.part(lines)?)?;
+    stretches.push(last.part(last.lines() - passed)?)?;
     Ok(Part {
         stretches,
         at: found.index + 1,
+        rows,
     })
+}
+
+/// How often the mark changes up to a stretch and where it begins.
+fn changes_through(before: Extent, stretch: &Stretch) -> u64
+    ensures { result ≡ (joined_extents before (extent_of stretch.now)).switches }
+{
+    let change = switch_between(before.ends, Some(stretch.ends()));
+    before.switches as u64 + change as u64
 }
 
 impl Stretches {
@@ -229,13 +259,35 @@ impl Stretches {
         if stretch.mark() != width {
             return Some(line);
         }
-        let change = switch_between(found.before.ends, Some(stretch.ends()));
-        let changes = found.before.switches as u64 + change as u64;
+        let changes = changes_through(found.before, stretch);
         let other = self.tree.find::<BySwitches>(changes, Bias::Right, steps);
         match other.item {
             Some(_) => Some(other.before.lines),
             None => None,
         }
+    }
+
+    /// The first line from `line` on and before `end` that stands at the width, and `end` where there is none.
+    pub fn next_at(&self, line: u32, end: u32, width: u32, steps: &mut Steps) -> u32
+        requires some { line < end }
+        requires within { end ≤ length self.now }
+        ensures at { IsNextAt self.now line end width result }
+        ensures counted { steps.old ≤ steps.new }
+        ensures steps { TakesAtMost (each_way (end - line)) (length self.now) steps.old steps.new }
+    {
+        let mut found = self.tree.find::<ByLines>(line as u64, Bias::Right, steps);
+        while let Some(stretch) = found.item {
+            if stretch.mark() == width {
+                return found.before.lines.max(line).min(end);
+            }
+            if found.before.lines + stretch.lines() >= end {
+                return end;
+            }
+            // All lines up to the next change stand at the mark of this stretch.
+            let changes = changes_through(found.before, stretch);
+            found = self.tree.find::<BySwitches>(changes, Bias::Right, steps);
+        }
+        end
     }
 
     /// The maximal runs of lines of one mark other than 0, in order.
@@ -267,7 +319,19 @@ impl Stretches {
         Stretch::uncut(mark, lines, &self.none)
     }
 
-    /// Puts the lines of stretches in the place of those from `start` to `end`.
+    /// One line with its cuts, to be put into this list or a share of it.
+    pub fn of_line(&self, alloc: Global, mark: u32, cuts: &Cuts) -> Result<Stretch, NoMemory>
+        requires { length cuts.now.items + 1 < 2 ^ 32 }
+        ensures { IfOk result (λ s. s ≡ stretched mark 1 cuts.now.items) }
+    {
+        if cuts.is_empty() {
+            self.uncut(mark, 1)
+        } else {
+            Stretch::cut(alloc, mark, cuts)
+        }
+    }
+
+    /// Puts the lines of stretches in the place of those from `start` to `end`, and answers which rows those had.
     pub fn put(
         &mut self,
         alloc: Global,
@@ -275,11 +339,12 @@ impl Stretches {
         end: u32,
         fresh: Vec<Stretch>,
         steps: &mut Steps,
-    ) -> Result<(), NoMemory>
+    ) -> Result<RowRange, NoMemory>
         requires order { start ≤ end }
         requires within { end ≤ length self.old }
         requires rows_fit { rows_in (put_in start end (spread fresh.items) self.old) < 2 ^ 32 }
         ensures put { OnOk result (self.new ≡ put_in start end (spread fresh.items) self.old) }
+        ensures rows { IfOk result (AreRowsAt self.old start end) }
         ensures unchanged { OnErr result (self.new ≡ self.old) }
         ensures counted { steps.old ≤ steps.new }
         ensures steps { PutsAtMost start end fresh.items self.old steps.old steps.new }
@@ -289,6 +354,11 @@ impl Stretches {
         let mut stretches = head.stretches;
         gather(&mut stretches, fresh)?;
         gather(&mut stretches, tail.stretches)?;
-        self.tree.replace(alloc, head.at, tail.at, stretches, steps)
+        self.tree
+            .replace(alloc, head.at, tail.at, stretches, steps)?;
+        Ok(RowRange {
+            start: head.rows,
+            end: tail.rows,
+        })
     }
 }

@@ -45,16 +45,8 @@ fn run_from(lines: &Stretches, width: u32, first: u32, end: u32, steps: &mut Ste
     ensures steps { TakesAtMost looking (length lines.now) steps.old steps.new }
 {
     let limit = end.min(first.saturating_add(RUN_LIMIT as u32));
-    for line in first + 1..limit {
-        if lines.mark(line, steps) == width {
-            return Run {
-                first,
-                count: line - first,
-            };
-        }
-    }
     Run {
         first,
-        count: limit - first,
+        count: lines.next_at(first, limit, width, steps) - first,
     }
 }

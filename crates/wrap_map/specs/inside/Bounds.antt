@@ -18,9 +18,9 @@ abbrev pub PutsAtMost : ℕ → ℕ → List Stretched → List Stood → ℕ �
 PutsAtMost start end fresh lines old new =
     ChangesAtMost (putting (length fresh)) (length lines) (length (put_in start end (spread fresh) lines)) old new
 
--- a group of k lines is put in place, and four seeks find its rows
+-- a group of k lines is put in place
 abbrev pub closing : ℕ → ℕ → ℕ
-closing k h = putting k h + 4 * way h
+closing k h = putting k h
 
 -- a line lands: of each line that waits in a group four steps are kept for its turn
 abbrev pub grouping : ℕ → ℕ
@@ -30,6 +30,10 @@ grouping h = 170 * (h + 1)
 abbrev pub putting_run : ℕ → ℕ → ℕ
 putting_run n h = 170 * (n + 1) * (h + 1)
 
--- one seek for each line of a run but its first
+-- a seek for each of n lines
+abbrev pub each_way : ℕ → ℕ → ℕ
+each_way n h = n * way h
+
+-- a seek for each line of a run
 abbrev pub looking : ℕ → ℕ
-looking h = 127 * way h
+looking h = 128 * way h

@@ -3,7 +3,13 @@ use Rattle.std.specs.Prelude.{◌≡◌, ◌≢◌, ℕ, ◌+◌, ◌<◌, ◌�
 use Rattle.cell_line.specs.declared.lines.Run.{Run}
 use Rattle.cell_units.specs.declared.limits.TheConstants.{RUN_LIMIT}
 use Rattle.cell_units.specs.declared.place.Shift.{Shift}
+use Rattle.wrap_map.specs.declared.stretches.RowRange.{RowRange}
 use Rattle.wrap_map.specs.Stood.{Stood, put_in, rows_in, stood_at, unwrapped}
+
+-- the rows of the lines from start to end
+pub record AreRowsAt (lines : List Stood) (start end : ℕ) (rows : RowRange) : Type 0 where
+  pub start_is : rows.start ≡ rows_in (take start lines)
+  pub end_is : rows.end ≡ rows_in (take end lines)
 
 -- the lines that were replaced are unwrapped
 abbrev pub cleared : Shift → List Stood → List Stood

@@ -3,9 +3,11 @@ use Rattle.std.specs.Prelude.{◌≡◌, ℕ, ◌+◌, ◌<◌, ◌≤◌, ◌^�
 use Rattle.std.specs.Option.{option_map_or}
 use Rattle.edit_patch.specs.declared.edit.Edit.{Edit}
 use Rattle.edit_patch.specs.Came.{carry_of, edit_of}
+use Rattle.edit_patch.specs.Fits.{Fits}
+use Rattle.cell_line.specs.declared.element.Element.{Element}
 use Rattle.cell_line.specs.declared.lines.Run.{Run}
-use Rattle.wrap_map.specs.Landing.{IsPatchOfLanded, standing_landed}
-use Rattle.wrap_map.specs.Standing.{Standing, stood_of}
+use Rattle.wrap_map.specs.Landing.{IsPatchOfLanded, cuts_of_run, standing_landed}
+use Rattle.wrap_map.specs.Standing.{StandSo, Standing, stood_of}
 use Rattle.wrap_map.specs.Stood.{Stood, put_in, rows_in}
 
 -- lines with all groups that are closed in place, the edits of their rows, and the open group: lines from `start` on
@@ -64,12 +66,22 @@ abbrev pub carried : List Stood → List Edit → ℕ → Stood → Landings →
 carried before since line stood l =
     option_map_or (λ present. taken before present stood l) (carry_of since line) l
 
--- the open group can be closed: it is within the lines, and lines and rows stay u32
+-- the open group can be closed: it is within the lines, no line from its start on has landed, and lines and rows stay u32
 pub record CanClose (before : List Stood) (l : Landings) : Type 0 where
+  pub unlanded : drop l.start l.lines ≡ drop l.start before
   pub same_long : length l.lines ≡ length before
   pub within : end_of l ≤ length l.lines
   pub lines_fit : length l.lines < 2 ^ 32
   pub rows_fit : rows_in (with_group l) < 2 ^ 32
+
+-- A run of old lines, that are to be put at a mark where they are still there: how the present lines stand, that `since` leads to
+-- them from the old ones, and where the run's lines are cut at the mark.
+pub record IsLate (lines old : List (List Element)) (from : List Stood) (since : List Edit) (run : Run)
+    (mark : ℕ) (wraps : List (List ℕ)) : Type 0 where
+  pub stands : StandSo lines from
+  pub leads : Fits since old lines
+  pub within : run.first + run.count ≤ length old
+  pub cuts : wraps ≡ cuts_of_run old run mark
 
 -- whichever of the lines stand as they do after it, and those behind them as before, their rows are u32
 abbrev pub FitBetween : List Stood → List Stood → Type 0

@@ -37,7 +37,7 @@ loop-place-init g c =
     let same : begun from ≡ c.new-landing.result = ap begun (sym c.in_ok-share.ensures) ∙ sym c.new-landing.ensures in
     let first : IsLandingTo s c.args.since.now run c.args.mark c.new-landing.result run.first =
     subst (λ (l : Landings). IsLandingTo s c.args.since.now run c.args.mark l run.first)
-    (ap begun (sym c.requires.stands.1) ∙ same) (landing-first s c.args.since.now run c.args.mark) in
+    (ap begun (sym c.requires.late.stands.1) ∙ same) (landing-first s c.args.since.now run c.args.mark) in
     record {
       landing = subst (IsLandingTo s c.args.since.now run c.args.mark c.new-landing.result) (let e : run.first ≡ run.first + 0 = omega arith in e) first;
       counted = omega arith;
@@ -46,51 +46,51 @@ loop-place-init g c =
 
 pub overflow_cast-line : goal.overflow_cast-line
 overflow_cast-line g c =
-    let w = wraps-long (λ cuts. cuts.items) c.args.wraps.now (g.N.Lines.elements_by_line c.args.old.now) c.args.run c.args.mark c.requires.wraps c.requires.within in
-    omega (arith, w, c.loop-place-test.true, c.requires.within, c.lines-lines.ensures, c.lines-lines.type_inv)
+    let w = wraps-long (λ cuts. cuts.items) c.args.wraps.now (g.N.Lines.elements_by_line c.args.old.now) c.args.run c.args.mark c.requires.late.cuts c.requires.late.within in
+    omega (arith, w, c.loop-place-test.true, c.requires.late.within, c.lines-lines.ensures, c.lines-lines.type_inv)
 
 pub overflow_add-line : goal.overflow_add-line
 overflow_add-line g c =
-    let w = wraps-long (λ cuts. cuts.items) c.args.wraps.now (g.N.Lines.elements_by_line c.args.old.now) c.args.run c.args.mark c.requires.wraps c.requires.within in
-    omega (arith, w, c.loop-place-test.true, c.requires.within, c.lines-lines.ensures, c.lines-lines.type_inv)
+    let w = wraps-long (λ cuts. cuts.items) c.args.wraps.now (g.N.Lines.elements_by_line c.args.old.now) c.args.run c.args.mark c.requires.late.cuts c.requires.late.within in
+    omega (arith, w, c.loop-place-test.true, c.requires.late.within, c.lines-lines.ensures, c.lines-lines.type_inv)
 
 pub carry-requires-clause-close : goal.carry-requires-clause-close
 carry-requires-clause-close g c =
     let from = c.args.from.now in
     let s : Standing = standing_of (g.N.Lines.elements_by_line c.args.lines.now) from in
-    let is = c.requires.stands.0 in
-    can-close s c.args.since.now c.args.run c.args.mark c.loop-place.landing (c.args.run.first + c.loop-place.place) from c.requires.stands.1
-    is.room.fits.0 (fit-from s c.args.since.now c.args.run c.args.mark from c.requires.stands.1 c.requires.fits) is.one_each c.loop-place.invariant.landing
+    let is = c.requires.late.stands.0 in
+    can-close s c.args.since.now c.args.run c.args.mark c.loop-place.landing (c.args.run.first + c.loop-place.place) from c.requires.late.stands.1
+    is.room.fits.0 (fit-from s c.args.since.now c.args.run c.args.mark from c.requires.late.stands.1 c.requires.fits) is.one_each c.loop-place.invariant.landing
 
 pub carry-requires-clause-present : goal.carry-requires-clause-present
 carry-requires-clause-present g c =
     let from = c.args.from.now in
     let s : Standing = standing_of (g.N.Lines.elements_by_line c.args.lines.now) from in
     let old = g.N.Lines.elements_by_line c.args.old.now in
-    let w = wraps-long (λ cuts. cuts.items) c.args.wraps.now old c.args.run c.args.mark c.requires.wraps c.requires.within in
+    let w = wraps-long (λ cuts. cuts.items) c.args.wraps.now old c.args.run c.args.mark c.requires.late.cuts c.requires.late.within in
     present-fits s old c.args.since.now (c.args.run.first + c.loop-place.place)
     (subst IsPatch c.edits-edits.ensures.value c.edits-edits.ensures.normal)
-    c.requires.since c.requires.stands.0.room.fits.0
-    (omega (arith, w, c.loop-place-test.true, c.requires.within))
+    c.requires.late.leads c.requires.late.stands.0.room.fits.0
+    (omega (arith, w, c.loop-place-test.true, c.requires.late.within))
 
 pub carry-requires-clause-short : goal.carry-requires-clause-short
 carry-requires-clause-short g c =
     let from = c.args.from.now in
     let s : Standing = standing_of (g.N.Lines.elements_by_line c.args.lines.now) from in
-    let is = c.requires.stands.0 in
+    let is = c.requires.late.stands.0 in
     let old = g.N.Lines.elements_by_line c.args.old.now in
     let item = wrap-item (λ cuts. cuts.items) c.args.wraps.now c.loop-place.place c.index-wraps-place.result old c.args.run c.args.mark
-    c.loop-place-test.true c.index-wraps-place.is c.requires.wraps c.requires.within in
+    c.loop-place-test.true c.index-wraps-place.is c.requires.late.cuts c.requires.late.within in
     short-fits s old c.args.since.now c.args.run c.args.mark (c.args.run.first + c.loop-place.place) (length c.index-wraps-place.result.items)
     (subst IsPatch c.edits-edits.ensures.value c.edits-edits.ensures.normal)
-    c.requires.since (fit-from s c.args.since.now c.args.run c.args.mark from c.requires.stands.1 c.requires.fits) is.one_each
-    (omega arith) (omega (arith, item.1)) c.requires.within (ap length item.0)
+    c.requires.late.leads (fit-from s c.args.since.now c.args.run c.args.mark from c.requires.late.stands.1 c.requires.fits) is.one_each
+    (omega arith) (omega (arith, item.1)) c.requires.late.within (ap length item.0)
 
 pub returns-in_err-carry-clause-steps : goal.returns-in_err-carry-clause-steps
 returns-in_err-carry-clause-steps g c h high =
     let from = c.args.from.now in
     let s : Standing = standing_of (g.N.Lines.elements_by_line c.args.lines.now) from in
-    let w = wraps-long (λ cuts. cuts.items) c.args.wraps.now (g.N.Lines.elements_by_line c.args.old.now) c.args.run c.args.mark c.requires.wraps c.requires.within in
+    let w = wraps-long (λ cuts. cuts.items) c.args.wraps.now (g.N.Lines.elements_by_line c.args.old.now) c.args.run c.args.mark c.requires.late.cuts c.requires.late.within in
     landing-closed c.loop-place.place c.args.run.count h (length c.loop-place.landing.fresh) c.args.steps.now c.loop-place.steps c.carry.new.steps
     (c.loop-place.invariant.steps h high) (c.carry.ensures.steps h high) (omega (arith, w, c.loop-place-test.true))
 
@@ -98,19 +98,19 @@ pub loop-place-preserved : goal.loop-place-preserved
 loop-place-preserved g c =
     let from = c.args.from.now in
     let s : Standing = standing_of (g.N.Lines.elements_by_line c.args.lines.now) from in
-    let is = c.requires.stands.0 in
+    let is = c.requires.late.stands.0 in
     let since = c.args.since.now in
     let run = c.args.run in
     let place = c.loop-place.place in
     let old = g.N.Lines.elements_by_line c.args.old.now in
     let item = wrap-item (λ cuts. cuts.items) c.args.wraps.now place c.index-wraps-place.result old run c.args.mark
-    c.loop-place-test.true c.index-wraps-place.is c.requires.wraps c.requires.within in
+    c.loop-place-test.true c.index-wraps-place.is c.requires.late.cuts c.requires.late.within in
     let stood : Stood = record { mark = c.args.mark; cuts = c.index-wraps-place.result.items } in
     let stood-is : stood ≡ stood_with (line_at old (run.first + place)) c.args.mark = ap (λ (cuts : List ℕ). record { mark = c.args.mark; cuts = cuts }) item.0 in
-    let next = landing-carried s old since run c.args.mark c.loop-place.landing (run.first + place) from stood c.requires.stands.1
+    let next = landing-carried s old since run c.args.mark c.loop-place.landing (run.first + place) from stood c.requires.late.stands.1
     (subst IsPatch c.edits-edits.ensures.value c.edits-edits.ensures.normal)
-    c.requires.since is.one_each c.loop-place.invariant.landing
-    (omega arith) (omega (arith, item.1)) c.requires.within stood-is in
+    c.requires.late.leads is.one_each c.loop-place.invariant.landing
+    (omega arith) (omega (arith, item.1)) c.requires.late.within stood-is in
     let before = c.loop-place.invariant.counted in
     let during = c.carry.ensures.counted in
     record {
@@ -125,18 +125,18 @@ pub finish-requires-clause-close : goal.finish-requires-clause-close
 finish-requires-clause-close g c =
     let from = c.args.from.now in
     let s : Standing = standing_of (g.N.Lines.elements_by_line c.args.lines.now) from in
-    let is = c.requires.stands.0 in
-    can-close s c.args.since.now c.args.run c.args.mark c.loop-place.landing (c.args.run.first + c.loop-place.place) from c.requires.stands.1
-    is.room.fits.0 (fit-from s c.args.since.now c.args.run c.args.mark from c.requires.stands.1 c.requires.fits) is.one_each c.loop-place.invariant.landing
+    let is = c.requires.late.stands.0 in
+    can-close s c.args.since.now c.args.run c.args.mark c.loop-place.landing (c.args.run.first + c.loop-place.place) from c.requires.late.stands.1
+    is.room.fits.0 (fit-from s c.args.since.now c.args.run c.args.mark from c.requires.late.stands.1 c.requires.fits) is.one_each c.loop-place.invariant.landing
 
 pub finish-requires-clause-patch : goal.finish-requires-clause-patch
 finish-requires-clause-patch g c =
     let from = c.args.from.now in
     let s : Standing = standing_of (g.N.Lines.elements_by_line c.args.lines.now) from in
     let run = c.args.run in
-    let w = wraps-long (λ cuts. cuts.items) c.args.wraps.now (g.N.Lines.elements_by_line c.args.old.now) run c.args.mark c.requires.wraps c.requires.within in
+    let w = wraps-long (λ cuts. cuts.items) c.args.wraps.now (g.N.Lines.elements_by_line c.args.old.now) run c.args.mark c.requires.late.cuts c.requires.late.within in
     let all : run.first + c.loop-place.place ≡ run.first + run.count = omega (arith, w, c.loop-place-test.false, c.loop-place.auto.place-end) in
-    (landing-finished s c.args.since.now run c.args.mark c.loop-place.landing from c.requires.stands.1 c.requires.stands.0.one_each
+    (landing-finished s c.args.since.now run c.args.mark c.loop-place.landing from c.requires.late.stands.1 c.requires.late.stands.0.one_each
     (subst (IsLandingTo s c.args.since.now run c.args.mark c.loop-place.landing) all c.loop-place.invariant.landing)).rows.normal
 
 pub returns-clause-put : goal.returns-clause-put
@@ -145,10 +145,10 @@ returns-clause-put g c =
     let s : Standing = standing_of (g.N.Lines.elements_by_line c.args.lines.now) from in
     let since = c.args.since.now in
     let run = c.args.run in
-    let w = wraps-long (λ cuts. cuts.items) c.args.wraps.now (g.N.Lines.elements_by_line c.args.old.now) run c.args.mark c.requires.wraps c.requires.within in
+    let w = wraps-long (λ cuts. cuts.items) c.args.wraps.now (g.N.Lines.elements_by_line c.args.old.now) run c.args.mark c.requires.late.cuts c.requires.late.within in
     let all : run.first + c.loop-place.place ≡ run.first + run.count = omega (arith, w, c.loop-place-test.false, c.loop-place.auto.place-end) in
     let f = closed_if_any from c.loop-place.landing in
-    let by : IsPut s since run c.args.mark f.lines f.edits = landing-finished s since run c.args.mark c.loop-place.landing from c.requires.stands.1 c.requires.stands.0.one_each
+    let by : IsPut s since run c.args.mark f.lines f.edits = landing-finished s since run c.args.mark c.loop-place.landing from c.requires.late.stands.1 c.requires.late.stands.0.one_each
     (subst (IsLandingTo s since run c.args.mark c.loop-place.landing) all c.loop-place.invariant.landing) in
     if_ok_both (λ made. made.0 ≡ f.lines) (λ made. made.1 ≡ f.edits) (λ made. IsPut s since run c.args.mark made.0 made.1)
     (λ made a b. put-as s since run c.args.mark made.0 f.lines made.1 f.edits by a b)
@@ -158,6 +158,6 @@ pub returns-clause-steps : goal.returns-clause-steps
 returns-clause-steps g c h high =
     let from = c.args.from.now in
     let s : Standing = standing_of (g.N.Lines.elements_by_line c.args.lines.now) from in
-    let w = wraps-long (λ cuts. cuts.items) c.args.wraps.now (g.N.Lines.elements_by_line c.args.old.now) c.args.run c.args.mark c.requires.wraps c.requires.within in
+    let w = wraps-long (λ cuts. cuts.items) c.args.wraps.now (g.N.Lines.elements_by_line c.args.old.now) c.args.run c.args.mark c.requires.late.cuts c.requires.late.within in
     landing-closed c.loop-place.place c.args.run.count h (length c.loop-place.landing.fresh) c.args.steps.now c.loop-place.steps c.finish.new.steps
     (c.loop-place.invariant.steps h high) (c.finish.ensures.steps h high) (omega (arith, w, c.loop-place.auto.place-end))

@@ -1,8 +1,9 @@
-use Rattle.std.proofs.Common.{◌+◌, ◌-◌, arith}
-use Rattle.wrap_map.proofs.StepSums.{one-more}
+use Rattle.std.proofs.Common.{◌-◌, arith}
+use Rattle.sum_tree.specs.Bounds.{way}
+use Rattle.wrap_map.proofs.Ticks.{seeks-within}
 use Rattle.wrap_map.proofs.waiting.run_from.Goals as goal
 
-pub returns-then-mark-width-clause-steps : goal.returns-then-mark-width-clause-steps
-returns-then-mark-width-clause-steps c h high =
-    one-more (c.loop-line.line - (c.args.first + 1)) 127 (h + 1) c.args.steps.now c.loop-line.steps c.mark.new.steps
-    (c.loop-line.invariant.steps h high) (c.mark.ensures.steps h high) (omega arith)
+pub returns-clause-steps : goal.returns-clause-steps
+returns-clause-steps c h high =
+    seeks-within (c.min-limit.result - c.args.first) 128 (way h) c.args.steps.now c.next_at.new.steps
+    (omega (arith, c.min-limit.ensures, c.saturating_add.ensures)) (c.next_at.ensures.steps h high)

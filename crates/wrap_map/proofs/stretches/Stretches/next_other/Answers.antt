@@ -2,12 +2,11 @@ use Rattle.std.proofs.Common.{◌≡◌, ◌+◌, ℕ, List, None, Some, length,
 use Rattle.std.specs.List.{slice_get}
 use Rattle.sum_tree.specs.Bounds.{TakesAtMost}
 use Rattle.wrap_map.specs.Stood.{IsOther, IsOtherIfAny, Stood}
-use Rattle.wrap_map.specs.declared.extent.Ends.{Ends}
 use Rattle.wrap_map.specs.declared.extent.Extent.{Extent}
 use Rattle.wrap_map.specs.inside.Bounds.{two_ways}
-use Rattle.wrap_map.specs.inside.Extents.{switch_between}
-use Rattle.wrap_map.specs.inside.Stretches.{spread}
-use Rattle.wrap_map.proofs.Others.{IsAtSwitch, ends_of, none-other, none-past, other-behind, other-here, switches-next, switches_to}
+use Rattle.wrap_map.specs.inside.Extents.{joined_extents}
+use Rattle.wrap_map.specs.inside.Stretches.{extent_of, spread}
+use Rattle.wrap_map.proofs.Others.{IsAtSwitch, next-is, none-other, none-past, other-behind, other-here, switches_to}
 use Rattle.wrap_map.proofs.Parts.{before-lines, found-none, found-some}
 use Rattle.wrap_map.proofs.Ticks.{one-seek, two-seeks}
 use Rattle.wrap_map.proofs.stretches.Stretches.next_other.Goals as goal
@@ -40,10 +39,10 @@ at_switch c =
     let ss = c.self.inside.tree in
     let f = c.find-found.result in
     let s = c.in-Some.stretch.now in
-    let target : f.before.switches + c.switch_between-change.result ≡ switches_to ss (f.index + 1) =
-    ap (λ (n : ℕ). f.before.switches + n) (c.switch_between-change.ensures ∙ ap (λ (e : Ends). switch_between f.before.ends (Some e)) c.ends.ensures)
-    ∙ ap (λ (t : Extent). t.switches + switch_between t.ends (Some (ends_of s))) c.find-found.ensures.before
-    ∙ sym (switches-next ss f.index s (here c)) in
+    let target : c.changes_through-changes.result ≡ switches_to ss (f.index + 1) =
+    c.changes_through-changes.ensures
+    ∙ ap (λ (t : Extent). (joined_extents t (extent_of s)).switches) c.find-found.ensures.before
+    ∙ sym (ap (λ (t : Extent). t.switches) (next-is ss f.index s (here c))) in
     subst (λ (n : ℕ). IsAtSwitch ss n c.find-other.result.index) target c.find-other.ensures.first
 
 pub returns-in-Some-item-clause-other : goal.returns-in-Some-item-clause-other

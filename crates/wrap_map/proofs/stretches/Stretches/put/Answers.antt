@@ -1,12 +1,12 @@
-use Rattle.std.proofs.Common.{◌+◌, ◌<◌, ◌≤◌, ◌^◌, List, length, ap, sym, subst, ◌∙◌}
+use Rattle.std.proofs.Common.{◌+◌, ◌<◌, ◌≤◌, ◌^◌, List, length, take, ap, sym, subst, ◌∙◌}
 use Rattle.wrap_map.specs.Stood.{Stood, put_in, rows_in}
 use Rattle.wrap_map.specs.inside.Bounds.{PutsAtMost}
 use Rattle.wrap_map.specs.inside.Gathering.{gathered}
 use Rattle.wrap_map.specs.inside.Stretches.{AreStretches, Stretched, spread}
-use Rattle.wrap_map.proofs.Puts.{IsPlaced, either, first-room, on_ok, placed, put-placed, second-room}
+use Rattle.wrap_map.proofs.Puts.{IsPlaced, either, first-room, placed, put-placed, second-room}
 use Rattle.wrap_map.proofs.Ticks.{put-first, put-second, put-ticks}
 use Rattle.wrap_map.proofs.stretches.Stretches.put.Goals as goal
-use Rattle.wrap_map.proofs.stretches.Stretches.put.Goals.{After-part_behind, In_ok-gather-2}
+use Rattle.wrap_map.proofs.stretches.Stretches.put.Goals.{After-part_behind, After-replace, In_ok-gather-2}
 
 pub returns-in_err-head-clause-steps : goal.returns-in_err-head-clause-steps
 returns-in_err-head-clause-steps c =
@@ -80,14 +80,31 @@ invariant_of-self c =
 pub returns-clause-put : goal.returns-clause-put
 returns-clause-put c =
     let m = made (goal.at.returns-clause-put c).In_ok-gather-2 in
-    on_ok c.replace.result _ _ c.replace.ensures.ok
-    (λ e. ap spread e ∙ m.spread_is ∙ ap (put_in c.args.start c.args.end (spread c.args.fresh.items)) c.self.view_is)
+    ap spread c.in_ok-replace.ensures.ok ∙ m.spread_is ∙ ap (put_in c.args.start c.args.end (spread c.args.fresh.items)) c.self.view_is
 
-pub returns-clause-steps : goal.returns-clause-steps
-returns-clause-steps c =
-    let m = made (goal.at.returns-clause-steps c).In_ok-gather-2 in
+-- the seeks and the replacement
+third : (c : After-replace) → PutsAtMost c.args.start c.args.end c.args.fresh.items c.args.self.now c.args.steps.now c.replace.new.steps
+third c =
+    let m = made (goal.at-After-replace c).In_ok-gather-2 in
     let ss = c.self.inside.tree in
     subst (λ (l : List Stood). PutsAtMost c.args.start c.args.end c.args.fresh.items l c.args.steps.now c.replace.new.steps) c.self.view_is
     (put-ticks ss (placed ss c.in_ok-head.head.at c.gather-2.new.stretches.items c.in_ok-tail.tail.at) (length c.args.fresh.items) (length c.gather-2.new.stretches.items)
     (length (put_in c.args.start c.args.end (spread c.args.fresh.items) (spread ss))) c.args.steps.now c.part_before.new.steps c.part_behind.new.steps c.replace.new.steps
     c.self.invariant.0.each m.fewer m.few c.part_before.ensures.steps c.part_behind.ensures.steps c.replace.ensures.steps)
+
+pub returns-in_err-replace-clause-steps : goal.returns-in_err-replace-clause-steps
+returns-in_err-replace-clause-steps c = third (goal.at.returns-in_err-replace-clause-steps c).After-replace
+
+pub returns-clause-steps : goal.returns-clause-steps
+returns-clause-steps c = third (goal.at.returns-clause-steps c).After-replace
+
+pub invariant_of-self-2 : goal.invariant_of-self-2
+invariant_of-self-2 c =
+    let m = made (goal.at.invariant_of-self-2 c).In_ok-gather-2 in
+    (subst (λ (l : List Stretched). AreStretches l) (sym c.in_ok-replace.ensures.ok) m.are, c.self.invariant.1)
+
+pub returns-clause-rows : goal.returns-clause-rows
+returns-clause-rows c = record {
+  start_is = c.in_ok-head.ensures.rows ∙ ap (λ (l : List Stood). rows_in (take c.args.start l)) c.self.view_is;
+  end_is = c.in_ok-tail.ensures.rows ∙ ap (λ (l : List Stood). rows_in (take c.args.end l)) c.self.view_is;
+}
