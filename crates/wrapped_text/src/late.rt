@@ -58,6 +58,7 @@ impl LateText {
         ensures taken { IfOk result (λ run. IfSome run (λ run. self.new.run ≡ run)) }
         ensures width { IfOk result (λ run. IfSome run (λ _. self.new.width ≡ self.old.text.width)) }
         ensures map { self.new.text.map ≡ self.old.text.map }
+        ensures text { self.new.text.rope ≡ self.old.text.rope }
     {
         let Some(run) = self.text.map.next_run(&[], steps) else {
             return Ok(None);

@@ -9,4 +9,5 @@ mod text;
 
 pub use callers::{wrap_next, wraps};
 pub use late::LateText;
+pub use since::{followed, patch_of};
 pub use text::{Change, Shown, TAB, WrappedText};

@@ -10,7 +10,7 @@ use edit_patch::{Edit, Patch};
 use std::alloc::Global;
 
 /// The patch of a replacement, if there was one.
-fn patch_of(alloc: Global, lines: Option<Shift>) -> Result<Patch, NoMemory>
+pub fn patch_of(alloc: Global, lines: Option<Shift>) -> Result<Patch, NoMemory>
     requires { IfSome lines (λ s. s.start + s.count < 2 ^ 32) }
     ensures { IfOk result (λ patch. patch ≡ patch_of lines) }
 {
@@ -29,7 +29,7 @@ fn patch_of(alloc: Global, lines: Option<Shift>) -> Result<Patch, NoMemory>
 }
 
 /// The patch from the first lines to those of now, by that to the ones before and what was replaced of them.
-pub(crate) fn followed<N: Lines>(
+pub fn followed<N: Lines>(
     alloc: Global,
     since: &Patch,
     first: &N,

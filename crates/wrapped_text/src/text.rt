@@ -7,11 +7,12 @@ ghost use Rattle.cell_units.specs.Operation.{replaced_text};
 ghost use Rattle.cell_units.specs.Text.{clean};
 ghost use Rattle.edit_patch.specs.Fits.{Fits};
 ghost use Rattle.shifted_lists.specs.Leads.{LeadsBy};
-ghost use Rattle.tab_map.specs.TabLines.{LinesFollow, lines_at};
+ghost use Rattle.tab_map.specs.TabLines.{AreMet, LinesFollow, lines_at};
+ghost use Rattle.text_rope.specs.Edits.{IsRange};
 ghost use Rattle.wrap_map.specs.Landing.{IsLanded, cuts_of_run};
-ghost use Rattle.wrap_map.specs.Standing.{IsSynced, all_at};
+ghost use Rattle.wrap_map.specs.Standing.{IsSynced};
 ghost use Rattle.wrap_map.specs.Waiting.{IsNextIfAny};
-ghost use Rattle.wrapped_text.specs.Shown.{HaveRoom, IsWrapped, MayStand};
+ghost use Rattle.wrapped_text.specs.Shown.{AreLinesMet, HaveRoom, IsWrapped, MayStand, lines_of, tabs_of, unwrapped_at};
 
 use crate::callers::{wrap_next, wraps};
 use cell_line::{Cuts, Lines, Run};
@@ -44,8 +45,8 @@ pub struct WrappedText {
     pub lines: TabSnapshot<Rope>,
     pub map: WrapMap<TabSnapshot<Rope>>,
     pub width: u32,
-    ghost tabbed: { tabs ≡ record { source = plain_source rope; tab = 4; before = None } },
-    ghost lines_are: { lines ≡ lines_at (plain_source rope) 4 },
+    ghost tabbed: { tabs ≡ tabs_of rope },
+    ghost lines_are: { lines ≡ lines_of rope },
     ghost fit: { FitsU32 lines },
     ghost room: { HaveRoom lines },
     ghost mapped: { map.standing.lines ≡ lines },
@@ -55,10 +56,10 @@ pub struct WrappedText {
 
 /// A tab map of a text, and the lines that it shows.
 fn tabbed(alloc: Global, rope: &Rope) -> Result<(TabMap<Rope>, TabSnapshot<Rope>), NoMemory>
-    ensures map { IfOk result (λ made. made.0 ≡ record { source = plain_source rope.now; tab = 4; before = None }) }
-    ensures lines { IfOk result (λ made. made.1 ≡ lines_at (plain_source rope.now) 4) }
-    ensures fit { OnOk result (FitsU32 (lines_at (plain_source rope.now) 4)) }
-    ensures room { OnOk result (HaveRoom (lines_at (plain_source rope.now) 4)) }
+    ensures map { IfOk result (λ made. made.0 ≡ tabs_of rope.now) }
+    ensures lines { IfOk result (λ made. made.1 ≡ lines_of rope.now) }
+    ensures fit { OnOk result (FitsU32 (lines_of rope.now)) }
+    ensures room { OnOk result (HaveRoom (lines_of rope.now)) }
 {
     // A text is short.
     let _bytes = rope.len();
@@ -77,11 +78,13 @@ fn follow(
     requires follow { LinesFollow tabs.old.source (plain_source rope.now) (Some below) }
     requires tab { tabs.old.tab ≡ 4 }
     requires before { tabs.old.before ≡ None }
-    ensures tabs { OnOk result (tabs.new ≡ record { source = plain_source rope.now; tab = 4; before = None }) }
-    ensures lines { IfOk result (λ made. made.0 ≡ lines_at (plain_source rope.now) 4) }
-    ensures fit { OnOk result (FitsU32 (lines_at (plain_source rope.now) 4)) }
-    ensures room { OnOk result (HaveRoom (lines_at (plain_source rope.now) 4)) }
-    ensures leads { IfOk result (λ made. LeadsBy (lines_at tabs.old.source 4) (lines_at (plain_source rope.now) 4) made.1) }
+    ensures tabs { OnOk result (tabs.new ≡ tabs_of rope.now) }
+    ensures lines { IfOk result (λ made. made.0 ≡ lines_of rope.now) }
+    ensures fit { OnOk result (FitsU32 (lines_of rope.now)) }
+    ensures room { OnOk result (HaveRoom (lines_of rope.now)) }
+    ensures leads { IfOk result (λ made. LeadsBy (lines_at tabs.old.source 4) (lines_of rope.now) made.1) }
+    ensures met { let source = plain_source rope.now in
+        IfOk result (λ made. AreMet tabs.old.source source (Some below) made.1) }
 {
     // A text is short.
     let _bytes = rope.len();
@@ -98,7 +101,7 @@ impl WrappedText {
     ) -> Result<WrappedText, NoMemory>
         requires { IsWidth width }
         ensures text { IfOk result (λ made. made.rope ≡ rope) }
-        ensures map { IfOk result (λ made. made.map ≡ record { standing = all_at 0 made.lines; width = width }) }
+        ensures map { IfOk result (λ made. made.map ≡ unwrapped_at width made.lines) }
     {
         let (tabs, lines) = tabbed(alloc, &rope)?;
         let map = WrapMap::new(alloc, lines.share()?, width, steps)?;
@@ -114,6 +117,7 @@ impl WrappedText {
     /// Sets the width that the lines are to stand at. `BadNumber` where it is neither 0 nor 2 to 10,000.
     pub fn set_width(&mut self, width: u32) -> Result<(), Refusal>
         ensures set { OnOk result (self.new.map ≡ record self.old.map { width = width }) }
+        ensures text { self.new.rope ≡ self.old.rope }
         ensures refused { IfErr result (λ refusal. (refusal ≡ Refusal.BadNumber) × (¬ IsWidth width)) }
         ensures unchanged { OnErr result (self.new ≡ self.old) }
     {
@@ -131,9 +135,12 @@ impl WrappedText {
         text: &str,
         steps: &mut Steps,
     ) -> Result<Change, Fault>
+        ensures range { OnOk result (IsRange self.old.rope start end) }
         ensures text { let made = replaced_text self.old.rope start end (clean text.now) in
             OnOk result (self.new.rope ≡ made) }
         ensures leads { IfOk result (λ made. LeadsBy self.old.lines self.new.lines made.lines) }
+        ensures met { let count = length (clean text.now) in
+            IfOk result (λ made. AreLinesMet self.old.rope self.new.rope start end count made.lines) }
         ensures shown { let old = self.old.map in let lines = self.new.lines in
             IfOk result (λ made. IsSynced old lines made.lines self.new.map made.shown made.rows) }
         ensures unchanged { OnErr result (self.new ≡ self.old) }

@@ -4,7 +4,7 @@ use Rattle.cell_units.specs.Layers.{plain_source}
 use Rattle.cell_line.specs.Lines.{FitsU32}
 use Rattle.tab_map.specs.TabLines.{lines_at}
 use Rattle.tab_map.proofs.PlainTexts.{plain-fits}
-use Rattle.wrapped_text.proofs.Texts.{leads-told, text-room}
+use Rattle.wrapped_text.proofs.Texts.{leads-told, met-told, text-room}
 use Rattle.wrapped_text.proofs.text.follow.Goals as goal
 
 pub sync-requires-clause-fits : goal.sync-requires-clause-fits
@@ -29,4 +29,10 @@ pub returns-clause-leads : goal.returns-clause-leads
 returns-clause-leads c =
     IfOk-weaker c.sync.result _ _
     (λ made e. leads-told c.args.tabs.now c.args.rope.now c.in_ok-share.field-0 _ _ made.0 made.1 c.requires.tab c.requires.before c.in_ok-share.ensures e)
+    c.sync.ensures.synced
+
+pub returns-clause-met : goal.returns-clause-met
+returns-clause-met c =
+    IfOk-weaker c.sync.result _ _
+    (λ made e. met-told c.args.tabs.now c.args.rope.now c.in_ok-share.field-0 _ _ made.0 made.1 c.requires.before c.in_ok-share.ensures e)
     c.sync.ensures.synced
