@@ -1,0 +1,5 @@
+pub mod Belong
+pub mod Follows
+pub mod Reaches
+pub mod Sent
+pub mod Texts

@@ -1,0 +1,37 @@
+//! The caller that the page of the fold map shows.
+ghost use Rattle.std.specs.Prelude.{◌≡◌, option_map, IfOk, OnErr, OnOk};
+ghost use Rattle.shifted_lists.specs.Leads.{reach_of};
+ghost use Rattle.folded_text.specs.Shown.{BelongTogether, IsReplacedIfAny, folds_shown, inlays_shown};
+
+use cell_units::{Layer, NoMemory, Shift, Steps};
+use fold_map::{FoldMap, FoldSnapshot};
+use inlay_map::{InlayMap, InlaySnapshot};
+use std::alloc::Global;
+use text_rope::Rope;
+
+/// Shows a text with its inlays and folds, after the replacement that led to it, if there was one. It gives the snapshot, and what
+/// of it is new.
+pub fn show(
+    alloc: Global,
+    inlays: &mut InlayMap,
+    folds: &mut FoldMap<InlaySnapshot>,
+    rope: Rope,
+    shift: Option<Shift>,
+    steps: &mut Steps,
+) -> Result<(FoldSnapshot<InlaySnapshot>, Option<Shift>), NoMemory>
+    requires belong { BelongTogether inlays.old.current.text inlays.old folds.old }
+    requires text { IsReplacedIfAny inlays.old.current.text rope (option_map reach_of shift) }
+    ensures inlays { OnOk result (inlays.new ≡ inlays_shown rope (option_map reach_of shift) inlays.old) }
+    ensures folds { let replaced = option_map reach_of shift in
+        OnOk result (folds.new ≡ folds_shown rope replaced inlays.old folds.old) }
+    ensures belong { OnOk result (BelongTogether rope inlays.new folds.new) }
+    ensures shown { IfOk result (λ shown. shown.0 ≡ folds.new.current) }
+    ensures err { OnErr result (folds.new ≡ folds.old) }
+{
+    // The text is within its limit, and the inlays and the folds fit it.
+    let _sizes = (rope.len(), inlays.len(), folds.len());
+    let (layer, below) = inlays.sync(alloc, rope, shift, steps)?;
+    // The inlays do so then.
+    let _len = layer.buffer_len();
+    folds.sync(alloc, layer, shift, below, steps)
+}

@@ -1,0 +1,9 @@
+//! A text under the maps of its inlays and its folds, which change together: what the tests and the timings of the fold map stand
+//! over, and how those maps are joined.
+#![tactic(auto)]
+
+mod callers;
+mod text;
+
+pub use callers::show;
+pub use text::{FoldedText, Shown};
