@@ -1,0 +1,8 @@
+//! A text under its maps with blocks between its rows, which change together: how the block map is joined to those below it.
+#![tactic(auto)]
+
+mod callers;
+mod rows;
+
+pub use callers::{Replaced, land, replace, show};
+pub use rows::BlockRows;
