@@ -1,0 +1,172 @@
+//! Random changes of a text under its maps, each beside the same change of plain lists.
+use crate::checks::{Change, Shown, agrees, answers, answers_change, leads};
+use crate::laid::{Laid, Replaced};
+use crate::plain::{IDS, PlainText, WORDS, bytes_of, given};
+use crate::random::Numbers;
+use cell_units::{Bias, Fault, NoMemory};
+use std::alloc::Global;
+use std::test::Fail;
+
+/// A text under its maps and the same by plain lists, changed together.
+#[derive(Drop)]
+struct History {
+    laid: Laid,
+    plain: PlainText,
+    shown: Shown,
+    /// The changes since the last snapshot: how many there were, and the last one.
+    changes: u32,
+    last: Change,
+    numbers: Numbers,
+}
+
+impl History {
+    /// An empty text.
+    fn new(alloc: Global, seed: u64) -> Result<History, Fail> {
+        let plain = PlainText::new(alloc)?;
+        let shown = Shown::of(&plain)?;
+        Ok(History {
+            laid: Laid::new(alloc, "")?,
+            plain,
+            shown,
+            changes: 0,
+            last: Change::at_row(0),
+            numbers: Numbers::new(seed),
+        })
+    }
+
+    /// Takes so many turns. It gives the first after which the two don't agree.
+    fn first_difference(&mut self, turns: u32) -> Result<Option<u32>, NoMemory> {
+        for turn in 0..turns {
+            if !self.agrees_once_more()? {
+                return Ok(Some(turn));
+            }
+        }
+        Ok(None)
+    }
+
+    /// Makes a random change of both, or shows both, and tells whether they agree.
+    fn agrees_once_more(&mut self) -> Result<bool, NoMemory> {
+        match self.numbers.below(20) {
+            0..=3 => Ok(self.insert()),
+            4 | 5 => Ok(self.remove()),
+            6..=9 => Ok(self.fold()),
+            10 | 11 => Ok(self.unfold()),
+            12 | 13 => {
+                let answer = self.laid.sync()?;
+                self.shows_both(answer, None)
+            }
+            _ => self.edit(),
+        }
+    }
+
+    /// Notes a change that was accepted.
+    fn note(&mut self, change: Change) {
+        self.changes = self.changes.wrapping_add(1);
+        self.last = change;
+    }
+
+    fn insert(&mut self) -> bool {
+        let id = self.numbers.below(IDS);
+        let offset = self.numbers.below(self.plain.len().saturating_add(2));
+        let bias = if self.numbers.below(2) == 0 {
+            Bias::Left
+        } else {
+            Bias::Right
+        };
+        let word = self.numbers.below(WORDS);
+        let refusal = self.plain.insert(id, offset, bias, word);
+        if refusal.is_none() {
+            let change = Change::at_row(self.plain.row(offset));
+            self.note(change);
+        }
+        answers(self.laid.insert(id, offset, bias, given(word)), refusal)
+    }
+
+    fn remove(&mut self) -> bool {
+        let id = self.numbers.below(IDS);
+        if let Some(offset) = self.plain.offset_of(id) {
+            let change = Change::at_row(self.plain.row(offset));
+            self.note(change);
+        }
+        let refusal = self.plain.remove(id);
+        answers(self.laid.remove(id), refusal)
+    }
+
+    /// Folds a range, which may be empty, backwards or past the end.
+    fn fold(&mut self) -> bool {
+        let id = self.numbers.below(IDS);
+        let start = self.numbers.below(self.plain.len().saturating_add(2));
+        let end = start.wrapping_add(self.numbers.below(12)).wrapping_sub(2);
+        let refusal = self.plain.fold(id, start, end);
+        if refusal.is_none() {
+            let change = Change::of_fold(&self.plain, start, end);
+            self.note(change);
+        }
+        answers(self.laid.fold(id, start, end), refusal)
+    }
+
+    fn unfold(&mut self) -> bool {
+        let id = self.numbers.below(IDS);
+        if let Some(fold) = self.plain.fold_of(id) {
+            let change = Change::of_fold(&self.plain, fold.start, fold.end);
+            self.note(change);
+        }
+        let refusal = self.plain.unfold(id);
+        answers(self.laid.unfold(id), refusal)
+    }
+
+    /// Replaces a short range, which may be backwards or past the end.
+    fn edit(&mut self) -> Result<bool, NoMemory> {
+        let start = self.numbers.below(self.plain.len().saturating_add(1));
+        let end = start.wrapping_add(self.numbers.below(5)).wrapping_sub(1);
+        let word = self.numbers.below(WORDS);
+        let before = (self.plain.row(start), self.plain.row(end));
+        let refusal = self.plain.edit(start, end, word)?;
+        let count = bytes_of(word);
+        match self.laid.edit(start, end, given(word)) {
+            Ok(answer) => {
+                let come = start.wrapping_add(count);
+                let after = (self.plain.row(start), self.plain.row(come));
+                self.note(Change {
+                    before,
+                    after,
+                    fold: None,
+                });
+                Ok(refusal.is_none() && self.shows_both(answer, Some((start, end, count)))?)
+            }
+            Err(fault) => Ok(answers(Err(fault), refusal)),
+        }
+    }
+
+    /// Whether a snapshot shows what is written out, and the replacement leads to it from what was shown before. Where there was
+    /// one change, it answers that; where there was none, there is none.
+    fn shows_both(&mut self, answer: Replaced, edit: Replaced) -> Result<bool, NoMemory> {
+        let shown = Shown::of(&self.plain)?;
+        let is_exact = match self.changes {
+            0 => answer.is_none(),
+            1 => answers_change(&self.plain, &self.shown, &shown, answer, self.last),
+            _ => true,
+        };
+        let agree = is_exact
+            && leads(&self.shown, &shown, answer, edit)
+            && agrees(self.laid.alloc(), &self.laid.shown, &self.plain, &shown)?;
+        self.shown = shown;
+        self.changes = 0;
+        Ok(agree)
+    }
+}
+
+/// Takes so many turns over an empty text. It gives the first after which the maps and the lists don't agree.
+fn differ_at(alloc: Global, seed: u64, turns: u32) -> Result<Option<u32>, Fail> {
+    let mut history = History::new(alloc, seed)?;
+    Ok(history.first_difference(turns)?)
+}
+
+/// After each of 2,000 random changes in four histories, refused ones among them, the maps agree with the text that is written out.
+#[test]
+fn random_changes_show_the_text_written_out(rt: HostRuntime) -> Result<(), Fail> {
+    for seed in 1..5 {
+        assert_eq!(rt; differ_at(rt.alloc(), seed, 500)?, None);
+    }
+    Ok(())
+}
