@@ -1,14 +1,12 @@
 -- Where a search by one measure ends.
-use Rattle.std.proofs.Common.{◌≡◌, ℕ, ◌+◌, ◌-◌, ◌<◌, ◌≤◌, true, false, List, length, take, subst, sym, ap, arith}
+use Rattle.std.proofs.Common.{◌≡◌, ℕ, ◌<◌, ◌≤◌, true, false, arith}
 use Rattle.std.specs.Ordering.{is_lt, is_le, nat_cmp}
 use Rattle.std.proofs.lemmas.Bool.Decides.{nat_tests}
 use Rattle.cell_units.specs.declared.place.Bias.{Bias}
 use Rattle.cell_units.specs.declared.place.Bias.TheVariants.{Left, Right}
-use Rattle.sum_core.specs.Sums.{total}
-use Rattle.sum_core.specs.ByMeasures.{by_sum}
 use Rattle.sum_core.specs.declared.measure.By.{By}
 use Rattle.sum_tree.specs.Cursors.{is_reached}
-use Rattle.sum_tree.specs.Firsts.{IsFirst, IsShort, IsReaching, number_to}
+use Rattle.sum_tree.specs.Firsts.{IsShort, IsReaching}
 
 above-from_not_lt : (m n : ℕ) → is_lt (nat_cmp m n) ≡ false → n ≤ m
 above-from_not_lt m n e = grind (arith, nat_tests)

@@ -1,5 +1,5 @@
 -- The first item that passes a test, of lists one behind the other and of the items below children.
-use Rattle.std.proofs.Common.{◌≡◌, ℕ, ◌+◌, ◌-◌, ◌<◌, ◌≤◌, zero, suc, Bool, true, false, cond, not, nat_lt, None, Some, List, [], ◌∷◌, ◌++◌, ◌||◌, ◌∙◌, length, map, take, drop, get_or, refl, ap, sym, subst, inl, inr, arith, length-append}
+use Rattle.std.proofs.Common.{◌≡◌, ℕ, ◌+◌, ◌-◌, ◌<◌, ◌≤◌, suc, Bool, true, false, cond, not, nat_lt, None, Some, List, [], ◌∷◌, ◌++◌, ◌||◌, ◌∙◌, length, map, take, drop, get_or, refl, ap, sym, inl, inr, arith, length-append}
 use Rattle.std.specs.List.{list_any, position, position_or_len}
 use Rattle.std.specs.Prelude.{All}
 use Rattle.std.proofs.lemmas.Bool.{cases_lt}

@@ -1,5 +1,5 @@
 //! One node or two from at most 24 entries.
-ghost use Rattle.std.specs.Prelude.{◌≡◌, ◌+◌, ◌-◌, ◌^◌, ◌<◌, ◌≤◌, ◌++◌, ◌∷◌, [], IfOk, map, length, vec_len, min};
+ghost use Rattle.std.specs.Prelude.{◌≡◌, ◌+◌, ◌-◌, ◌/◌, ◌^◌, ◌<◌, ◌≤◌, ◌++◌, ◌∷◌, [], IfOk, map, length, vec_len, min};
 ghost use Rattle.sum_core.specs.Nodes.{child_value, items_in};
 ghost use Rattle.sum_tree.specs.inside.Nodes.{AreChildren, ArePacked, IsWideChild, SumFits, items_below, sum_of};
 
@@ -109,6 +109,18 @@ fn two<T: Item>(alloc: Global, left: Child<T>, right: Child<T>) -> Result<Vec<Ch
     Ok(pieces)
 }
 
+/// The first half of a list, and what lies behind it. The first half gives back the room that it doesn't use: a tree that
+/// grows at its end would else keep half of its memory empty.
+fn halves<T: Drop>(list: Vec<T>) -> Result<(Vec<T>, Vec<T>), NoMemory>
+    ensures joined { IfOk result (λ h. list.items ≡ h.0.items ++ h.1.items) }
+    ensures front { IfOk result (λ h. vec_len h.0 ≡ vec_len list / 2) }
+{
+    let mut front = list;
+    let back = front.split_off(front.len() / 2)?;
+    front.shrink_to_fit();
+    Ok((front, back))
+}
+
 /// One leaf or two with the items. Of two, each is at least half full.
 pub fn pack_items<T: Item>(
     alloc: Global,
@@ -126,10 +138,9 @@ pub fn pack_items<T: Item>(
         let only = make_leaf(alloc, items, steps)?;
         one(alloc, only)
     } else {
-        let mut items = items;
-        let rest = items.split_off(items.len() / 2)?;
-        let left = make_leaf(alloc, items, steps)?;
-        let right = make_leaf(alloc, rest, steps)?;
+        let (front, back) = halves(items)?;
+        let left = make_leaf(alloc, front, steps)?;
+        let right = make_leaf(alloc, back, steps)?;
         two(alloc, left, right)
     }
 }
@@ -156,10 +167,9 @@ pub fn pack_children<T: Item>(
         let only = make_inner(alloc, children, height, steps)?;
         one(alloc, only)
     } else {
-        let mut children = children;
-        let rest = children.split_off(children.len() / 2)?;
-        let left = make_inner(alloc, children, height, steps)?;
-        let right = make_inner(alloc, rest, height, steps)?;
+        let (front, back) = halves(children)?;
+        let left = make_inner(alloc, front, height, steps)?;
+        let right = make_inner(alloc, back, height, steps)?;
         two(alloc, left, right)
     }
 }

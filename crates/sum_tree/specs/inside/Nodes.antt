@@ -1,8 +1,8 @@
 -- The words of clauses on nodes, on children as they stand in a node, and on trees. `items` and `sums` are what a function's bounds
 -- say of items and of their sums.
-use Rattle.std.specs.Prelude.{ℕ, min, List, length, map}
+use Rattle.std.specs.Prelude.{ℕ, min, List, map}
 use Rattle.sum_core.specs.Sums.{total}
-use Rattle.sum_core.specs.Nodes.{IsLawful, IsRoot, IsChild, IsChildList, contents, width, entries_of, child_value, items_of, items_under}
+use Rattle.sum_core.specs.Nodes.{IsLawful, IsRoot, IsChild, IsChildList, contents, width, entries_of, child_value, items_under}
 use Rattle.sum_core.specs.declared.node.Child.{Child}
 use Rattle.sum_core.specs.declared.node.Node.{Node}
 use Rattle.sum_core.specs.declared.summary.Item.{Ghosts as Items}

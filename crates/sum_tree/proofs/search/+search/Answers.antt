@@ -1,11 +1,11 @@
-use Rattle.std.proofs.Common.{◌≡◌, ◌∙◌, ◌++◌, ◌+◌, ◌≤◌, ap, sym, subst, not, arith, length, map, take, drop}
+use Rattle.std.proofs.Common.{◌∙◌, ◌++◌, ◌+◌, ◌≤◌, ap, sym, not, arith, length, map, take, drop}
 use Rattle.std.specs.List.{position_or_len}
 use Rattle.std.proofs.lemmas.List.{length-map, take_all}
 use Rattle.std.proofs.lemmas.List.Sums.{prefix_len-le-length}
-use Rattle.sum_core.specs.Nodes.{IsLawful, child_value, contents, entries_of, items_in, items_under, items_of, width}
+use Rattle.sum_core.specs.Nodes.{IsLawful, child_value, entries_of, items_in, items_under, width}
 use Rattle.sum_core.proofs.Children.{children-at, items-split, items-taken, taken-small}
 use Rattle.sum_core.proofs.Heights.{some-below}
-use Rattle.sum_core.proofs.Levels.{seen, items-seen, items-leaf, lawful_below, inner-high, contents-Leaf}
+use Rattle.sum_core.proofs.Levels.{seen, items-seen, lawful_below, inner-high}
 use Rattle.sum_tree.proofs.Positions.{position-in, position-missed, position-past, taken-more, many-below}
 use Rattle.sum_tree.proofs.search.+search.Goals as goal
 

@@ -1,4 +1,4 @@
-use Rattle.std.proofs.Common.{◌≡◌, ◌∙◌, ap, sym, arith, not, length}
+use Rattle.std.proofs.Common.{◌∙◌, ap, sym, arith, not}
 use Rattle.std.proofs.lemmas.List.Sums.{prefix_len-le-length}
 use Rattle.sum_tree.proofs.Positions.{stops-at, goes_past}
 use Rattle.sum_tree.proofs.search.items_before.Goals as goal

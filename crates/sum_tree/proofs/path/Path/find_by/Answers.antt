@@ -1,9 +1,8 @@
-use Rattle.std.proofs.Common.{ℕ, ◌≡◌, ◌+◌, ◌<◌, ◌≤◌, ◌∙◌, length, take, subst, sym, ap, arith}
+use Rattle.std.proofs.Common.{◌≡◌, ◌+◌, ◌∙◌, length, subst, sym, ap, arith}
 use Rattle.std.proofs.lemmas.Option.{slice_get_past}
 use Rattle.sum_core.specs.ByMeasures.{by_sum}
-use Rattle.sum_core.specs.declared.measure.By.{By}
 use Rattle.sum_tree.specs.Cursors.{measure_to}
-use Rattle.sum_tree.specs.Firsts.{IsFirst, IsShort, IsReaching, number_to}
+use Rattle.sum_tree.specs.Firsts.{IsShort, IsReaching, number_to}
 use Rattle.sum_tree.specs.inside.Paths.{items_seen}
 use Rattle.sum_tree.proofs.Firsts.{short-from_test, reaching-from_test}
 use Rattle.sum_tree.proofs.path.Path.find_by.Goals as goal

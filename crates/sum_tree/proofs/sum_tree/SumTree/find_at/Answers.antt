@@ -1,4 +1,4 @@
-use Rattle.std.proofs.Common.{◌≡◌, ◌*◌, ◌^◌, ◌+◌, ◌<◌, ◌≤◌, ap, arith, length}
+use Rattle.std.proofs.Common.{◌*◌, ◌^◌, ◌+◌, ◌<◌, ap, arith, length}
 use Rattle.sum_tree.specs.inside.Paths.{items_seen}
 use Rattle.sum_tree.proofs.PlaceLists.{seen-at}
 use Rattle.sum_tree.proofs.sum_tree.SumTree.find_at.Goals as goal

@@ -1,4 +1,4 @@
-use Rattle.std.proofs.Common.{◌≡◌, ◌∙◌, None, ap, sym, subst}
+use Rattle.std.proofs.Common.{◌∙◌, ap, sym, subst}
 use Rattle.std.specs.List.{position}
 use Rattle.sum_core.specs.Nodes.{items_of}
 use Rattle.sum_tree.specs.inside.Trees.{IsHeld, items_held}
