@@ -45,7 +45,8 @@ pub fn written_laws()
 
 /// Words that have a reading. It does nothing.
 pub fn worked_plans()
-    ensures two_names { reading (spaced (codes "a b")) ≡ Some (of_names (codes "a") (codes "b") 1 0) }
+    ensures two_names { reading (spaced (codes "a b"))
+        ≡ Some (of_names (codes "a") (codes "b") 1 0) }
     ensures options_around { reading (spaced (codes "--watch 2 a b --workers=8"))
         ≡ Some (of_names (codes "a") (codes "b") 8 2) }
     ensures made { reading (spaced (codes "--make 7 --workers 2")) ≡ Some (of_seed 7 2 0) }

@@ -9,6 +9,7 @@ use Rattle.cell_units.specs.declared.limits.TheConstants.{TEXT_LIMIT}
 use Rattle.cell_units.specs.Refusal.{IsAccepted}
 use Rattle.display_map.specs.Events.{event_limit}
 use Rattle.display_map.specs.Replay.{present_of}
+use Rattle.display_owner.specs.declared.owner.TheConstants.{EVENTS_AHEAD}
 use Rattle.board_watch.specs.declared.seen.Seen.{Seen}
 use Rattle.board_watch.specs.Watching.{AreRising, IsWatched}
 use Rattle.command_words.specs.declared.plan.Plan.{Plan}
@@ -154,10 +155,10 @@ abbrev pub asked_by_next : Record → Option (ℕ × Entry) → ℕ
 asked_by_next r None = 0
 asked_by_next r (Some l) = asked_by r l.1
 
--- the journal has no room for three events and the operations of the next entry
+-- the journal has no room for the events of a step and the operations of the next entry
 abbrev pub IsFull : Course → List Event → Type 0
 IsFull course events =
-    event_limit < length events + 3 + asked_by_next (present_of (history_of course.text events)) (next_entry course.entries events)
+    event_limit < length events + EVENTS_AHEAD + asked_by_next (present_of (history_of course.text events)) (next_entry course.entries events)
 
 -- the journal has room
 abbrev pub HasRoom : Course → List Event → Type 0

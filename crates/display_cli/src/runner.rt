@@ -5,6 +5,7 @@ ghost use Rattle.display_map.specs.Events.{event_limit};
 ghost use Rattle.display_map.specs.Events.{Line};
 ghost use Rattle.display_map.specs.Replay.{is_settled, present_of, appended};
 ghost use Rattle.display_owner.specs.Owned.{IsOwned, IsSameTeam};
+ghost use Rattle.display_owner.specs.declared.owner.TheConstants.{EVENTS_AHEAD};
 ghost use Rattle.edit_script.specs.declared.asked.Asked.TheVariants as asks;
 ghost use Rattle.edit_script.specs.Commands.{Settle, meaning};
 ghost use Rattle.edit_script.specs.Printed.{refusal_text};
@@ -64,10 +65,11 @@ fn record_line(number: u64, operations: usize, owner: &mut Owner) -> Result<(), 
     requires { IsReady owner.old }
     ensures recorded { OnOk result
         (owner.new.display ≡ appended owner.old.display (Line number ∷ [])) }
-    ensures room { OnOk result (length owner.old.display.events + 3 + operations ≤ event_limit) }
+    ensures room { OnOk result
+        (length owner.old.display.events + EVENTS_AHEAD + operations ≤ event_limit) }
     ensures unchanged { OnErr result (owner.new.display ≡ owner.old.display) }
     ensures why { IfErr result
-        (IsUnrecorded (length owner.old.display.events + 3 + operations)) }
+        (IsUnrecorded (length owner.old.display.events + EVENTS_AHEAD + operations)) }
     ensures ready { OnOk result (IsReady owner.new) }
     ensures team { IsSameTeam owner.old owner.new }
 {

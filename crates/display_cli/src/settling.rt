@@ -2,6 +2,7 @@
 ghost use Rattle.std.specs.Prelude.{◌≡◌, ◌+◌, ◌<◌, ◌≤◌, true, length, OnOk, IfErr, IfSome};
 ghost use Rattle.display_map.specs.Events.{event_limit};
 ghost use Rattle.display_map.specs.Replay.{is_settled, present_of};
+ghost use Rattle.display_owner.specs.declared.owner.TheConstants.{EVENTS_AHEAD};
 ghost use Rattle.display_owner.specs.Beside.{HasGone, IsHalted};
 ghost use Rattle.display_owner.specs.Owned.{IsBusy, IsOwned, IsSameTeam};
 ghost use Rattle.display_cli.specs.declared.stop.Stop.TheVariants as stops;
@@ -9,19 +10,16 @@ ghost use Rattle.display_cli.specs.inside.Going.{IsReady, IsAbreast, GoesOn, End
 
 use crate::stop::Stop;
 use display_map::Display;
-use display_owner::{Halt, Owner};
+use display_owner::{EVENTS_AHEAD, Halt, Owner};
 use std::sync::Wait;
 use wrap_workers::Gate;
 
-/// How many events a step appends beside operations, at most: `Line` and `Published` for a line, and one more for what
-/// comes between lines.
-const EVENTS_AHEAD: u32 = 3;
-
 /// Whether the journal has room for the events of a step, with so many operations.
 pub(crate) fn check_room(display: &Display, operations: usize) -> Result<(), Stop>
-    ensures room { OnOk result (length display.now.events + 3 + operations ≤ event_limit) }
+    ensures room { OnOk result
+        (length display.now.events + EVENTS_AHEAD + operations ≤ event_limit) }
     ensures full { IfErr result (λ stop. (stop ≡ stops.JournalFull)
-        × (event_limit < length display.now.events + 3 + operations)) }
+        × (event_limit < length display.now.events + EVENTS_AHEAD + operations)) }
 {
     let room = display.room();
     if room < EVENTS_AHEAD || operations > (room - EVENTS_AHEAD) as usize {

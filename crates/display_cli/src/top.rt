@@ -327,7 +327,8 @@ fn run_script<R: Threads + Wait + Sync, G: Gate + Sync, K: Sink>(
     requires events { display.events ≡ [] }
     requires limits { IsWithinLimits plan.now }
     ensures status { HasStatus result.note result.status }
-    ensures run { HasRunOn plan.now display.opening script.now (K.state out.old) (K.state out.new) result }
+    ensures run { HasRunOn plan.now display.opening script.now
+        (K.state out.old) (K.state out.new) result }
 {
     match open(rt, alloc, display, plan.workers, plan.watchers) {
         Ok(opened) => {

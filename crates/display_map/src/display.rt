@@ -78,7 +78,9 @@ fn opened(alloc: Global, text: &str) -> Result<Display, NoMemory>
 impl Display {
     /// A display of the bytes, in which each CR LF and then each lone CR is a LF, with an empty journal.
     pub fn start(alloc: Global, bytes: &[u8], _steps: &mut Steps) -> Result<Display, TextFault>
-        ensures started { MatchResult result (λ display. display ≡ record { opening = clean bytes.now; events = [] }) (IsTextRefused bytes.now) }
+        ensures started { MatchResult result
+            (λ display. display ≡ record { opening = clean bytes.now; events = [] })
+            (IsTextRefused bytes.now) }
         ensures accepted { OnOk result (IsAccepted bytes.now) }
     {
         Ok(opened(alloc, read_text(bytes)?)?)
@@ -192,7 +194,8 @@ impl Display {
         requires room { length self.old.events + length (batch splices.now) ≤ event_limit }
         ensures accepted { OnOk result (edit_refusal (present_of self.old) splices.now ≡ None) }
         ensures done { OnOk result (self.new ≡ appended self.old (map Did (batch splices.now))) }
-        ensures refused { IfErr result (IsRefusedAs (edit_refusal (present_of self.old) splices.now)) }
+        ensures refused { IfErr result
+            (IsRefusedAs (edit_refusal (present_of self.old) splices.now)) }
         ensures unchanged { OnErr result (self.new ≡ self.old) }
     {
         let text = self.sheet.text().as_str();
@@ -215,9 +218,11 @@ impl Display {
     fn operate(&mut self, alloc: Global, op: &Op) -> Result<(), Fault>
         requires other { is_replacement op.now ≡ false }
         requires room { length self.old.events + 1 ≤ event_limit }
-        ensures accepted { OnOk result (operation_refusal (present_of self.old) (operation_of op.now) ≡ None) }
+        ensures accepted { OnOk result
+            (operation_refusal (present_of self.old) (operation_of op.now) ≡ None) }
         ensures done { OnOk result (self.new ≡ appended self.old (Did (operation_of op.now) ∷ [])) }
-        ensures refused { IfErr result (IsRefusedAs (operation_refusal (present_of self.old) (operation_of op.now))) }
+        ensures refused { IfErr result
+            (IsRefusedAs (operation_refusal (present_of self.old) (operation_of op.now))) }
         ensures unchanged { OnErr result (self.new ≡ self.old) }
     {
         let work = work::one(alloc, &self.sheet, &self.outs, op)?;
@@ -245,7 +250,8 @@ impl Display {
         requires room { length self.old.events + length (ops_of change.now) ≤ event_limit }
         ensures accepted { OnOk result (change_refusal (present_of self.old) change.now ≡ None) }
         ensures done { OnOk result (self.new ≡ appended self.old (map Did (ops_of change.now))) }
-        ensures refused { IfErr result (IsRefusedAs (change_refusal (present_of self.old) change.now)) }
+        ensures refused { IfErr result
+            (IsRefusedAs (change_refusal (present_of self.old) change.now)) }
         ensures unchanged { OnErr result (self.new ≡ self.old) }
     {
         match change {

@@ -61,7 +61,8 @@ pub(crate) fn next_run(waits: &[bool], from: usize) -> Option<Run>
 /// The lines of a run wait no more.
 pub(crate) fn stop_waiting(waits: &mut Vec<bool>, run: Run)
     requires { run.first + run.count ≤ length waits.old.items }
-    ensures { waits.new.items ≡ take run.first waits.old.items ++ (replicate run.count false ++ drop (run.first + run.count) waits.old.items) }
+    ensures { waits.new.items ≡ take run.first waits.old.items
+        ++ (replicate run.count false ++ drop (run.first + run.count) waits.old.items) }
 {
     let first = run.first as usize;
     let end = first + run.count as usize;

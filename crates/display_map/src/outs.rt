@@ -35,7 +35,8 @@ impl Out {
         count: u32,
     ) -> Result<Out, NoMemory>
         requires { first + count < 2 ^ 32 }
-        ensures { IfOk result (λ out. out ≡ record { number = number; width = width; lines = some_places first count }) }
+        ensures { IfOk result (λ out.
+            out ≡ record { number = number; width = width; lines = some_places first count }) }
     {
         let mut lines = Vec::with_capacity(alloc, count as usize)?;
         for i in 0..count {
@@ -155,7 +156,8 @@ pub(crate) fn copied(alloc: Global, outs: &[Out]) -> Result<Vec<Out>, NoMemory>
 
 /// Which lines stand at another width.
 pub(crate) fn off_width(alloc: Global, wraps: &Wraps, width: u32) -> Result<Vec<bool>, NoMemory>
-    ensures { IfOk result (λ flags. flags.items ≡ map (λ w. not (w == width)) (marks_in wraps.now)) }
+    ensures { IfOk result (λ flags.
+        flags.items ≡ map (λ w. not (w == width)) (marks_in wraps.now)) }
 {
     let mut flags = Vec::with_capacity(alloc, wraps.len() as usize)?;
     for line in 0..wraps.len() {

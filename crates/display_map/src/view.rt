@@ -55,7 +55,8 @@ impl View {
         row: u32,
         _steps: &mut Steps,
     ) -> Result<Option<Shown>, NoMemory>
-        ensures { IfOk result (λ shown. shown_row shown ≡ slice_get (rows_of (present_of self.now)) row) }
+        ensures { IfOk result (λ shown.
+            shown_row shown ≡ slice_get (rows_of (present_of self.now)) row) }
     {
         self.sheet.row(alloc, row)
     }
@@ -68,7 +69,8 @@ impl View {
         count: u32,
         _steps: &mut Steps,
     ) -> Result<Vec<Shown>, NoMemory>
-        ensures { IfOk result (λ shown. shown_rows shown.items ≡ take count (drop first (rows_of (present_of self.now)))) }
+        ensures { IfOk result (λ shown.
+            shown_rows shown.items ≡ take count (drop first (rows_of (present_of self.now)))) }
     {
         self.sheet.rows(alloc, first, count)
     }

@@ -84,8 +84,10 @@ pub(crate) fn land(
     number: u64,
     cuts: &[Cuts],
 ) -> Result<(), NoMemory>
-    requires { CutsFit sheet.old (find (λ out. out.number == number) outs.now) (places_of cuts.now) }
-    ensures landed { OnOk result (sheet.new ≡ with_landed sheet.old (find (λ out. out.number == number) outs.now)) }
+    requires { CutsFit sheet.old
+        (find (λ out. out.number == number) outs.now) (places_of cuts.now) }
+    ensures landed { OnOk result
+        (sheet.new ≡ with_landed sheet.old (find (λ out. out.number == number) outs.now)) }
     ensures unchanged { OnErr result (sheet.new ≡ sheet.old) }
 {
     let Some(out) = outs::found(outs, number) else {

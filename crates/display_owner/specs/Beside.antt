@@ -5,6 +5,7 @@ use Rattle.display_map.specs.Events.{Event, Sent, Landed, Published, event_limit
 use Rattle.display_map.specs.Replay.{History, State, state_of, appended, next_run, job_numbered}
 use Rattle.display_owner.specs.declared.halt.Halt.{Halt}
 use Rattle.display_owner.specs.declared.halt.Halt.TheVariants.{Full, Memory}
+use Rattle.display_owner.specs.declared.owner.TheConstants.{EVENTS_AHEAD}
 
 -- a step: a run is sent, as a job of this number, first line and count of lines; or a job lands, with its version
 pub data Step : Type 0 where
@@ -61,5 +62,5 @@ pub record HasHalted (workers : ℕ) (old new : History) : Type 0 where
 
 -- why and where it halted
 abbrev pub IsHalted : ℕ → History → History → Halt → Type 0
-IsHalted workers old new Full = HasGone workers old new × (event_limit < length new.events + 3)
+IsHalted workers old new Full = HasGone workers old new × (event_limit < length new.events + EVENTS_AHEAD)
 IsHalted workers old new Memory = HasHalted workers old new × (length new.events < event_limit)

@@ -15,4 +15,4 @@ pub mod owner;
 
 pub use halt::Halt;
 pub use opening::{Opened, open};
-pub use owner::Owner;
+pub use owner::{EVENTS_AHEAD, Owner};

@@ -11,6 +11,7 @@ ghost use Rattle.display_map.specs.Events.{Did, Landed, Line, Published, event_l
 ghost use Rattle.display_map.specs.Sending.{IsOutstanding};
 ghost use Rattle.display_map.specs.Replay.{appended, is_settled, present_of, state_of};
 ghost use Rattle.display_owner.specs.declared.halt.Halt.TheVariants as halts;
+ghost use Rattle.display_owner.specs.declared.owner.TheConstants.{EVENTS_AHEAD};
 ghost use Rattle.display_owner.specs.Beside.{HasGone, IsHalted, outstanding};
 ghost use Rattle.display_owner.specs.Owned.{IsBusy, IsLanding, IsOwned, IsSameTeam};
 ghost use Rattle.display_owner.specs.Stepping.{HasLanded, HasLandedOne, HasSent, IsLonger};
@@ -23,8 +24,10 @@ use std::sync::Wait;
 use version_board::{Writer, row_laws};
 use wrap_workers::{Crew, Finished, Gate, Job};
 
-/// How many events a step appends, at most: `Sent`, `Landed` and `Published` for a job.
-const EVENTS_AHEAD: u32 = 3;
+/// For how many events the journal is to have room before a step, beside those of a change's operations. It is the most
+/// that a step appends: `Sent`, `Landed` and `Published` for a job, or `Line` and `Published` for a script line and one
+/// more for what comes between lines.
+pub const EVENTS_AHEAD: u32 = 3;
 
 /// A display, the crew that wraps its lines beside the owner, and the writer of the board that shows its versions, if somebody
 /// looks at them. It isn't `Drop`: end it by `dismiss`, and then the writer by `close`.
@@ -72,7 +75,8 @@ impl Owner {
     pub fn apply(&mut self, change: &Change) -> Result<(), Fault>
         requires room { length self.old.display.events + length (ops_of change.now) ≤ event_limit }
         requires owned { IsOwned self.old }
-        ensures accepted { OnOk result (change_refusal (present_of self.old.display) change.now ≡ None) }
+        ensures accepted { OnOk result
+            (change_refusal (present_of self.old.display) change.now ≡ None) }
         ensures done { OnOk result
             (self.new.display ≡ appended self.old.display (map Did (ops_of change.now))) }
         ensures refused { IfErr result
@@ -191,9 +195,9 @@ impl Owner {
 
     /// Whether the journal has room for the events of a step.
     fn check_room(&self) -> Result<(), Halt>
-        ensures room { OnOk result (length self.now.display.events + 3 ≤ event_limit) }
+        ensures room { OnOk result (length self.now.display.events + EVENTS_AHEAD ≤ event_limit) }
         ensures full { IfErr result (λ halt. (halt ≡ halts.Full)
-            × (event_limit < length self.now.display.events + 3)) }
+            × (event_limit < length self.now.display.events + EVENTS_AHEAD)) }
     {
         if self.display.room() < EVENTS_AHEAD {
             return Err(Halt::Full);
@@ -327,7 +331,7 @@ impl Owner {
 
     /// Lands a result, and publishes the display.
     fn land<R: Wait>(&mut self, rt: &R, finished: Finished<Held>) -> Result<(), Halt>
-        requires room { length self.old.display.events + 3 ≤ event_limit }
+        requires room { length self.old.display.events + EVENTS_AHEAD ≤ event_limit }
         requires landing { IsLanding self.old (job_of finished) }
         ensures landed { OnOk result (HasLanded self.old self.new) }
         ensures owned { OnOk result (IsOwned self.new) }

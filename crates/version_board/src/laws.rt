@@ -13,12 +13,16 @@ use crate::writer::Writer;
 /// display says. A journal is longer than that of the version before, and a row has as many versions as the journal of
 /// its newest.
 pub fn row_laws()
-    ensures opens { (h : History) (last : Bool) → versions_of h.events ≡ 0 → IsFirst (appended h (Published last ∷ [])) }
-    ensures follows { (v : Version) (more : List Event) (last : Bool) → ends v.events ≡ false → versions_of more ≡ 0 →
+    ensures opens { (h : History) (last : Bool) →
+        versions_of h.events ≡ 0 → IsFirst (appended h (Published last ∷ [])) }
+    ensures follows { (v : Version) (more : List Event) (last : Bool) →
+        ends v.events ≡ false → versions_of more ≡ 0 →
         Follows v (appended (appended v more) (Published last ∷ [])) }
-    ensures last { (h : History) (last : Bool) → ends (appended h (Published last ∷ [])).events ≡ last }
+    ensures last { (h : History) (last : Bool) →
+        ends (appended h (Published last ∷ [])).events ≡ last }
     ensures longer { (v w : Version) → Follows v w → length v.events < length w.events }
-    ensures number { (row : List Version) (v : Version) → IsRowTo row v → length row ≡ versions_of v.events }
+    ensures number { (row : List Version) (v : Version) →
+        IsRowTo row v → length row ≡ versions_of v.events }
 {}
 
 /// A board has one row: of what a reader knows of it and what the writer published one begins the other.

@@ -42,7 +42,8 @@ fn opened_board<R: Wait>(
     ensures shown { IfOk result (λ made. made.0.newest ≡ display.new) }
     ensures goes_on { OnOk result (ends display.new.events ≡ false) }
     ensures events { OnOk result (length display.new.events ≡ 1) }
-    ensures readers { IfOk result (λ made. All (λ reader. reader.board ≡ made.0.board) made.1.items) }
+    ensures readers { IfOk result (λ made.
+        All (λ reader. reader.board ≡ made.0.board) made.1.items) }
 {
     let first = display.publish(alloc, false)?;
     board(rt, alloc, first, readers)
@@ -73,7 +74,8 @@ fn publish_next<R: Wait>(
 /// A reader that learnt of the last version sees it.
 fn finish(writer: &mut Writer, mut reader: Reader) -> Option<u64>
     requires { reader.board ≡ writer.old.board }
-    ensures seen { IfSome result (λ n. ends writer.old.newest.events ≡ true → n + 1 ≡ versions_of writer.old.newest.events) }
+    ensures seen { IfSome result (λ n. ends writer.old.newest.events ≡ true →
+        n + 1 ≡ versions_of writer.old.newest.events) }
     ensures same { writer.new ≡ writer.old }
 {
     let told = writer.tell().ok()?;

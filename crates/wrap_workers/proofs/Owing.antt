@@ -13,7 +13,7 @@ use Rattle.wrap_workers.specs.Jobs.{JobParts, front, last, without, without_each
 use Rattle.wrap_workers.specs.Finishes.{job_of}
 use Rattle.wrap_workers.specs.Owed.{weigh, weigh_results, weigh_rights, one_at, times, ContainsEach, AreOfJobs, AreDistinct, WereOwed, crew_hand, right_of, right_to, spent, FitsHand, Owed}
 use Rattle.wrap_workers.specs.Errands.{IsRightTo, Right}
-use Rattle.wrap_workers.specs.Crewed.{IsLast}
+use Rattle.wrap_workers.specs.inside.Ends.{IsLast}
 use Rattle.wrap_workers.proofs.Weights.{weigh-append, results-append, rights_set, rights_snoc, rights_le, one_at-same, weigh_without, each_without, results_without, each_more, results_more, each-append, results_of-append, each-front, each-back, front_snoc, last_snoc, length_weighs}
 
 off : false ≡ true → ⊥

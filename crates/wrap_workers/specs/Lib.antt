@@ -5,3 +5,4 @@ pub mod Errands
 pub mod Posted
 pub mod Crewed
 pub mod QueueLaws
+pub mod inside

@@ -90,7 +90,8 @@ impl<N: Lines> Model for Done<N> {
 impl<N: Lines> Done<N> {
     /// The job, with the cuts of its lines.
     pub(crate) fn new(job: Job<N>, wraps: Vec<Cuts>) -> Done<N>
-        requires { places_of wraps.items ≡ wraps_of (N.elements_by_line job.lines) job.run job.width }
+        requires { places_of wraps.items
+            ≡ wraps_of (N.elements_by_line job.lines) job.run job.width }
         ensures { result.job ≡ job }
     {
         Done { job, wraps }
@@ -106,7 +107,9 @@ impl<N: Lines> Done<N> {
     /// The cuts of each line of the job's run, in order, at the job's width.
     pub fn wraps(&self) -> &[Cuts]
         ensures value { places_of result.now ≡ self.now.wraps }
-        ensures cuts { places_of result.now ≡ wraps_of (N.elements_by_line self.now.job.lines) self.now.job.run self.now.job.width }
+        ensures cuts { places_of result.now
+            ≡ wraps_of (N.elements_by_line self.now.job.lines)
+            self.now.job.run self.now.job.width }
     {
         self.wraps.as_slice()
     }

@@ -16,9 +16,15 @@ use cell_line::Lines;
 /// that is out. The jobs of two passes with rights have distinct numbers, and so have the jobs in the queue of tasks, each
 /// of which goes with its right.
 pub fn queue_laws<N: Lines>()
-    ensures once { (results : List (Finished N)) (hands : List (Hand N)) → Owed results hands → GivesOnce results hands }
-    ensures out { (results : List (Finished N)) (hands : List (Hand N)) → Owed results hands → IsOfJobOut results hands }
-    ensures rights { (results : List (Finished N)) (hands : List (Hand N)) → Owed results hands → HavePassesOfTheirOwn hands }
-    ensures serials { (tasks : List (Task N)) (posts : List (Post N)) → Posted tasks posts → AreSerialsDistinct tasks }
-    ensures tasks { (tasks : List (Task N)) (posts : List (Post N)) (results : List (Finished N)) (hands : List (Hand N)) → Posted tasks posts → Owed results hands → AreJobsApart tasks hands }
+    ensures once { (results : List (Finished N)) (hands : List (Hand N)) →
+        Owed results hands → GivesOnce results hands }
+    ensures out { (results : List (Finished N)) (hands : List (Hand N)) →
+        Owed results hands → IsOfJobOut results hands }
+    ensures rights { (results : List (Finished N)) (hands : List (Hand N)) →
+        Owed results hands → HavePassesOfTheirOwn hands }
+    ensures serials { (tasks : List (Task N)) (posts : List (Post N)) →
+        Posted tasks posts → AreSerialsDistinct tasks }
+    ensures tasks { (tasks : List (Task N)) (posts : List (Post N)) →
+        (results : List (Finished N)) (hands : List (Hand N)) →
+        Posted tasks posts → Owed results hands → AreJobsApart tasks hands }
 {}

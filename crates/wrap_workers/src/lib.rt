@@ -19,8 +19,9 @@ mod make;
 mod names;
 pub mod owner;
 mod results;
-mod steps;
+mod results_end;
 mod tasks;
+mod tasks_end;
 pub mod worker;
 pub mod wrap;
 

@@ -1,9 +1,8 @@
 //! The crew as its owner has it: it hands out jobs and takes back what they gave.
 use crate::gate::Gate;
 use crate::job::{Finished, Job};
-use crate::results::{Results, Right, Rights};
-use crate::steps::{do_here, hire, lend, put_errand, put_stop, take, take_back, try_next, wait};
-use crate::tasks::{Place, Tasks, Waiting};
+use crate::results_end::ResultsEnd;
+use crate::tasks_end::TasksEnd;
 use cell_line::Lines;
 use std::alloc::Global;
 use std::marker::Model;
@@ -15,37 +14,25 @@ use std::sync::Wait;
 /// place of the crew's own.
 #[derive(Drop)]
 pub struct Crew<N: Lines> {
-    pub(crate) tasks: Tasks<N>,
-    pub(crate) waiting: Waiting<N>,
-    pub(crate) results: Results<N>,
-    pub(crate) rights: Rights<N>,
-    pub(crate) place: Place<N>,
+    pub(crate) tasks: TasksEnd<N>,
     // It has the rights of the jobs in `kept`, in their order.
-    pub(crate) hand: Right<N>,
+    pub(crate) results: ResultsEnd<N>,
     pub(crate) kept: Vec<Job<N>>,
     pub(crate) count: u32,
     pub(crate) workers: u32,
 }
 
 impl<N: Lines> Model for Crew<N> {
-    ghost use Rattle.std.specs.Prelude.{◌≡◌, ◌*◌, ◌≤◌};
     ghost use Rattle.std.specs.Vec.{vec_capacity};
-    ghost use Rattle.crossbeam_channel.specs.Claims.{IsSeatAt};
-    ghost use Rattle.crossbeam_channel.specs.Ends.{sends_on, receives_on, ruled_capacity};
-    ghost use Rattle.wrap_workers.specs.Crewed.{Crewed, IsCrewHand, IsCrewPost, IsHomeAt, hand_of, post_of};
+    ghost use Rattle.wrap_workers.specs.Crewed.{Crewed};
+    ghost use Rattle.wrap_workers.specs.inside.Ends.{IsCrew};
 
     ghost Value = { Crewed N };
 
-    ghost view = { λ c. record { out = (hand_of c.hand).out; kept = c.kept.items; workers = c.workers } };
+    ghost view = { λ c. record { out = c.results.hand.out; kept = c.kept.items; workers = c.workers } };
 
     ghost invariant = { λ c.
-        (receives_on c.waiting ≡ sends_on c.tasks) × (receives_on c.results ≡ sends_on c.rights)
-        × IsSeatAt (sends_on c.tasks) c.place × IsSeatAt (sends_on c.rights) c.hand
-        × IsHomeAt (sends_on c.rights) (post_of c.place).home
-        × IsCrewPost (post_of c.place) (hand_of c.hand).serial
-        × IsCrewHand (hand_of c.hand) c.kept.items c.count c.workers (vec_capacity c.kept)
-        × (1 ≤ c.workers) × (c.workers ≤ 16)
-        × (ruled_capacity (sends_on c.tasks) ≡ 3 * c.workers) × (ruled_capacity (sends_on c.rights) ≡ 2 * c.workers) };
+        IsCrew c.tasks c.results c.kept.items c.count c.workers (vec_capacity c.kept) };
 }
 
 impl<N: Lines> Crew<N> {
@@ -74,6 +61,7 @@ impl<N: Lines> Crew<N> {
     }
 
     /// Hands out a job, whose number no job that is out has. It comes back exactly where two jobs for each worker are out.
+    #[tactic(auto, using(crate::proofs::Crews::at_home, crate::proofs::Crews::home_at, crate::proofs::Crews::crew_put_back))]
     pub fn hand_out<R: Wait>(&mut self, rt: &R, job: Job<N>) -> Result<(), Job<N>>
         requires { IsFree job.number self.old.out }
         ensures full { IsErr result ↔ (length self.old.out ≡ 2 * self.old.workers) }
@@ -86,10 +74,10 @@ impl<N: Lines> Crew<N> {
         if self.count == 2 * self.workers {
             return Err(job);
         }
-        let errand = hire(&self.rights, &mut self.hand, job);
+        let errand = self.results.hire(job);
         self.count += 1;
-        if let Some(back) = put_errand(rt, &self.tasks, &mut self.place, errand) {
-            let job = take_back(&self.rights, &mut self.hand, back);
+        if let Some(back) = self.tasks.put_errand(rt, errand) {
+            let job = self.results.take_back(back);
             self.kept.push_reserved(job);
         }
         Ok(())
@@ -97,12 +85,13 @@ impl<N: Lines> Crew<N> {
 
     /// Takes a result. None comes only where the queue of results was empty at a moment of the call.
     pub fn collect<R: Wait>(&mut self, rt: &R) -> Option<Finished<N>>
-        ensures some { IfSome result (λ finished. IsTakenOff (job_of finished) self.old.out self.new.out) }
+        ensures some { IfSome result (λ finished.
+            IsTakenOff (job_of finished) self.old.out self.new.out) }
         ensures none { IfNone result (self.new ≡ self.old) }
         ensures empty { IfNone result (Held 0 (λ results. WereOwed self.old.out results)) }
         ensures same { (self.new.kept ≡ self.old.kept) × (self.new.workers ≡ self.old.workers) }
     {
-        match take(rt, &self.results, &mut self.hand) {
+        match self.results.take(rt) {
             None => None,
             Some(finished) => {
                 self.count -= 1;
@@ -110,10 +99,13 @@ impl<N: Lines> Crew<N> {
             }
         }
     }
+
     /// Does one waiting job here, and passes the gate: one of the crew's own place, or else one of the queue of tasks. None
     /// comes only where the crew's own place is empty, and the queue of tasks was at a moment of the call.
+    #[tactic(auto, using(crate::proofs::Crews::at_home, crate::proofs::Crews::home_at, crate::proofs::Crews::crew_put_back))]
     pub fn help<R: Wait, G: Gate>(&mut self, rt: &R, alloc: Global, gate: &G) -> Option<Finished<N>>
-        ensures some { IfSome result (λ finished. IsTakenOff (job_of finished) self.old.out self.new.out) }
+        ensures some { IfSome result (λ finished.
+            IsTakenOff (job_of finished) self.old.out self.new.out) }
         ensures kept { IfSome result (λ finished. ((self.old.kept ≡ []) × (self.new.kept ≡ []))
             ⊎ (self.old.kept ≡ self.new.kept ++ job_of finished ∷ [])) }
         ensures none { IfNone result ((self.new ≡ self.old) × (self.new.kept ≡ [])) }
@@ -121,15 +113,15 @@ impl<N: Lines> Crew<N> {
         ensures workers { self.new.workers ≡ self.old.workers }
     {
         if let Some(job) = self.kept.pop() {
-            let finished = do_here(alloc, gate, &self.rights, &mut self.hand, job);
+            let finished = self.results.do_here(alloc, gate, job);
             self.count -= 1;
             return Some(finished);
         }
-        match try_next(rt, &self.waiting, &mut self.place) {
+        match self.tasks.try_next(rt) {
             None => None,
             Some(errand) => {
-                let job = take_back(&self.rights, &mut self.hand, errand);
-                let finished = do_here(alloc, gate, &self.rights, &mut self.hand, job);
+                let job = self.results.take_back(errand);
+                let finished = self.results.do_here(alloc, gate, job);
                 self.count -= 1;
                 Some(finished)
             }
@@ -137,6 +129,7 @@ impl<N: Lines> Crew<N> {
     }
 
     /// Puts the last job of the crew's own place into the queue of tasks again, and answers whether it was taken.
+    #[tactic(auto, using(crate::proofs::Crews::at_home, crate::proofs::Crews::home_at, crate::proofs::Crews::crew_put_back))]
     fn put_last<R: Wait>(&mut self, rt: &R) -> bool
         ensures out { self.new.out ≡ self.old.out }
         ensures kept { (put : List (JobParts N)) × (self.old.kept ≡ self.new.kept ++ put) }
@@ -145,11 +138,11 @@ impl<N: Lines> Crew<N> {
         let Some(job) = self.kept.pop() else {
             return false;
         };
-        let errand = lend(&self.rights, &mut self.hand, job);
-        match put_errand(rt, &self.tasks, &mut self.place, errand) {
+        let errand = self.results.lend(job);
+        match self.tasks.put_errand(rt, errand) {
             None => true,
             Some(back) => {
-                let job = take_back(&self.rights, &mut self.hand, back);
+                let job = self.results.take_back(back);
                 self.kept.push_reserved(job);
                 false
             }
@@ -177,7 +170,7 @@ impl<N: Lines> Crew<N> {
         ensures workers { self.new.workers ≡ self.old.workers }
     {
         self.put_kept(rt);
-        let finished = wait(rt, &self.results, &mut self.hand);
+        let finished = self.results.wait(rt);
         self.count -= 1;
         finished
     }
@@ -185,18 +178,14 @@ impl<N: Lines> Crew<N> {
     /// Puts one stop for each worker. Jobs that are still out give no result any more.
     pub fn stop<R: Wait>(self, rt: &R) {
         let Crew {
-            tasks,
-            waiting: _waiting,
+            mut tasks,
             results: _results,
-            rights: _rights,
-            mut place,
-            hand: _hand,
             kept: _kept,
             count: _count,
             workers,
         } = self;
         for _ in 0..workers {
-            put_stop(rt, &tasks, &mut place);
+            tasks.put_stop(rt);
         }
     }
 }

@@ -1,15 +1,17 @@
 //! The worker, that does jobs beside the crew.
-ghost use Rattle.std.specs.Prelude.{◌≡◌, ◌⊎◌, true};
-ghost use Rattle.crossbeam_channel.specs.Claims.{view, IsSeatAt};
+ghost use Rattle.std.specs.Prelude.{◌≡◌, ◌⊎◌, true, false, Some, IfSome, IfNone};
+ghost use Rattle.crossbeam_channel.specs.Claims.{view, IsKeyed, IsSeatAt};
 ghost use Rattle.crossbeam_channel.specs.Ends.{sends_on, receives_on};
 ghost use Rattle.crossbeam_channel.specs.Fifo.{Held};
-ghost use Rattle.wrap_workers.specs.Posted.{IsAtWork, WerePosted};
-ghost use Rattle.wrap_workers.specs.Crewed.{IsHomeAt};
+ghost use Rattle.wrap_workers.specs.Errands.{IsRightTo, Right};
+ghost use Rattle.wrap_workers.specs.Finishes.{job_of};
+ghost use Rattle.wrap_workers.specs.Posted.{IsAtWork, IsTaskAt, WerePosted, after_taken};
+ghost use Rattle.wrap_workers.specs.inside.Ends.{IsHomeAt, queue_at};
 
 use crate::gate::Gate;
-use crate::results::Rights;
-use crate::steps::{next, send};
-use crate::tasks::{Errand, Place, Task, Waiting};
+use crate::job::Finished;
+use crate::results::{Right, Rights, Sends};
+use crate::tasks::{Errand, Place, Serves, Task, Waiting};
 use crate::wrap::do_job;
 use cell_line::Lines;
 use std::alloc::Global;
@@ -26,10 +28,10 @@ pub struct Worker<N: Lines> {
 
 impl<N: Lines> Model for Worker<N> {
     ghost use Rattle.std.specs.Prelude.{⊤};
-    ghost use Rattle.crossbeam_channel.specs.Claims.{IsSeatAt};
+    ghost use Rattle.crossbeam_channel.specs.Claims.{IsKeyed, IsSeatAt};
     ghost use Rattle.crossbeam_channel.specs.Ends.{sends_on, receives_on};
     ghost use Rattle.wrap_workers.specs.Posted.{IsAtWork};
-    ghost use Rattle.wrap_workers.specs.Crewed.{IsHomeAt, post_of};
+    ghost use Rattle.wrap_workers.specs.inside.Ends.{IsHomeAt, post_of, queue_at};
 
     ghost Value = { ⊤ };
 
@@ -37,7 +39,8 @@ impl<N: Lines> Model for Worker<N> {
 
     ghost invariant = { λ w.
         IsSeatAt (receives_on w.tasks) w.place
-        × IsHomeAt (sends_on w.rights) (post_of w.place).home
+        × IsKeyed (sends_on w.rights)
+        × IsHomeAt (queue_at (sends_on w.rights)) (post_of w.place).home
         × IsAtWork (post_of w.place) };
 }
 
@@ -65,7 +68,8 @@ fn serve<N: Lines, R: Wait, G: Gate>(
     place: &mut Place<N>,
 )
     requires channel { IsSeatAt (receives_on tasks.now) place.old }
-    requires home { IsHomeAt (sends_on rights.now) (view place.old).home }
+    requires keyed { IsKeyed (sends_on rights.now) }
+    requires home { IsHomeAt (queue_at (sends_on rights.now)) (view place.old).home }
     requires worker { IsAtWork (view place.old) }
     ensures { ((view place.new).stopped ≡ true) ⊎ Held 0 (λ items. WerePosted {N = N} items) }
 {
@@ -93,4 +97,26 @@ fn finish<N: Lines, R: Wait, G: Gate>(
     let finished = do_job(alloc, job);
     gate.pass(number);
     send(rt, rights, right, finished);
+}
+
+/// Sends the result of the right's job. It is dropped where the crew is gone.
+fn send<N: Lines, R: Wait>(rt: &R, rights: &Rights<N>, mut right: Right<N>, finished: Finished<N>)
+    requires channel { IsSeatAt (sends_on rights.now) right }
+    requires owns { IsRightTo right (job_of finished) }
+{
+    let _ = rights.send_as::<Sends, R>(rt, &mut right, finished);
+}
+
+/// Takes the front task, and waits for one. None comes only where the queue was empty at a moment of the call.
+fn next<N: Lines, R: Wait>(rt: &R, tasks: &Waiting<N>, place: &mut Place<N>) -> Option<Task<N>>
+    requires channel { IsSeatAt (receives_on tasks.now) place.old }
+    requires worker { (view place.old).crew ≡ false }
+    requires known { (r : Right N) × ((view place.old).home ≡ Some r) }
+    ensures channel { IsSeatAt (receives_on tasks.now) place.new }
+    ensures some { IfSome result (λ task. (view place.new ≡ after_taken (view place.old) task)
+        × IsTaskAt (view place.old).home task) }
+    ensures none { IfNone result ((view place.new ≡ view place.old)
+        × Held 0 (λ items. WerePosted {N = N} items)) }
+{
+    tasks.recv_as::<Serves, R>(rt, place).ok()
 }

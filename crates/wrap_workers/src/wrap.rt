@@ -10,7 +10,8 @@ use std::alloc::Global;
 
 /// The cuts of each line of the job's run.
 fn wraps<N: Lines>(alloc: Global, job: &Job<N>) -> Result<Vec<Cuts>, NoMemory>
-    ensures { IfOk result (λ wraps. places_of wraps.items ≡ wraps_of (N.elements_by_line job.now.lines) job.now.run job.now.width) }
+    ensures { IfOk result (λ wraps. places_of wraps.items
+        ≡ wraps_of (N.elements_by_line job.now.lines) job.now.run job.now.width) }
 {
     let run = job.run();
     let mut wraps = Vec::new(alloc);

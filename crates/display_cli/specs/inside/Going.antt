@@ -19,6 +19,7 @@ use Rattle.edit_script.specs.Verdict.{Verdict, Refused, refused_or, query_refusa
 use Rattle.cell_units.specs.declared.fault.Fault.{Fault}
 use Rattle.cell_units.specs.declared.fault.Fault.TheVariants as faults
 use Rattle.display_owner.specs.declared.owner.Owner.{Owner}
+use Rattle.display_owner.specs.declared.owner.TheConstants.{EVENTS_AHEAD}
 use Rattle.display_owner.specs.Beside.{outstanding}
 use Rattle.display_owner.specs.Owned.{IsBusy, IsOwned}
 use Rattle.display_cli.specs.declared.runner.Runner.{Runner}
@@ -85,9 +86,9 @@ pub record IsReady (owner : Owner) : Type 0 where
   pub owned : IsOwned owner
   pub published : 1 ≤ versions_of owner.display.events
 
--- the journal has room for three events
+-- the journal has room for the events of a step
 abbrev pub HasRoomAhead : History → Type 0
-HasRoomAhead h = length h.events + 3 ≤ event_limit
+HasRoomAhead h = length h.events + EVENTS_AHEAD ≤ event_limit
 
 -- ... and the next line may be handled: as many jobs are out as may be, or no line of the display waits
 pub record IsAbreast (owner : Owner) : Type 0 where

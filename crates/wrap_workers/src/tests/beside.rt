@@ -34,8 +34,18 @@ fn run_team<R: Threads + Wait + Sync, G: Gate + Sync>(
     Ok(())
 }
 
-/// The number of the one job, as `wait_one` gives it.
+/// The number of the one job, as `wait_one` gives it. The crew is dropped without a stop.
 fn wait_for_one<R: Wait>(rt: &R, mut crew: Crew<Alike>) -> Option<u64>
+    requires { crew.out ≡ [] }
+{
+    match crew.hand_out(rt, ten_lines(1)) {
+        Ok(()) => number_done(&crew.wait_one(rt)),
+        Err(_) => None,
+    }
+}
+
+/// The number of the one job, as `wait_one` gives it. Then the crew is stopped.
+fn wait_and_stop<R: Wait>(rt: &R, mut crew: Crew<Alike>) -> Option<u64>
     requires { crew.out ≡ [] }
 {
     let number = match crew.hand_out(rt, ten_lines(1)) {
@@ -66,6 +76,26 @@ fn collect_one<R: Wait>(rt: &R, mut crew: Crew<Alike>) -> Option<u64>
 
 /// One job, done by the workers, that the owner waits for.
 pub fn by_waiting<R: Threads + Wait + Sync>(
+    rt: &R,
+    alloc: Global,
+    crew: Crew<Alike>,
+    team: Vec<Worker<Alike>>,
+) -> Result<Option<u64>, NoMemory>
+    requires { crew.out ≡ [] }
+{
+    let (number, ended) = thread::join(
+        rt,
+        move ||
+            requires { crew.out ≡ [] }
+        { wait_and_stop(rt, crew) },
+        move || run_team(rt, alloc, &FreeGate, team),
+    );
+    ended?;
+    Ok(number)
+}
+
+/// One job, done by the workers, that the owner waits for. It tells the workers nothing of the end.
+pub fn without_stop<R: Threads + Wait + Sync>(
     rt: &R,
     alloc: Global,
     crew: Crew<Alike>,

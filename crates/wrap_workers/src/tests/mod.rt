@@ -6,12 +6,16 @@ ghost use Rattle.wrap_workers.specs.Jobs.{IsLawful};
 use crate::gate::FreeGate;
 use crate::job::{Finished, Job};
 use crate::make::crew;
+use crate::owner::Crew;
+use crate::worker::Worker;
 use crate::wrap::do_job;
 use alike::Alike;
-use beside::{by_collecting, by_waiting, each_once, hand_out, with_workers};
+use beside::{by_collecting, by_waiting, each_once, hand_out, with_workers, without_stop};
 use cell_line::{Run, line_laws};
 use cell_units::NoMemory;
 use counted::Counted;
+use std::alloc::Global;
+use std::sync::Wait;
 
 mod alike;
 mod beside;
@@ -109,4 +113,37 @@ fn thousand_jobs_four_workers(rt: HostRuntime) {
         Err(NoMemory) => panic!(rt; "out of memory"),
     }
     assert_eq!(rt; gate.passed(), 1000);
+}
+
+/// The number of a waiting job that the crew does itself.
+fn number_helped<R: Wait>(rt: &R, alloc: Global, crew: &mut Crew<Alike>) -> Option<u64> {
+    number_done(&crew.help(rt, alloc, &FreeGate)?)
+}
+
+/// Lets the workers go before they did anything.
+fn let_go(_team: Vec<Worker<Alike>>) {}
+
+#[test]
+fn a_crew_whose_workers_are_gone_does_its_jobs_itself(rt: HostRuntime) {
+    match crew(rt.alloc(), 1) {
+        Ok((mut crew, team)) => {
+            let_go(team);
+            assert_eq!(rt; hand_out(&rt, &mut crew, 1), None);
+            assert_eq!(rt; hand_out(&rt, &mut crew, 2), None);
+            assert!(rt; crew.collect(&rt).is_none());
+            assert_eq!(rt; number_helped(&rt, rt.alloc(), &mut crew), Some(1));
+            assert_eq!(rt; number_helped(&rt, rt.alloc(), &mut crew), Some(2));
+            assert_eq!(rt; number_helped(&rt, rt.alloc(), &mut crew), None);
+            assert_eq!(rt; crew.out(), 0);
+        }
+        Err(NoMemory) => panic!(rt; "out of memory"),
+    }
+}
+
+#[test]
+fn workers_end_where_their_crew_is_dropped_without_a_stop(rt: HostRuntime) {
+    match crew(rt.alloc(), 2) {
+        Ok((crew, team)) => assert_eq!(rt; without_stop(&rt, rt.alloc(), crew, team), Ok(Some(1))),
+        Err(NoMemory) => panic!(rt; "out of memory"),
+    }
 }

@@ -1,5 +1,4 @@
-use Rattle.std.proofs.Common.{◌≡◌, ℕ, List, ap, ◌∙◌, arith}
-use Rattle.cell_line.specs.declared.element.Element.{Element}
+use Rattle.std.proofs.Common.{◌≡◌, ℕ, ap, ◌∙◌, arith}
 use Rattle.cell_line.specs.declared.lines.Run.{Run}
 use Rattle.cell_line.specs.Lines.{line_at}
 use Rattle.cell_line.specs.Wrapping.{cuts_of}

@@ -1,5 +1,0 @@
-use Rattle.wrap_workers.proofs.Posting.{gets, were_posted}
-use Rattle.wrap_workers.proofs.steps.try_next.Goals as goal
-
-pub try_recv_as-requires-clause-rule : goal.try_recv_as-requires-clause-rule
-try_recv_as-requires-clause-rule g c = (gets _ _, were_posted _ _)

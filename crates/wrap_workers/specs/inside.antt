@@ -1,0 +1,2 @@
+-- What the parts of the crate say to each other.
+pub mod Ends
