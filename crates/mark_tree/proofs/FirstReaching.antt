@@ -1,6 +1,6 @@
--- Where a cursor stands that sought by end in what was split off.
-use Rattle.std.proofs.Common.{◌≡◌, ℕ, zero, suc, ◌+◌, ◌-◌, ◌<◌, ◌≤◌, List, [], ◌∷◌, length, take, drop, sym, ap, subst, ◌∙◌, arith}
-use Rattle.std.specs.List.{All}
+-- Where the first thing stands that reaches an offset: at the place asked, or where a cursor stands that sought by end.
+use Rattle.std.proofs.Common.{◌≡◌, ℕ, zero, suc, ◌+◌, ◌-◌, ◌<◌, ◌≤◌, List, Some, [], ◌∷◌, length, take, drop, refl, sym, ap, subst, arith}
+use Rattle.std.specs.List.{All, slice_get}
 use Rattle.std.specs.Ordering.{nat_cmp}
 use Rattle.std.proofs.lemmas.List.{length-drop, drop-drop}
 use Rattle.std.proofs.lemmas.List.Elements.{All-nil, All-cons}
@@ -9,9 +9,9 @@ use Rattle.sum_tree.specs.Cursors.{IsSought}
 use Rattle.mark_tree.specs.declared.entry.Entry.{Entry}
 use Rattle.mark_tree.specs.declared.entry.Placed.{Placed}
 use Rattle.mark_tree.specs.Extents.{none, both, by_end, end_of}
-use Rattle.mark_tree.specs.Entries.{extent_of, extent_over, placed_at, placed_from, end_at, last_offset}
+use Rattle.mark_tree.specs.Entries.{extent_of, extent_over, placed_at, placed_from, end_at}
 use Rattle.mark_tree.specs.Reaching.{IsFirstReaching}
-use Rattle.mark_tree.proofs.Coding.{ends-placed, length-placed, placed-take, placed-drop}
+use Rattle.mark_tree.proofs.Coding.{ends-placed, length-placed, placed-take}
 use Rattle.mark_tree.proofs.Seeking.{above-from_not_le, below-from_le}
 
 module _ {P : Type 0} where
@@ -30,25 +30,66 @@ module _ {P : Type 0} where
       let before : o + end_of (extent_over (take (suc k) (e ∷ es))) < m = low (omega arith) in
       long-at m (o + e.gap) k es (λ some. omega arith) (λ more. let reached = high (omega arith) in omega arith)
 
-  -- a cursor that sought an end in what stands from place `at` on, where the ends count from `base`
-  pub first-reaching : (es : List (Entry P)) (ps : List (Placed P)) (at offset base place : ℕ) → placed_from 0 es ≡ ps → base ≡ last_offset 0 (take at ps) → at ≤ length ps
-      → IsSought none both extent_of by_end (λ a b. nat_cmp a.end b.end) (drop at es) (record { end = offset - base; span = 0; items = 0 }) Left place
-      → IsFirstReaching at offset ps (at + (place - 1))
-  first-reaching es ps at offset base place shown is in' s =
-      let rest = drop at es in
-      let here : drop at ps ≡ placed_from base rest = ap (drop at) (sym shown) ∙ placed-drop at 0 es ∙ ap (λ n. placed_from n rest) (ap (λ l. last_offset 0 (take at l)) shown ∙ sym is) in
+  -- a cursor that sought an end in entries, of which the first one's gap is from `base`
+  pub short-counted : (es : List (Entry P)) (offset base place : ℕ)
+      → IsSought none both extent_of by_end (λ a b. nat_cmp a.end b.end) es (record { end = offset - base; span = 0; items = 0 }) Left place
+      → IsFirstReaching 0 offset (placed_from base es) (place - 1)
+  short-counted es offset base place s =
       let some = s.past_start in
       let few = s.at_most_past_end in
-      let low : 1 ≤ place - 1 → base + end_of (extent_over (take (place - 1) rest)) < offset =
-      (λ a. let not = above-from_not_le (offset - base) (end_of (extent_over (take (place - 1) rest))) (s.none_before (place - 1) a (omega arith)) in omega arith) in
+      let low : 1 ≤ place - 1 → base + end_of (extent_over (take (place - 1) es)) < offset =
+      (λ a. let not = above-from_not_le (offset - base) (end_of (extent_over (take (place - 1) es))) (s.none_before (place - 1) a (omega arith)) in omega arith) in
       let turn : suc (place - 1) ≡ place = omega arith in
-      let high : place - 1 < length rest → offset ≤ base + end_of (extent_over (take (suc (place - 1)) rest)) =
-      (λ a. subst (λ n. offset ≤ base + end_of (extent_over (take n rest))) (sym turn)
-      (let met = below-from_le (offset - base) (end_of (extent_over (take place rest))) (s.reached (omega arith)) in omega arith)) in
-      let back : (at + (place - 1)) - at ≡ place - 1 = omega arith in
+      let high : place - 1 < length es → offset ≤ base + end_of (extent_over (take (suc (place - 1)) es)) =
+      (λ a. subst (λ n. offset ≤ base + end_of (extent_over (take n es))) (sym turn)
+      (let met = below-from_le (offset - base) (end_of (extent_over (take place es))) (s.reached (omega arith)) in omega arith)) in
+      let back : (place - 1) - 0 ≡ place - 1 = omega arith in
       record {
         from = omega arith;
-        within = omega (arith, length-drop at es, length-placed 0 es, ap length shown);
-        short = subst (λ n. All (λ p. end_at p < offset) (take n (drop at ps))) (sym back) (subst (λ l. All (λ p. end_at p < offset) (take (place - 1) l)) (sym here) (short-below offset base (place - 1) rest low));
-        long = subst (λ l. All (λ p. offset ≤ end_at p) (take 1 l)) (ap (drop (place - 1)) (sym here) ∙ drop-drop (place - 1) at ps) (long-at offset base (place - 1) rest low high);
+        within = omega (arith, length-placed base es);
+        short = subst (λ n. All (λ p. end_at p < offset) (take n (placed_from base es))) (sym back) (short-below offset base (place - 1) es low);
+        long = long-at offset base (place - 1) es low high;
+      }
+
+  -- what stands from a place on, counted from there
+  pub reaching-behind : (at offset k : ℕ) (ps : List (Placed P)) → at ≤ length ps → IsFirstReaching 0 offset (drop at ps) k → IsFirstReaching at offset ps (at + k)
+  reaching-behind at offset k ps in' r =
+      let back : (at + k) - at ≡ k - 0 = omega arith in
+      record {
+        from = omega arith;
+        within = omega (arith, r.within, length-drop at ps);
+        short = subst (λ n. All (λ p. end_at p < offset) (take n (drop at ps))) (sym back) r.short;
+        long = subst (λ l. All (λ p. offset ≤ end_at p) (take 1 l)) (drop-drop k at ps) r.long;
+      }
+
+  there-first : (at : ℕ) (ps : List (Placed P)) (p : Placed P) → slice_get ps at ≡ Some p → take 1 (drop at ps) ≡ p ∷ []
+  there-first at [] p is = absurd (cc)
+  there-first zero (q ∷ ps) p is = let same : q ≡ p = cc in ap (λ r. r ∷ []) same
+  there-first (suc at) (q ∷ ps) p is = there-first at ps p is
+
+  -- the thing at the place itself reaches the offset, or none stands there
+  pub reaching-there : (at offset : ℕ) (ps : List (Placed P)) (p : Placed P) → slice_get ps at ≡ Some p → at ≤ length ps → offset ≤ end_at p → IsFirstReaching at offset ps at
+  reaching-there at offset ps p is in' far =
+      let back : at - at ≡ 0 = omega arith in
+      record {
+        from = omega arith;
+        within = in';
+        short = subst (λ n. All (λ q. end_at q < offset) (take n (drop at ps))) (sym back) (All-nil (λ q. end_at q < offset));
+        long = subst (All (λ q. offset ≤ end_at q)) (sym (there-first at ps p is)) (All-cons (λ q. offset ≤ end_at q) p [] far (All-nil (λ q. offset ≤ end_at q)));
+      }
+
+  past-all : (at : ℕ) (ps : List (Placed P)) → length ps ≤ at → drop at ps ≡ []
+  past-all zero [] few = refl
+  past-all zero (p ∷ ps) few = absurd (omega arith)
+  past-all (suc at) [] few = refl
+  past-all (suc at) (p ∷ ps) few = past-all at ps (omega arith)
+
+  pub reaching-past : (at offset : ℕ) (ps : List (Placed P)) → at ≤ length ps → length ps ≤ at → IsFirstReaching at offset ps at
+  reaching-past at offset ps in' past =
+      let back : at - at ≡ 0 = omega arith in
+      record {
+        from = omega arith;
+        within = in';
+        short = subst (λ n. All (λ q. end_at q < offset) (take n (drop at ps))) (sym back) (All-nil (λ q. end_at q < offset));
+        long = subst (λ l. All (λ q. offset ≤ end_at q) (take 1 l)) (sym (past-all at ps past)) (All-nil (λ q. offset ≤ end_at q));
       }

@@ -1,6 +1,7 @@
 -- Where a cursor stands that sought by number, by offset or by end.
-use Rattle.std.proofs.Common.{◌≡◌, ℕ, zero, suc, ◌+◌, ◌-◌, ◌<◌, ◌≤◌, min, true, false, List, [], ◌∷◌, length, take, drop, get_or, Some, None, sym, ap, subst, ◌∙◌, arith, add-one, add-zero}
+use Rattle.std.proofs.Common.{◌≡◌, ℕ, zero, suc, ◌+◌, ◌-◌, ◌<◌, ◌≤◌, min, true, false, List, [], ◌∷◌, length, take, drop, get_or, Option, Some, None, sym, ap, subst, ◌∙◌, arith, add-one, add-zero}
 use Rattle.std.specs.List.{All, slice_get}
+use Rattle.std.specs.Option.{MatchOption}
 use Rattle.std.specs.Ordering.{is_lt, is_le, nat_cmp}
 use Rattle.std.proofs.lemmas.List.{length-take, length-drop, get_or-drop, get_or-take}
 use Rattle.std.proofs.lemmas.List.Elements.{All-nil, All-cons}
@@ -48,6 +49,29 @@ module _ {P : Type 0} where
   offset-at k o [] d lt = absurd (omega arith)
   offset-at zero o (e ∷ es) d lt = omega arith
   offset-at (suc k) o (e ∷ es) d lt = omega (arith, offset-at k (o + e.gap) es d (omega arith))
+
+  -- whether a cursor is past the last
+  pub last-none : (es : List (Entry P)) (place : ℕ) → 1 ≤ place → last_of es place ≡ None → length es < place
+  last-none es zero some is = absurd (omega arith)
+  last-none es (suc k) some is = omega (arith, past-none k es is)
+
+  pub last-some : (es : List (Entry P)) (place : ℕ) (e : Entry P) → 1 ≤ place → last_of es place ≡ Some e → place ≤ length es
+  last-some es zero e some is = absurd (omega arith)
+  last-some es (suc k) e some is = omega (arith, slice-within k es e is)
+
+  -- the offset of what a cursor is on, or none past the last
+  pub next-offset : (es : List (Entry P)) (ps : List (Placed P)) (at place : ℕ) (r : Option ℕ) (d : Placed P) → placed_from 0 es ≡ ps → 1 ≤ place → at ≡ min (place - 1) (length es)
+      → MatchOption r (length es < place) (λ o. (place ≤ length es) × (o ≡ (extent_over (take place es)).span))
+      → MatchOption r (length ps ≤ at) (λ o. (get_or ps at d).offset ≡ o)
+  next-offset es ps at place None d shown some is m = omega (arith, length-placed 0 es, ap length shown)
+  next-offset es ps at place (Some o) d shown some is m =
+      let turn : suc (place - 1) ≡ place = omega arith in
+      let same : place - 1 ≡ at = omega (arith, m.0) in
+      let first : (get_or (placed_from 0 es) (place - 1) d).offset ≡ 0 + (extent_over (take place es)).span =
+      subst (λ n. (get_or (placed_from 0 es) (place - 1) d).offset ≡ 0 + (extent_over (take n es)).span) turn (offset-at (place - 1) 0 es d (omega (arith, m.0))) in
+      let here : (get_or ps at d).offset ≡ 0 + (extent_over (take place es)).span =
+      subst (λ k. (get_or ps k d).offset ≡ 0 + (extent_over (take place es)).span) same (subst (λ l. (get_or l (place - 1) d).offset ≡ 0 + (extent_over (take place es)).span) shown first) in
+      omega (arith, here, m.1)
 
   all-from : (o : ℕ) (ps : List (Placed P)) → IsSpaced o ps → All (λ p. o ≤ p.offset) ps
   all-from o [] s = All-nil (λ p. o ≤ p.offset)

@@ -56,7 +56,12 @@ impl<P: Load> Spaced<P> {
         ensures steps { TakesAtMost halving (length self.now) steps.old steps.new }
     {
         // Things at other offsets come before or behind by these.
-        let mut low = self.first_at(key.offset as u64, steps);
+        let next = self.next_at(key.offset as u64, steps);
+        // Mostly all do.
+        if next.offset != Some(key.offset) {
+            return next.place;
+        }
+        let mut low = next.place;
         let mut high = self.first_at(key.offset as u64 + 1, steps);
         while low < high {
             let middle = low + (high - low) / 2;

@@ -1,5 +1,5 @@
 //! A list of things at offsets that don't fall, coded by the gaps between them.
-ghost use Rattle.std.specs.Prelude.{◌≡◌, ℕ, ◌+◌, ◌-◌, ◌*◌, ◌^◌, ◌<◌, ◌≤◌, [], length, map, take, drop, min, All, slice_get, slice_index_or, position, is_some, IfOk, OnOk, OnErr, MatchOption};
+ghost use Rattle.std.specs.Prelude.{◌≡◌, ℕ, ◌+◌, ◌-◌, ◌*◌, ◌^◌, ◌<◌, ◌≤◌, [], length, map, take, drop, min, All, slice_get, slice_index_or, position, is_some, IfOk, IfSome, OnOk, OnErr, MatchOption};
 ghost use Rattle.std.specs.List.{list_any};
 ghost use Rattle.sum_tree.specs.Bounds.{ChangesAtMost, Searches, TakesAtMost, way};
 ghost use Rattle.mark_tree.specs.Bounds.{splicing};
@@ -33,6 +33,13 @@ impl<P: Load> Model for Spaced<P> {
     ghost view = { λ s. placed_from 0 s.entries };
 
     ghost invariant = { λ s. end_of (extent_over s.entries) < 2 ^ 32 };
+}
+
+/// A place of the list, and the offset of what stands there, if anything does.
+#[derive(Drop)]
+pub(crate) struct Next {
+    pub(crate) place: u32,
+    pub(crate) offset: Option<u32>,
 }
 
 /// An entry of the list and the offset at which it stands.
@@ -87,6 +94,8 @@ impl<P: Load> Spaced<P> {
     pub(crate) fn get(&self, at: u32, steps: &mut Steps) -> Option<Found<'_, P>>
         ensures found { MatchOption result (length self.now ≤ at) (λ f.
             slice_get self.now at ≡ Some (placed_at f.offset f.entry.now)) }
+        ensures gap { IfSome result (λ f.
+            last_offset 0 (take at self.now) + f.entry.now.gap ≡ f.offset) }
         ensures counted { steps.old ≤ steps.new }
         ensures steps { TakesAtMost way (length self.now) steps.old steps.new }
     {
@@ -115,6 +124,20 @@ impl<P: Load> Spaced<P> {
         ensures counted { steps.old ≤ steps.new }
         ensures steps { TakesAtMost way (length self.now) steps.old steps.new }
     {
+        self.next_at(offset, steps).place
+    }
+
+    /// The same place, with the offset of what stands there, if anything does.
+    pub(crate) fn next_at(&self, offset: u64, steps: &mut Steps) -> Next
+        ensures within { result.place ≤ length self.now }
+        ensures before { All (λ p. p.offset < offset) (take result.place self.now) }
+        ensures from { All (λ p. offset ≤ p.offset) (drop result.place self.now) }
+        ensures offset { (d : Placed P) →
+            MatchOption result.offset (length self.now ≤ result.place)
+            (λ o. (slice_index_or self.now result.place d).offset ≡ o) }
+        ensures counted { steps.old ≤ steps.new }
+        ensures steps { TakesAtMost way (length self.now) steps.old steps.new }
+    {
         // The number of entries is a u32, and so is each place.
         let _count = self.entries.len();
         let mut cursor = self.entries.cursor::<ByOffset>();
@@ -123,7 +146,9 @@ impl<P: Load> Spaced<P> {
             items: 0,
         };
         cursor.seek(target, Bias::Left, steps);
-        cursor.start().items as u32
+        let place = cursor.start().items as u32;
+        let offset = offset_on(&cursor);
+        Next { place, offset }
     }
 
     /// The place of the first thing with this id, and `None` exactly where there is none.
@@ -198,8 +223,8 @@ impl<P: Load> Spaced<P> {
             let cost = splicing (length fresh.items) in
             ChangesAtMost cost (length self.old) (length after) steps.old steps.new }
     {
-        let base = self.offset_before(from, steps);
         let refill = self.refill(alloc, to, fresh, shift, steps)?;
+        let base = self.base_of(from, to, refill.before, steps);
         let entries = code_gaps(alloc, base, refill.placed)?;
         self.entries
             .replace(alloc, from, refill.end, entries, steps)
@@ -220,6 +245,8 @@ impl<P: Load> Spaced<P> {
             All (λ p. end_at p < 2 ^ 32) behind }
         ensures refill { IfOk result (λ r.
             IsRefill self.now to fresh.items shift.now r.placed.items r.end) }
+        ensures before { IfOk result (λ r.
+            IfSome r.before (λ o. o ≡ last_offset 0 (take to self.now))) }
         ensures counted { steps.old ≤ steps.new }
         ensures steps { TakesAtMost way (length self.now) steps.old steps.new }
     {
@@ -227,23 +254,56 @@ impl<P: Load> Spaced<P> {
         let _count = self.len();
         let mut placed = fresh;
         match self.get(to, steps) {
-            None => Ok(Refill { placed, end: to }),
+            None => Ok(Refill {
+                placed,
+                end: to,
+                before: None,
+            }),
             Some(behind) => {
+                let before = behind.offset - behind.entry.gap;
                 placed.push(behind.shifted(alloc, shift)?)?;
                 Ok(Refill {
                     placed,
                     end: to + 1,
+                    before: Some(before),
                 })
             }
         }
     }
+
+    /// The offset of the last thing before place `from`, by that of the last one before place `to` where this is known.
+    fn base_of(&self, from: u32, to: u32, before: Option<u32>, steps: &mut Steps) -> u32
+        requires before { IfSome before (λ o. o ≡ last_offset 0 (take to self.now)) }
+        ensures offset { result ≡ last_offset 0 (take from self.now) }
+        ensures counted { steps.old ≤ steps.new }
+        ensures steps { TakesAtMost way (length self.now) steps.old steps.new }
+    {
+        match before {
+            Some(offset) if from == to => offset,
+            _ => self.offset_before(from, steps),
+        }
+    }
 }
 
-/// What takes the place of things up to place `end`.
+/// What takes the place of things up to place `end`, and the offset of the last thing before the place asked, where it was met.
 #[derive(Drop)]
 struct Refill<P> {
     placed: Vec<Placed<P>>,
     end: u32,
+    before: Option<u32>,
+}
+
+/// The offset of what a cursor is on, if it is on anything.
+fn offset_on<P: Load>(cursor: &Cursor<'_, Entry<P>, ByOffset>) -> Option<u32>
+    requires some { 1 ≤ cursor.now.place }
+    requires fits { end_of (extent_over cursor.now.items) < 2 ^ 32 }
+    ensures { let at = cursor.now in MatchOption result (length at.items < at.place)
+        (λ o. (at.place ≤ length at.items) × (o ≡ (extent_over (take at.place at.items)).span)) }
+{
+    match cursor.item() {
+        None => None,
+        Some(_) => Some(cursor.end().span as u32),
+    }
 }
 
 impl<'a, P: Load> Found<'a, P> {

@@ -5,7 +5,7 @@ use Rattle.mark_tree.specs.declared.entry.Placed.{Placed}
 use Rattle.mark_tree.specs.Order.{placed_le, key_le, key_of}
 use Rattle.mark_tree.proofs.Finding.{steps-more, above-before, halved}
 use Rattle.mark_tree.proofs.Moved.{places-in_order}
-use Rattle.mark_tree.proofs.KeyPlaces.{key_le-before, key_le-from_place}
+use Rattle.mark_tree.proofs.KeyPlaces.{key_le-before, key_le-from_place, key_le-next}
 use Rattle.mark_tree.proofs.Order.{key_le-from, key_le-trans, not_key_le-from, key_cmp, sorted-placed}
 use Rattle.mark_tree.proofs.spaced.Spaced.place_for.Goals as goal
 
@@ -13,18 +13,18 @@ pub loop-low-init : goal.loop-low-init
 loop-low-init g c =
     let key = c.args.key in
     let things = c.args.self.now in
-    let low = c.first_at-low.result in
+    let low = c.next_at-next.result.place in
     let high = c.first_at-high.result in
     record {
-      order = places-in_order key.offset key.offset things low high (omega arith) c.first_at-low.ensures.within c.first_at-low.ensures.before c.first_at-high.ensures.from;
+      order = places-in_order key.offset key.offset things low high (omega arith) c.next_at-next.ensures.within c.next_at-next.ensures.before c.first_at-high.ensures.from;
       within = c.first_at-high.ensures.within;
-      less = λ k d lt. key_le-before key things low c.first_at-low.ensures.within c.first_at-low.ensures.before k d lt;
+      less = λ k d lt. key_le-before key things low c.next_at-next.ensures.within c.next_at-next.ensures.before k d lt;
       not_less = λ d lt. key_le-from_place key things high c.first_at-high.ensures.from d lt;
       left = 32;
       few = omega arith;
       narrow = omega (arith, c.first_at-high.type_inv);
-      counted = omega (arith, c.first_at-low.ensures.counted, c.first_at-high.ensures.counted);
-      steps = λ h few. omega (arith, c.first_at-low.ensures.steps h few, c.first_at-high.ensures.steps h few);
+      counted = omega (arith, c.next_at-next.ensures.counted, c.first_at-high.ensures.counted);
+      steps = λ h few. omega (arith, c.next_at-next.ensures.steps h few, c.first_at-high.ensures.steps h few);
     }
 
 pub loop-low-preserved : goal.loop-low-preserved
@@ -69,6 +69,17 @@ loop-low-preserved-then-is_less g c =
       narrow = omega (arith, next.1);
       counted = omega arith;
       steps = λ h few. steps-more (h + 1) (34 - left) (34 - (left - 1)) c.args.steps.now c.loop-low.steps c.key_at.new.steps (omega (arith, next.0, c.loop-low.invariant.few)) (c.loop-low.invariant.steps h few) (c.key_at.ensures.steps h few);
+    }
+
+pub returns-then-ne-clause-place : goal.returns-then-ne-clause-place
+returns-then-ne-clause-place g c =
+    let key = c.args.key in
+    let things = c.args.self.now in
+    let next = c.next_at-next.result in
+    record {
+      within = c.next_at-next.ensures.within;
+      before = λ k d lt. key_le-before key things next.place c.next_at-next.ensures.within c.next_at-next.ensures.before k d lt;
+      from = λ d lt. key_le-next key things next.place next.offset c.next_at-next.ensures.from c.next_at-next.ensures.offset (sym c.ne.ensures ∙ c.if-ne.true) d lt;
     }
 
 pub returns-clause-place : goal.returns-clause-place
