@@ -1,7 +1,8 @@
 //! A snapshot after a replacement of the lower layer.
 ghost use Rattle.std.specs.Prelude.{◌≡◌, ◌+◌, ◌≤◌, ◌<◌, ◌^◌, Some, None, [], length, map, option_map, IfOk};
 ghost use Rattle.std.specs.Option.{ForSome};
-ghost use Rattle.cell_units.specs.Layers.{shown_text, unfolded};
+ghost use Rattle.cell_units.specs.BufferLines.{line_end, line_start};
+ghost use Rattle.cell_units.specs.Layers.{shown_lines, shown_text, span_of, unfolded};
 ghost use Rattle.joined_folds.specs.Sweeps.{fold_of};
 ghost use Rattle.joined_folds.specs.Windows.{moved_on};
 ghost use Rattle.mark_tree.specs.Bounds.{shrinking};
@@ -55,15 +56,14 @@ impl<L: Layer> FoldSnapshot<L> {
         // The folds fit the text, and the new text's length is a u32.
         let _sizes = (self.text_len(), layer.buffer_len());
         let folds = self.moved_folds(alloc, shift, steps)?;
-        let start = row_start_at(&self.layer, below.start);
-        let end = row_end_at(&self.layer, below.end);
+        let rows = rows_met(&self.layer, below.start, below.end);
         let change = Change {
-            start,
-            end,
-            last: end_after(end, shift),
+            start: rows.start,
+            end: rows.end,
+            last: end_after(rows.end, shift),
         };
         let next = self.changed(alloc, layer, folds, change, steps)?;
-        let replaced = self.change_to(&next, start, end, steps);
+        let replaced = self.change_to(&next, rows.start, rows.end, steps);
         Ok((next, replaced))
     }
 
@@ -96,26 +96,57 @@ impl<L: Layer> FoldSnapshot<L> {
     }
 }
 
-/// The first offset of the row of a place's line.
-fn row_start_at<L: Layer>(layer: &L, place: u32) -> u32
-    requires { place ≤ length (shown_text (L.source layer.now)) }
-    ensures { result ≡ row_start_at (L.source layer.now) place }
-{
-    // The inlays and the folds fit the text.
-    let _len = layer.buffer_len();
-    let row = layer.span(layer.point(place).row).0;
-    layer.row_range(row).0
+/// Rows of the buffer, by the first offset of the first and the end of the last.
+#[derive(Drop)]
+struct Rows {
+    start: u32,
+    end: u32,
 }
 
-/// The end of the row of a place's line.
-fn row_end_at<L: Layer>(layer: &L, place: u32) -> u32
-    requires { place ≤ length (shown_text (L.source layer.now)) }
-    ensures { result ≡ row_end_at (L.source layer.now) place }
+/// The rows of the lines from that of a place to that of a later one.
+fn rows_met<L: Layer>(layer: &L, start: u32, end: u32) -> Rows
+    requires order { start ≤ end }
+    requires within { end ≤ length (shown_text (L.source layer.now)) }
+    ensures start { result.start ≡ row_start_at (L.source layer.now) start }
+    ensures end { result.end ≡ row_end_at (L.source layer.now) end }
 {
     // The inlays and the folds fit the text.
     let _len = layer.buffer_len();
-    let row = layer.span(layer.point(place).row).1;
-    layer.row_range(row).1
+    let first = layer.point(start).row;
+    let last = layer.point(end).row;
+    let rows = rows_of(layer, first);
+    // Mostly they are those of one line.
+    if first == last {
+        return rows;
+    }
+    Rows {
+        start: rows.start,
+        end: rows_of(layer, last).end,
+    }
+}
+
+/// The rows of a line.
+fn rows_of<L: Layer>(layer: &L, line: u32) -> Rows
+    requires { line < length (shown_lines (L.source layer.now)) }
+    ensures start { let s = L.source layer.now in
+        result.start ≡ line_start s.text (span_of s line).0 }
+    ensures end { let s = L.source layer.now in
+        result.end ≡ line_end s.text (span_of s line).1 }
+{
+    // The inlays and the folds fit the text.
+    let _len = layer.buffer_len();
+    let span = layer.span(line);
+    let first = layer.row_range(span.0);
+    // Mostly the line has one row.
+    let last = if span.0 == span.1 {
+        first
+    } else {
+        layer.row_range(span.1)
+    };
+    Rows {
+        start: first.0,
+        end: last.1,
+    }
 }
 
 /// Where the end of a row goes that a replacement is not behind, if there was one.

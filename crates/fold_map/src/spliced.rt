@@ -27,6 +27,10 @@ pub(crate) fn splices_of<L: Layer>(
     ensures ok { IfOk result (λ v. v.items ≡ splices_from (L.source layer.now) base joined.now) }
 {
     let mut splices = Vec::with_capacity(alloc, joined.len())?;
+    // Of none the layer is asked nothing.
+    if joined.is_empty() {
+        return Ok(splices);
+    }
     let mut from = Position::of(layer, base, Bias::Left);
     for one in joined {
         let start = Position::of(layer, one.start, Bias::Right);
