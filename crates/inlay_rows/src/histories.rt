@@ -1,7 +1,7 @@
 //! Random changes of a map, each beside the same change of plain lists.
 use crate::laid::{Laid, Replaced};
 use crate::plain::{IDS, Placed, PlainText, ShownByte, WORDS, boundaries_of, given};
-use crate::random::Numbers;
+use made_input::Generator;
 use cell_units::{Bias, Fault, NoMemory, Refusal};
 use std::alloc::Global;
 use std::test::Fail;
@@ -133,7 +133,7 @@ struct History {
     laid: Laid,
     plain: PlainText,
     shown: Vec<ShownByte>,
-    numbers: Numbers,
+    generator: Generator,
 }
 
 impl History {
@@ -145,7 +145,7 @@ impl History {
             laid: Laid::new(alloc, "")?,
             plain,
             shown,
-            numbers: Numbers::new(seed),
+            generator: Generator::new(seed),
         })
     }
 
@@ -161,7 +161,7 @@ impl History {
 
     /// Makes a random change of both, or shows both, and tells whether they agree.
     fn agrees_once_more(&mut self) -> Result<bool, NoMemory> {
-        match self.numbers.below(10) {
+        match self.generator.below(10) {
             0 | 1 | 2 => Ok(self.insert()),
             3 => Ok(self.remove()),
             4 | 5 => {
@@ -173,28 +173,28 @@ impl History {
     }
 
     fn insert(&mut self) -> bool {
-        let id = self.numbers.below(IDS);
-        let offset = self.numbers.below(self.plain.len().saturating_add(2));
-        let bias = if self.numbers.below(2) == 0 {
+        let id = self.generator.below(IDS);
+        let offset = self.generator.below(self.plain.len().saturating_add(2));
+        let bias = if self.generator.below(2) == 0 {
             Bias::Left
         } else {
             Bias::Right
         };
-        let word = self.numbers.below(WORDS);
+        let word = self.generator.below(WORDS);
         let answer = self.laid.insert(id, offset, bias, given(word));
         answers(answer, self.plain.insert(id, offset, bias, word))
     }
 
     fn remove(&mut self) -> bool {
-        let id = self.numbers.below(IDS);
+        let id = self.generator.below(IDS);
         answers(self.laid.remove(id), self.plain.remove(id))
     }
 
     /// Replaces a short range, which may be backwards or past the end.
     fn edit(&mut self) -> Result<bool, NoMemory> {
-        let start = self.numbers.below(self.plain.len().saturating_add(1));
-        let end = start.wrapping_add(self.numbers.below(5)).wrapping_sub(1);
-        let word = self.numbers.below(WORDS);
+        let start = self.generator.below(self.plain.len().saturating_add(1));
+        let end = start.wrapping_add(self.generator.below(5)).wrapping_sub(1);
+        let word = self.generator.below(WORDS);
         let refusal = self.plain.edit(start, end, word)?;
         match self.laid.edit(start, end, given(word)) {
             Ok(answer) => Ok(refusal.is_none() && self.shows_both(answer)?),

@@ -1,5 +1,5 @@
 //! The numbers, words and lines that are drawn from a state.
-ghost use Rattle.std.specs.Prelude.{◌≡◌, ◌<◌, ◌++◌, ◌^◌, replicate, OnOk, string_bytes};
+ghost use Rattle.std.specs.Prelude.{◌≡◌, ◌<◌, ◌≤◌, ◌++◌, ◌^◌, max, replicate, OnOk, string_bytes};
 ghost use Rattle.std.specs.List.{join_with_byte};
 ghost use Rattle.made_input.specs.Drawing.{draw, times};
 ghost use Rattle.made_input.specs.Made.{line, text_lines, word};
@@ -12,15 +12,23 @@ const MULTIPLIER: u64 = 6_364_136_223_846_793_005;
 /// What is added then.
 const INCREMENT: u64 = 1_442_695_040_888_963_407;
 
-/// A state from which all is drawn.
+/// A state from which all is drawn: the same state draws the same. What is drawn looks random, and is no secret.
 #[derive(Drop)]
-pub(crate) struct Generator {
+pub struct Generator {
     pub(crate) state: u64,
 }
 
 impl Generator {
-    /// The next number, which is below `bound`.
-    pub(crate) fn draw(&mut self, bound: u64) -> u64
+    /// The generator that starts in this state.
+    pub fn new(state: u64) -> Generator
+        ensures { result.state ≡ state }
+    {
+        Generator { state }
+    }
+
+    /// The next number, which is below `bound`: the upper 31 bits of the next state of a linear congruential generator (Knuth's MMIX),
+    /// modulo the bound.
+    pub fn draw(&mut self, bound: u64) -> u64
         requires { 0 < bound }
         ensures value { result ≡ (draw bound self.old.state).value }
         ensures state { self.new.state ≡ (draw bound self.old.state).state }
@@ -29,6 +37,16 @@ impl Generator {
     {
         self.state = self.state.wrapping_mul(MULTIPLIER).wrapping_add(INCREMENT);
         (self.state >> 33) % bound
+    }
+
+    /// The next number, which is below the limit, or 0 where that is 0.
+    pub fn below(&mut self, limit: u32) -> u32
+        ensures value { result ≡ (draw (max 1 limit) self.old.state).value }
+        ensures state { self.new.state ≡ (draw (max 1 limit) self.old.state).state }
+        ensures below { 1 ≤ limit → result < limit }
+        ensures most { result ≤ limit }
+    {
+        self.draw(u64::from(limit.max(1))) as u32
     }
 
     /// Appends a word.

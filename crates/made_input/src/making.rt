@@ -21,9 +21,7 @@ pub fn made(alloc: Global, number: u32) -> Result<Made, NoMemory>
     ensures fits { IfOk result (λ m. (length m.text.items ≤ TEXT_LIMIT)
         × (length m.script.items ≤ script_limit)) }
 {
-    let mut generator = Generator {
-        state: u64::from(number),
-    };
+    let mut generator = Generator::new(u64::from(number));
     let mut text = String::new(alloc);
     generator.lines(&mut text, LINES)?;
     let mut script = String::new(alloc);

@@ -5,11 +5,15 @@ use Rattle.made_input.specs.Made.{drawn_input, made_of, script_lines, text_lines
 use Rattle.made_input.proofs.Limits.{made_script_short, made_text_short}
 use Rattle.made_input.proofs.making.made.Goals as goal
 
+-- the state that all is drawn from
+seeded : (c : goal.After-into_bytes-2) → c.new-generator.result.state ≡ c.args.number
+seeded c = c.new-generator.ensures ∙ c.from.ensures
+
 -- what the code has written of the text
 text_written : (c : goal.After-into_bytes-2) → string_bytes c.lines.new.out ≡ (text_lines 20000 c.args.number).value
 text_written c =
-    c.in_ok-lines.ensures.written ∙ ap (λ (l : List ℕ). l ++ (text_lines 20000 c.from.result).value) c.new-text.ensures.bytes
-    ∙ ap (λ (x : ℕ). (text_lines 20000 x).value) c.from.ensures
+    c.in_ok-lines.ensures.written ∙ ap (λ (l : List ℕ). l ++ (text_lines 20000 c.new-generator.result.state).value) c.new-text.ensures.bytes
+    ∙ ap (λ (x : ℕ). (text_lines 20000 x).value) (seeded c)
 
 made_text : (c : goal.After-into_bytes-2) → c.into_bytes.result.items ≡ (made_of c.args.number).text
 unfolding made_of drawn_input
@@ -20,7 +24,7 @@ unfolding made_of drawn_input
 made_script c =
     let text = text_lines 20000 c.args.number in
     let size : c.len.result ≡ length text.value = c.len.ensures ∙ c.lines.new.out.bytes.ok.0 ∙ ap length (text_written c) in
-    let behind : c.lines.new.self.state ≡ text.state = c.in_ok-lines.ensures.state ∙ ap (λ (x : ℕ). (text_lines 20000 x).state) c.from.ensures in
+    let behind : c.lines.new.self.state ≡ text.state = c.in_ok-lines.ensures.state ∙ ap (λ (x : ℕ). (text_lines 20000 x).state) (seeded c) in
     ap (λ (v : Vec ℕ Global). v.items) c.into_bytes-2.ensures.value ∙ c.in_ok-commands.ensures.written
     ∙ ap (λ (l : List ℕ). l ++ (script_lines 400 1 c.len.result c.lines.new.self.state).value) c.new-script.ensures.bytes
     ∙ ap (λ (n : ℕ). (script_lines 400 1 n c.lines.new.self.state).value) size
