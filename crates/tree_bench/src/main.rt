@@ -7,7 +7,6 @@
 
 mod entry;
 mod marks;
-mod numbers;
 mod ropes;
 mod work;
 

@@ -1,7 +1,7 @@
 //! What is timed of marks.
 ghost use Rattle.std.specs.Prelude.{◌≤◌, All, IfOk};
 
-use crate::numbers::Numbers;
+use made_input::Generator;
 use cell_units::{Bias, Fault, NoMemory, Shift, Steps};
 use mark_tree::{Load, Mark, MarkTree};
 use std::alloc::Global;
@@ -20,12 +20,12 @@ impl Load for Bare {
 }
 
 /// A mark of this id at a random offset of the text.
-fn random_mark(numbers: &mut Numbers, id: u32) -> Mark<Bare>
+fn random_mark(generator: &mut Generator, id: u32) -> Mark<Bare>
     ensures { result.offset ≤ 33554432 }
 {
     let bias = if id % 2 == 0 { Bias::Left } else { Bias::Right };
     Mark {
-        offset: numbers.below(TEXT),
+        offset: generator.below(TEXT),
         bias,
         id,
         load: Bare,
@@ -36,10 +36,10 @@ fn random_mark(numbers: &mut Numbers, id: u32) -> Mark<Bare>
 pub fn build(alloc: Global, count: u32, steps: &mut Steps) -> Result<MarkTree<Bare>, Fault>
     ensures { IfOk result (λ t. All (λ m. m.offset ≤ 33554432) t) }
 {
-    let mut numbers = Numbers::new();
+    let mut generator = Generator::new(1);
     let mut tree = MarkTree::new(alloc);
     for id in 0..count {
-        let mark = random_mark(&mut numbers, id);
+        let mark = random_mark(&mut generator, id);
         tree.insert(alloc, mark, steps)?;
     }
     Ok(tree)
@@ -75,9 +75,9 @@ pub fn shift_each(
 ) -> Result<u64, NoMemory>
     requires { All (λ m. m.offset ≤ 33554432) tree.old }
 {
-    let mut numbers = Numbers::new();
+    let mut generator = Generator::new(1);
     for turn in 0..times.min(TEXT) {
-        let shift = one_byte(turn, numbers.below(TEXT));
+        let shift = one_byte(turn, generator.below(TEXT));
         tree.apply(alloc, shift, steps)?;
     }
     Ok(tree.len() as u64)
@@ -85,10 +85,10 @@ pub fn shift_each(
 
 /// The places of the first marks at or after random offsets. It gives their sum.
 pub fn find_each(tree: &MarkTree<Bare>, times: u32, steps: &mut Steps) -> u64 {
-    let mut numbers = Numbers::new();
+    let mut generator = Generator::new(1);
     let mut check: u64 = 0;
     for _ in 0..times {
-        let place = tree.at_or_after(numbers.below(TEXT), steps);
+        let place = tree.at_or_after(generator.below(TEXT), steps);
         check = check.wrapping_add(place.unwrap_or(0) as u64);
     }
     check

@@ -1,6 +1,6 @@
 //! What is timed of ropes.
 
-use crate::numbers::Numbers;
+use made_input::Generator;
 use cell_units::{Bias, Fault, NoMemory, Point, Steps, TextFault};
 use std::alloc::Global;
 use text_rope::Rope;
@@ -34,9 +34,9 @@ pub fn replace_letters(
     times: u32,
     steps: &mut Steps,
 ) -> Result<u64, Fault> {
-    let mut numbers = Numbers::new();
+    let mut generator = Generator::new(1);
     for _ in 0..times {
-        let at = numbers.below(rope.len());
+        let at = generator.below(rope.len());
         rope.replace(alloc, at, at + 1, "b", steps)?;
     }
     Ok(rope.line_count() as u64)
@@ -44,12 +44,12 @@ pub fn replace_letters(
 
 /// The offsets of random points. It gives their sum.
 pub fn find_offsets(rope: &Rope, times: u32, steps: &mut Steps) -> u64 {
-    let mut numbers = Numbers::new();
+    let mut generator = Generator::new(1);
     let mut check: u64 = 0;
     for _ in 0..times {
         let point = Point {
-            row: numbers.below(rope.line_count()),
-            column: numbers.below(LINE),
+            row: generator.below(rope.line_count()),
+            column: generator.below(LINE),
         };
         check = check.wrapping_add(rope.offset_of(point, Bias::Left, steps) as u64);
     }
@@ -58,12 +58,12 @@ pub fn find_offsets(rope: &Rope, times: u32, steps: &mut Steps) -> u64 {
 
 /// The points of the offsets of random points. It gives the sum of their rows.
 pub fn find_points(rope: &Rope, times: u32, steps: &mut Steps) -> u64 {
-    let mut numbers = Numbers::new();
+    let mut generator = Generator::new(1);
     let mut check: u64 = 0;
     for _ in 0..times {
         let point = Point {
-            row: numbers.below(rope.line_count()),
-            column: numbers.below(LINE),
+            row: generator.below(rope.line_count()),
+            column: generator.below(LINE),
         };
         let offset = rope.offset_of(point, Bias::Left, steps);
         check = check.wrapping_add(rope.point_of(offset, steps).row as u64);

@@ -2,7 +2,7 @@
 ghost use Rattle.std.specs.Prelude.{◌≡◌, IfOk, length};
 
 use crate::entry::Entry;
-use crate::numbers::Numbers;
+use made_input::Generator;
 use cell_units::{Bias, NoMemory, Steps};
 use std::alloc::Global;
 use sum_tree::SumTree;
@@ -31,11 +31,11 @@ pub fn push_each(alloc: Global, count: u32, steps: &mut Steps) -> Result<SumTree
 
 /// Seeks places at random. It gives the sum of the numbers that stand there.
 pub fn seek_each(tree: &SumTree<Entry>, times: u32, steps: &mut Steps) -> u64 {
-    let mut numbers = Numbers::new();
+    let mut generator = Generator::new(1);
     let mut cursor = tree.cursor::<u64>();
     let mut check = 0;
     for _ in 0..times {
-        cursor.seek(numbers.below(tree.len()) as u64, Bias::Right, steps);
+        cursor.seek(generator.below(tree.len()) as u64, Bias::Right, steps);
         if let Some(entry) = cursor.item() {
             check = entry.0.wrapping_add(check);
         }
@@ -67,10 +67,10 @@ pub fn replace_each(
     times: u32,
     steps: &mut Steps,
 ) -> Result<u64, NoMemory> {
-    let mut numbers = Numbers::new();
+    let mut generator = Generator::new(1);
     let mut at = 0;
     for number in 0..times {
-        at = numbers.below(tree.len());
+        at = generator.below(tree.len());
         replace_one(alloc, tree, at, number, steps)?;
     }
     Ok(tree.get(at, steps).map_or(0, |entry| entry.0 as u64))
@@ -83,10 +83,10 @@ pub fn change_copies(
     times: u32,
     steps: &mut Steps,
 ) -> Result<u64, NoMemory> {
-    let mut numbers = Numbers::new();
+    let mut generator = Generator::new(1);
     for number in 0..times {
         let mut copy = tree.share()?;
-        replace_one(alloc, &mut copy, numbers.below(tree.len()), number, steps)?;
+        replace_one(alloc, &mut copy, generator.below(tree.len()), number, steps)?;
     }
     Ok(times as u64)
 }
