@@ -5,6 +5,8 @@
 #[cfg(test)]
 mod callers;
 #[cfg(test)]
+mod lines;
+#[cfg(test)]
 mod marks;
 #[cfg(test)]
 mod nodes;

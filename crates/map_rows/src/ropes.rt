@@ -79,8 +79,25 @@ fn replaces_a_feed(rt: HostRuntime) -> Result<(), Fail> {
     Ok(())
 }
 
+/// A text may have 33,554,432 bytes. As many are too long behind a letter, which stays then.
+#[test]
+fn refuses_a_replacement_past_the_limit(rt: HostRuntime) -> Result<(), Fail> {
+    let alloc = rt.alloc();
+    let mut steps = Steps::new();
+    let mut rope = Rope::from_bytes(alloc, b"a", &mut steps)?;
+    let piece = "x".repeat(alloc, 1024)?;
+    let text = piece.repeat(alloc, 32_768)?;
+    match rope.replace(alloc, 1, 1, text.as_str(), &mut steps) {
+        Ok(_) => assert!(rt; false, "there would be 33,554,433 bytes"),
+        Err(fault) => assert_eq!(rt; fault, Fault::Refused(Refusal::TooLong)),
+    }
+    assert_eq!(rt; rope.len(), 1);
+    assert!(rt; shows(alloc, &rope, 0, 1, "a", &mut steps)?);
+    Ok(())
+}
+
 /// A return with no feed behind it is a feed too, and two before a feed are two feeds. What is inserted is cleaned by
-/// Itself: a return at its end and the feed behind that are two line breaks.
+/// itself: a return at its end and the feed behind that are two line breaks.
 #[test]
 fn turns_lone_returns_into_feeds(rt: HostRuntime) -> Result<(), Fail> {
     let alloc = rt.alloc();
