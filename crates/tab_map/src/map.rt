@@ -73,7 +73,8 @@ impl<L: Layer> TabMap<L> {
 
     /// Sets the tab size, in cells. `BadNumber` where it isn't 1 to 16.
     pub fn set_tab(&mut self, tab: u32) -> Result<(), Refusal>
-        ensures set { OnOk result (self.new ≡ record self.old { tab = tab; before = Some (unwrap_or self.old.before self.old.tab) }) }
+        ensures set { let before = Some (unwrap_or self.old.before self.old.tab) in
+            OnOk result (self.new ≡ record self.old { tab = tab; before = before }) }
         ensures accepted { OnOk result (IsTab tab) }
         ensures refused { OnErr result (¬ IsTab tab) }
         ensures unchanged { OnErr result (self.new ≡ self.old) }
@@ -97,7 +98,8 @@ impl<L: Layer> TabMap<L> {
     ) -> Result<(TabSnapshot<L>, Option<Shift>), NoMemory>
         requires follow { LinesFollow self.old.source (L.source layer) below }
         requires fits { FitsU32 (lines_at (L.source layer) self.old.tab) }
-        ensures synced { IfOk result (λ made. IsSynced self.old (L.source layer) below self.new made.0 made.1) }
+        ensures synced { let source = L.source layer in
+            IfOk result (λ made. IsSynced self.old source below self.new made.0 made.1) }
         ensures unchanged { OnErr result (self.new ≡ self.old) }
     {
         let snapshot = TabSnapshot {

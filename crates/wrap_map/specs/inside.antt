@@ -6,3 +6,4 @@ pub mod Gathering
 pub mod Stretches
 pub mod Changes
 pub mod Landings
+pub mod Kept

@@ -40,8 +40,8 @@ impl Model for Landing {
 
     ghost Value = { Landings };
 
-    ghost view = { λ l.
-        record { lines = l.stretches; edits = l.edits.items; start = l.start; fresh = spread l.fresh.items } };
+    ghost view = { λ l. let fresh = spread l.fresh.items in
+        record { lines = l.stretches; edits = l.edits.items; start = l.start; fresh = fresh } };
 
     ghost invariant = { λ l. length (spread l.fresh.items) ≡ length l.fresh.items };
 }
@@ -72,7 +72,8 @@ impl Landing {
     ) -> Result<(), NoMemory>
         requires close { CanClose before.now self.old }
         requires present { IfSome (carry_of since.now line) (λ present. present < 2 ^ 32) }
-        requires short { IfSome (carry_of since.now line) (λ _. length cuts.now.items + 1 < 2 ^ 32) }
+        requires short { let count = length cuts.now.items in
+            IfSome (carry_of since.now line) (λ _. count + 1 < 2 ^ 32) }
         ensures carried { let stood : Stood = record { mark = mark; cuts = cuts.now.items } in
             OnOk result (self.new ≡ carried before.now since.now line stood self.old) }
         ensures counted { steps.old ≤ steps.new }
@@ -107,7 +108,7 @@ impl Landing {
         ensures grouped { OnOk result (TakesAtMost grouping (length before.now)
             (steps.old + 4 * length self.old.fresh) (steps.new + 4 * length self.new.fresh)) }
     {
-        let stretch = self.stretches.of_line(alloc, mark, cuts)?;
+        let stretch = Stretch::of_line(alloc, mark, cuts)?;
         self.move_to(alloc, before, line, steps)?;
         self.fresh.push(stretch)?;
         Ok(())
@@ -127,7 +128,8 @@ impl Landing {
         ensures steps { let waiting = length self.old.fresh in
             TakesAtMost (closing waiting) (length before.now) steps.old steps.new }
         ensures grouped { OnOk result ((h : ℕ) → length before.now < 2 * 6 ^ (h + 1) →
-            steps.new + 4 * length self.new.fresh ≤ steps.old + (4 * length self.old.fresh + closing 0 h)) }
+            steps.new + 4 * length self.new.fresh ≤
+            steps.old + (4 * length self.old.fresh + closing 0 h)) }
     {
         if line == self.end() {
             return Ok(());

@@ -38,8 +38,8 @@ impl<N: Lines> Model for WrapMap<N> {
 
     ghost Value = { Wrapped };
 
-    ghost view = { λ m.
-        record { standing = standing_of (N.elements_by_line m.lines) m.stretches; width = m.width } };
+    ghost view = { λ m. let standing = standing_of (N.elements_by_line m.lines) m.stretches in
+        record { standing = standing; width = m.width } };
 
     ghost invariant = { λ m. StandSo (N.elements_by_line m.lines) m.stretches × IsWidth m.width };
 }

@@ -52,19 +52,19 @@ fn replaced(
         ChangesAtMost syncing (length lines.now) (length after) steps.old steps.new }
 {
     let mut after = lines.share()?;
-    let fresh = unwrapped_lines(alloc, lines, below.count)?;
+    let fresh = unwrapped_lines(alloc, below.count)?;
     let rows = after.put(alloc, below.start, below.end, fresh, steps)?;
     Ok((after, Shift::new(rows.start, rows.end, below.count)))
 }
 
 /// So many lines in one row each.
-fn unwrapped_lines(alloc: Global, lines: &Stretches, count: u32) -> Result<Vec<Stretch>, NoMemory>
+fn unwrapped_lines(alloc: Global, count: u32) -> Result<Vec<Stretch>, NoMemory>
     ensures lines { IfOk result (λ fresh. spread fresh.items ≡ replicate count unwrapped) }
     ensures few { IfOk result (λ fresh. length fresh.items ≤ 1) }
 {
     let mut fresh = Vec::new(alloc);
     if count > 0 {
-        fresh.push(lines.uncut(0, count)?)?;
+        fresh.push(Stretch::uncut(0, count))?;
     }
     Ok(fresh)
 }

@@ -26,7 +26,7 @@ use sum_tree::SumTree;
 #[derive(Drop)]
 pub struct Stretches {
     tree: SumTree<Stretch>,
-    /// The cuts of every line without cuts.
+    /// An empty list, to be lent as the cuts of lines without cuts.
     none: Arc<Cuts>,
 }
 
@@ -155,11 +155,11 @@ impl Stretches {
         ensures counted { steps.old ≤ steps.new }
         ensures steps { steps.new ≤ steps.old + 64 }
     {
-        let none = Arc::new(alloc, Cuts::new(alloc))?;
         let mut stretches = Vec::new(alloc);
         if count > 0 {
-            stretches.push(Stretch::uncut(0, count, &none)?)?;
+            stretches.push(Stretch::uncut(0, count))?;
         }
+        let none = Arc::new(alloc, Cuts::new(alloc))?;
         Ok(Stretches {
             tree: SumTree::from_vec(alloc, stretches, steps)?,
             none,
@@ -214,7 +214,7 @@ impl Stretches {
         ensures counted { steps.old ≤ steps.new }
         ensures steps { TakesAtMost way (length self.now) steps.old steps.new }
     {
-        stretch_of(&self.tree, line, steps).cuts()
+        stretch_of(&self.tree, line, steps).cuts(&self.none)
     }
 
     /// How many rows stand before a line, and before the end.
@@ -309,26 +309,6 @@ impl Stretches {
             })?;
         }
         Ok(runs)
-    }
-
-    /// So many lines without cuts, to be put into this list or a share of it.
-    pub fn uncut(&self, mark: u32, lines: u32) -> Result<Stretch, NoMemory>
-        requires { 1 ≤ lines }
-        ensures { IfOk result (λ s. s ≡ stretched mark lines []) }
-    {
-        Stretch::uncut(mark, lines, &self.none)
-    }
-
-    /// One line with its cuts, to be put into this list or a share of it.
-    pub fn of_line(&self, alloc: Global, mark: u32, cuts: &Cuts) -> Result<Stretch, NoMemory>
-        requires { length cuts.now.items + 1 < 2 ^ 32 }
-        ensures { IfOk result (λ s. s ≡ stretched mark 1 cuts.now.items) }
-    {
-        if cuts.is_empty() {
-            self.uncut(mark, 1)
-        } else {
-            Stretch::cut(alloc, mark, cuts)
-        }
     }
 
     /// Puts the lines of stretches in the place of those from `start` to `end`, and answers which rows those had.

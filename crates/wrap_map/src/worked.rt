@@ -23,8 +23,9 @@ pub fn ten_lines()
 /// The same when the sixth line is replaced by one: its two rows become one, and it leaves the run of marks.
 pub fn ten_lines_of_which_one_is_replaced()
     ensures marks { (s : Shift) → s.start ≡ 5 → s.end ≡ 6 → s.count ≡ 1 →
-        runs_from 0 (marks_after (Some s) (replicate 10 5))
-        ≡ record { first = 0; last = 4; width = 5 } ∷ (record { first = 6; last = 9; width = 5 } ∷ []) }
+        runs_from 0 (marks_after (Some s) (replicate 10 5)) ≡
+        record { first = 0; last = 4; width = 5 } ∷
+        (record { first = 6; last = 9; width = 5 } ∷ []) }
     ensures rows { let rows = shown_rows (all_at 5 ten) in
         (rows_before rows 5 ≡ 10) × (rows_before rows 6 ≡ 12) }
     ensures row { slice_index_or (line_rows (shown_rows (all_at 5 ten)) 0) 1 [] ≡ codes "bbb" }

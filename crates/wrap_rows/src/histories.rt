@@ -1,6 +1,6 @@
 //! Random changes of a text under its maps, each beside the same change of plain lists.
 use crate::plain::{PlainLine, PlainRun, PlainText};
-use crate::random::Numbers;
+use made_input::Generator;
 use crate::read::{
     Replaced, mark, marks, numbers, row_count, row_text, rows_before, rows_of, waiting,
     waiting_beside,
@@ -31,13 +31,13 @@ const WORDS: [&str; 10] = [
 const WIDTHS: [u32; 6] = [0, 4, 5, 8, 12, 30];
 
 /// One of the texts.
-fn word(numbers: &mut Numbers) -> &'static str {
-    WORDS.get(numbers.below(10) as usize).copied().unwrap_or("")
+fn word(generator: &mut Generator) -> &'static str {
+    WORDS.get(generator.below(10) as usize).copied().unwrap_or("")
 }
 
 /// One of the widths.
-fn width(numbers: &mut Numbers) -> u32 {
-    WIDTHS.get(numbers.below(6) as usize).copied().unwrap_or(0)
+fn width(generator: &mut Generator) -> u32 {
+    WIDTHS.get(generator.below(6) as usize).copied().unwrap_or(0)
 }
 
 /// The first line of a run, and how many there are.
@@ -108,7 +108,7 @@ struct History {
     /// The stamps of the lines of the run that was taken last, and the width at which these were cut.
     stamps: Vec<u32>,
     width: u32,
-    numbers: Numbers,
+    generator: Generator,
 }
 
 impl History {
@@ -120,7 +120,7 @@ impl History {
             plain: PlainText::new(alloc, text.as_bytes(), 5)?,
             stamps: Vec::new(alloc),
             width: 0,
-            numbers: Numbers::new(seed),
+            generator: Generator::new(seed),
         })
     }
 
@@ -136,9 +136,9 @@ impl History {
 
     /// Makes a random change of both, and tells whether the answers agree.
     fn turns_alike(&mut self) -> Result<bool, NoMemory> {
-        match self.numbers.below(20) {
+        match self.generator.below(20) {
             0 => {
-                let width = width(&mut self.numbers);
+                let width = width(&mut self.generator);
                 self.plain.set_width(width);
                 Ok(self.late.text.set_width(width).is_ok())
             }
@@ -172,10 +172,10 @@ impl History {
     /// Replaces a range, which may be backwards or past the end, and is short where the text is.
     fn edits_alike(&mut self) -> Result<bool, NoMemory> {
         let len = self.plain.len();
-        let start = self.numbers.below(len.saturating_add(1));
+        let start = self.generator.below(len.saturating_add(1));
         let most = (len / 4).max(6);
-        let end = start.wrapping_add(self.numbers.below(most)).wrapping_sub(1);
-        let word = word(&mut self.numbers);
+        let end = start.wrapping_add(self.generator.below(most)).wrapping_sub(1);
+        let word = word(&mut self.generator);
         if start > end || end > len {
             let refusal = self.edit(start, end, word);
             return Ok(refusal == Err(Fault::Refused(Refusal::BadRange)));
@@ -197,8 +197,8 @@ impl History {
     fn shows_alike(&mut self) -> Result<bool, NoMemory> {
         let shown = self.late.text.map.snapshot()?;
         let out = Run {
-            first: self.numbers.below(9),
-            count: self.numbers.below(9),
+            first: self.generator.below(9),
+            count: self.generator.below(9),
         };
         let none = Run {
             first: u32::MAX,

@@ -7,9 +7,9 @@ mod histories;
 #[cfg(test)]
 mod landings;
 #[cfg(test)]
-mod plain;
+mod most_lines;
 #[cfg(test)]
-mod random;
+mod plain;
 #[cfg(test)]
 mod read;
 #[cfg(test)]

@@ -255,7 +255,7 @@ fn run(alloc: Global, run: Option<Run>) -> Result<String, NoMemory> {
 }
 
 /// Which rows were replaced, and by which, or `none`.
-fn landed(alloc: Global, patch: &Patch) -> Result<String, NoMemory> {
+pub(crate) fn landed(alloc: Global, patch: &Patch) -> Result<String, NoMemory> {
     let mut all = String::new(alloc);
     for edit in patch.edits() {
         if all.len() > 0 {

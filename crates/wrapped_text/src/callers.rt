@@ -49,6 +49,7 @@ pub fn wrap_next<N: Lines>(
     ensures next { IfOk result (λ run. IsNextIfAny map.old.standing.marks width [] run) }
     ensures wrapped { IfOk result (λ run. IsWrapped map.old run map.new) }
     ensures unchanged { OnErr result (map.new ≡ map.old) }
+    ensures counted { steps.old ≤ steps.new }
 {
     let Some(run) = map.next_run(&[], steps) else {
         return Ok(None);

@@ -56,9 +56,11 @@ impl LateText {
         ensures next { let map = self.old.text.map in
             IfOk result (λ run. IsNextIfAny map.standing.marks map.width [] run) }
         ensures taken { IfOk result (λ run. IfSome run (λ run. self.new.run ≡ run)) }
-        ensures width { IfOk result (λ run. IfSome run (λ _. self.new.width ≡ self.old.text.width)) }
+        ensures width { let width = self.old.text.width in
+            IfOk result (λ run. IfSome run (λ _. self.new.width ≡ width)) }
         ensures map { self.new.text.map ≡ self.old.text.map }
         ensures text { self.new.text.rope ≡ self.old.text.rope }
+        ensures counted { steps.old ≤ steps.new }
     {
         let Some(run) = self.text.map.next_run(&[], steps) else {
             return Ok(None);
@@ -80,6 +82,7 @@ impl LateText {
         ensures other_width { self.old.width ≢ self.old.text.map.width →
             IfOk result (λ patch. patch ≡ []) × (self.new.text.map ≡ self.old.text.map) }
         ensures unchanged { OnErr result (self.new.text.map ≡ self.old.text.map) }
+        ensures counted { steps.old ≤ steps.new }
     {
         let wraps = self.wraps.as_slice();
         self.text.land(
@@ -107,6 +110,7 @@ impl LateText {
         ensures shown { let old = self.old.text.map in let new = self.new.text in
             IfOk result (λ made. IsSynced old new.lines made.lines new.map made.shown made.rows) }
         ensures unchanged { OnErr result (self.new ≡ self.old) }
+        ensures counted { steps.old ≤ steps.new }
     {
         let mut text = self.text.share()?;
         let change = text.replace(alloc, start, end, put, steps)?;

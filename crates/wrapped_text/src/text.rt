@@ -82,7 +82,8 @@ fn follow(
     ensures lines { IfOk result (λ made. made.0 ≡ lines_of rope.now) }
     ensures fit { OnOk result (FitsU32 (lines_of rope.now)) }
     ensures room { OnOk result (HaveRoom (lines_of rope.now)) }
-    ensures leads { IfOk result (λ made. LeadsBy (lines_at tabs.old.source 4) (lines_of rope.now) made.1) }
+    ensures leads { let before = lines_at tabs.old.source 4 in
+        IfOk result (λ made. LeadsBy before (lines_of rope.now) made.1) }
     ensures met { let source = plain_source rope.now in
         IfOk result (λ made. AreMet tabs.old.source source (Some below) made.1) }
 {
@@ -102,6 +103,7 @@ impl WrappedText {
         requires { IsWidth width }
         ensures text { IfOk result (λ made. made.rope ≡ rope) }
         ensures map { IfOk result (λ made. made.map ≡ unwrapped_at width made.lines) }
+        ensures counted { steps.old ≤ steps.new }
     {
         let (tabs, lines) = tabbed(alloc, &rope)?;
         let map = WrapMap::new(alloc, lines.share()?, width, steps)?;
@@ -118,7 +120,8 @@ impl WrappedText {
     pub fn set_width(&mut self, width: u32) -> Result<(), Refusal>
         ensures set { OnOk result (self.new.map ≡ record self.old.map { width = width }) }
         ensures text { self.new.rope ≡ self.old.rope }
-        ensures refused { IfErr result (λ refusal. (refusal ≡ Refusal.BadNumber) × (¬ IsWidth width)) }
+        ensures refused { IfErr result
+            (λ refusal. (refusal ≡ Refusal.BadNumber) × (¬ IsWidth width)) }
         ensures unchanged { OnErr result (self.new ≡ self.old) }
     {
         self.map.set_width(width)?;
@@ -140,10 +143,12 @@ impl WrappedText {
             OnOk result (self.new.rope ≡ made) }
         ensures leads { IfOk result (λ made. LeadsBy self.old.lines self.new.lines made.lines) }
         ensures met { let count = length (clean text.now) in
-            IfOk result (λ made. AreLinesMet self.old.rope self.new.rope start end count made.lines) }
+            let old = self.old.rope in
+            IfOk result (λ made. AreLinesMet old self.new.rope start end count made.lines) }
         ensures shown { let old = self.old.map in let lines = self.new.lines in
             IfOk result (λ made. IsSynced old lines made.lines self.new.map made.shown made.rows) }
         ensures unchanged { OnErr result (self.new ≡ self.old) }
+        ensures counted { steps.old ≤ steps.new }
     {
         let bytes = self.rope.len();
         let mut rope = self.rope.share()?;
@@ -173,9 +178,11 @@ impl WrappedText {
 
     /// Wraps the first lines that wait. It gives the run of them, or `None` where no line waits.
     pub fn wrap_next(&mut self, alloc: Global, steps: &mut Steps) -> Result<Option<Run>, NoMemory>
-        ensures next { IfOk result (λ run. IsNextIfAny self.old.map.standing.marks self.old.width [] run) }
+        ensures next { let marks = self.old.map.standing.marks in
+            IfOk result (λ run. IsNextIfAny marks self.old.width [] run) }
         ensures wrapped { IfOk result (λ run. IsWrapped self.old.map run self.new.map) }
         ensures unchanged { OnErr result (self.new.map ≡ self.old.map) }
+        ensures counted { steps.old ≤ steps.new }
     {
         wrap_next(alloc, &mut self.map, &self.lines, self.width, steps)
     }
@@ -202,6 +209,7 @@ impl WrappedText {
         ensures text { self.new.rope ≡ self.old.rope }
         ensures lines { self.new.lines ≡ self.old.lines }
         ensures unchanged { OnErr result (self.new.map ≡ self.old.map) }
+        ensures counted { steps.old ≤ steps.new }
     {
         self.map.land(alloc, taken, since, run, width, wraps, steps)
     }
