@@ -1,8 +1,8 @@
 //! Random changes of a map, each beside the same change of plain lists.
 use crate::laid::{Laid, Replaced};
 use crate::plain::{IDS, Placed, PlainText, ShownByte, WORDS, boundaries_of, given};
-use made_input::Generator;
 use cell_units::{Bias, Fault, NoMemory, Refusal};
+use made_input::Generator;
 use std::alloc::Global;
 use std::test::Fail;
 

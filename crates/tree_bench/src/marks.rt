@@ -1,8 +1,8 @@
 //! What is timed of marks.
 ghost use Rattle.std.specs.Prelude.{◌≤◌, All, IfOk};
 
-use made_input::Generator;
 use cell_units::{Bias, Fault, NoMemory, Shift, Steps};
+use made_input::Generator;
 use mark_tree::{Load, Mark, MarkTree};
 use std::alloc::Global;
 

@@ -1,7 +1,7 @@
 //! What is timed of ropes.
 
-use made_input::Generator;
 use cell_units::{Bias, Fault, NoMemory, Point, Steps, TextFault};
+use made_input::Generator;
 use std::alloc::Global;
 use text_rope::Rope;
 

@@ -2,8 +2,8 @@
 ghost use Rattle.std.specs.Prelude.{◌≡◌, IfOk, length};
 
 use crate::entry::Entry;
-use made_input::Generator;
 use cell_units::{Bias, NoMemory, Steps};
+use made_input::Generator;
 use std::alloc::Global;
 use sum_tree::SumTree;
 

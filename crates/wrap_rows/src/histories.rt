@@ -1,6 +1,5 @@
 //! Random changes of a text under its maps, each beside the same change of plain lists.
 use crate::plain::{PlainLine, PlainRun, PlainText};
-use made_input::Generator;
 use crate::read::{
     Replaced, mark, marks, numbers, row_count, row_text, rows_before, rows_of, waiting,
     waiting_beside,
@@ -9,6 +8,7 @@ use crate::script::{lines_of, unwrapped};
 use cell_line::Run;
 use cell_units::{Fault, NoMemory, Refusal, Rows, Steps};
 use edit_patch::Patch;
+use made_input::Generator;
 use std::alloc::Global;
 use std::test::Fail;
 use wrapped_text::{LateText, Shown};
@@ -32,12 +32,18 @@ const WIDTHS: [u32; 6] = [0, 4, 5, 8, 12, 30];
 
 /// One of the texts.
 fn word(generator: &mut Generator) -> &'static str {
-    WORDS.get(generator.below(10) as usize).copied().unwrap_or("")
+    WORDS
+        .get(generator.below(10) as usize)
+        .copied()
+        .unwrap_or("")
 }
 
 /// One of the widths.
 fn width(generator: &mut Generator) -> u32 {
-    WIDTHS.get(generator.below(6) as usize).copied().unwrap_or(0)
+    WIDTHS
+        .get(generator.below(6) as usize)
+        .copied()
+        .unwrap_or(0)
 }
 
 /// The first line of a run, and how many there are.
@@ -174,7 +180,9 @@ impl History {
         let len = self.plain.len();
         let start = self.generator.below(len.saturating_add(1));
         let most = (len / 4).max(6);
-        let end = start.wrapping_add(self.generator.below(most)).wrapping_sub(1);
+        let end = start
+            .wrapping_add(self.generator.below(most))
+            .wrapping_sub(1);
         let word = word(&mut self.generator);
         if start > end || end > len {
             let refusal = self.edit(start, end, word);
