@@ -6,3 +6,4 @@ pub mod LinesShown
 pub mod Kept
 pub mod Followed
 pub mod Under
+pub mod Altered

@@ -8,7 +8,7 @@ use Rattle.cell_units.specs.declared.place.Side.TheVariants.{Above, Below}
 use Rattle.cell_units.specs.Layers.{Source, plain_source}
 use Rattle.cell_units.specs.Text.{IsBoundary}
 use Rattle.block_map.specs.Between.{Between}
-use Rattle.block_map.specs.Maps.{BlockState, IsShown, Kept, row_of_kept}
+use Rattle.block_map.specs.Maps.{BlockState, IsShown, Kept, row_of_kept, synced}
 use Rattle.wrap_map.specs.Standing.{Standing, shown_rows}
 
 -- A block of a layer: its anchor is a boundary, and where it was shown it stood at its line.
@@ -33,10 +33,15 @@ pub record StandsUnder (text : List ℕ) (standing : Standing) (s : BlockState) 
 abbrev pub IsShownOf : List ℕ → Standing → BlockState → Between → Type 0
 IsShownOf text standing s b = IsShown (plain_source text) None (shown_rows standing) s b
 
--- What is shown of a text after a replacement, with which the blocks have moved.
-pub record IsShownAfter (text : List ℕ) (start end count : ℕ) (standing : Standing) (s : BlockState) (b : Between) : Type 0 where
+-- the map of blocks when they are shown of a text as it was
+abbrev pub synced_with : List ℕ → Standing → BlockState → BlockState
+synced_with text standing s = synced (plain_source text) None (shown_rows standing) s
+
+-- What is shown of a text after a replacement, with which the blocks have moved, and the map of blocks then.
+pub record IsShownAfter (text : List ℕ) (start end count : ℕ) (standing : Standing) (s new : BlockState) (b : Between) : Type 0 where
   pub shift : Shift
   pub start_is : shift.start ≡ start
   pub end_is : shift.end ≡ end
   pub count_is : shift.count ≡ count
   pub shown : IsShown (plain_source text) (Some shift) (shown_rows standing) s b
+  pub map_is : new ≡ synced (plain_source text) (Some shift) (shown_rows standing) s

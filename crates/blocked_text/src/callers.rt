@@ -9,7 +9,8 @@ ghost use Rattle.shifted_lists.specs.Leads.{LeadsBy};
 ghost use Rattle.wrap_map.specs.Landing.{cuts_of_run, standing_landed};
 ghost use Rattle.block_map.specs.Follows.{IsFollowed};
 ghost use Rattle.block_map.specs.Maps.{IsShown, synced};
-ghost use Rattle.blocked_text.specs.Standing.{IsShownAfter, IsShownOf, StandsOn, StandsUnder};
+ghost use Rattle.wrap_map.specs.Standing.{standing_after};
+ghost use Rattle.blocked_text.specs.Standing.{IsShownAfter, IsShownOf, StandsOn, StandsUnder, synced_with};
 
 use crate::rows::BlockRows;
 use block_map::BlockMap;
@@ -42,6 +43,8 @@ pub fn show<P: Layer, R: Rows>(
     ensures shown { let source = P.source layer.now in
         IfOk result (λ made. IsShown source None (R.shown rows) blocks.old made.blocks) }
     ensures rows { IfOk result (λ made. R.shown made.rows ≡ R.shown rows) }
+    ensures blocks { let source = P.source layer.now in
+        OnOk result (blocks.new ≡ synced source None (R.shown rows) blocks.old) }
     ensures stands { OnOk result (StandsOn (P.source layer.now) (R.shown rows) blocks.new) }
     ensures unchanged { OnErr result (blocks.new ≡ blocks.old) }
     ensures counted { steps.old ≤ steps.new }
@@ -66,12 +69,17 @@ pub fn replace(
     ensures text { let made = replaced_text text.old.rope start end (clean put.now) in
         OnOk result (text.new.rope ≡ made) }
     ensures leads { IfOk result (λ made. LeadsBy text.old.lines text.new.lines made.lines) }
+    ensures rows { let old = text.old.map in IfOk result (λ made.
+        let standing = standing_after old.standing text.new.lines made.lines in
+        text.new.map ≡ record old { standing = standing }) }
     ensures shown { let count = length (clean put.now) in let new = text.new in
+        let standing = new.map.standing in
         IfOk result (λ made.
-        IsShownAfter new.rope start end count new.map.standing blocks.old made.shown.blocks) }
+        IsShownAfter new.rope start end count standing blocks.old blocks.new made.shown.blocks) }
     ensures stands { OnOk result (StandsUnder text.new.rope text.new.map.standing blocks.new) }
     ensures unchanged { OnErr result (text.new ≡ text.old) }
     ensures kept { OnErr result (blocks.new ≡ blocks.old) }
+    ensures counted { steps.old ≤ steps.new }
 {
     let bytes = text.rope.len();
     let mut next = text.share()?;
@@ -118,9 +126,12 @@ pub fn land(
     ensures lines { text.new.lines ≡ text.old.lines }
     ensures shown { IfOk result (λ made.
         IsShownOf text.new.rope text.new.map.standing blocks.old made.blocks) }
+    ensures blocks { let standing = text.new.map.standing in
+        OnOk result (blocks.new ≡ synced_with text.new.rope standing blocks.old) }
     ensures stands { OnOk result (StandsUnder text.new.rope text.new.map.standing blocks.new) }
     ensures unchanged { OnErr result (text.new ≡ text.old) }
     ensures kept { OnErr result (blocks.new ≡ blocks.old) }
+    ensures counted { steps.old ≤ steps.new }
 {
     // A text is short.
     let _bytes = text.rope.len();

@@ -2,7 +2,11 @@
 #![tactic(auto)]
 
 mod callers;
+mod late;
 mod rows;
+mod text;
 
 pub use callers::{Replaced, land, replace, show};
+pub use late::LateBlocks;
 pub use rows::BlockRows;
+pub use text::BlockedText;

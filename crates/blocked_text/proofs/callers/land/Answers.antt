@@ -69,6 +69,11 @@ returns-clause-shown c =
     subst (λ (t : Standing). IsShown (plain_source c.land.new.self.rope) None (shown_rows t) c.args.blocks.now c.in_ok-shown.shown.blocks)
     c.in_ok-snapshot.ensures c.in_ok-shown.ensures.shown
 
+pub returns-clause-blocks : goal.returns-clause-blocks
+returns-clause-blocks c =
+    c.in_ok-shown.ensures.ok
+    ∙ ap (λ (t : Standing). synced (plain_source c.land.new.self.rope) None (shown_rows t) c.args.blocks.now) c.in_ok-snapshot.ensures
+
 pub returns-clause-landed : goal.returns-clause-landed
 returns-clause-landed c =
     λ same.

@@ -9,7 +9,7 @@ use Rattle.cell_units.proofs.ReplacedRows.{length-replaced_text}
 use Rattle.cell_line.specs.declared.element.Element.{Element}
 use Rattle.edit_patch.specs.declared.edit.Edit.{Edit}
 use Rattle.shifted_lists.specs.Leads.{LeadsBy}
-use Rattle.wrap_map.specs.Standing.{Standing, Wrapped, shown_rows}
+use Rattle.wrap_map.specs.Standing.{Standing, Wrapped, shown_rows, standing_after}
 use Rattle.wrapped_text.specs.Shown.{lines_of, patch_of}
 use Rattle.block_map.specs.Follows.{IsFollowed}
 use Rattle.block_map.specs.Maps.{BlockState, IsShown, synced}
@@ -108,7 +108,15 @@ returns-clause-shown c =
           c.in_ok-change.ensures.range c.in_ok-change.ensures.text bytes c.len.ensures.value shift.count;
       shown = subst (λ (t : Standing). IsShown (plain_source new.rope) (Some c.new-shift.result) (shown_rows t) c.args.blocks.now c.in_ok-shown.shown.blocks)
           c.in_ok-snapshot.ensures c.in_ok-shown.ensures.shown;
+      map_is = c.in_ok-shown.ensures.ok
+          ∙ ap (λ (t : Standing). synced (plain_source new.rope) (Some c.new-shift.result) (shown_rows t) c.args.blocks.now) c.in_ok-snapshot.ensures;
     }
+
+pub returns-clause-rows : goal.returns-clause-rows
+returns-clause-rows c =
+    let new = c.replace.new.self in
+    subst (λ (m : Wrapped). new.map ≡ record m { standing = standing_after m.standing new.lines c.in_ok-change.change.lines })
+    c.in_ok-next.ensures.map c.in_ok-change.ensures.shown.map
 
 pub returns-clause-text : goal.returns-clause-text
 returns-clause-text c =
