@@ -154,7 +154,7 @@ impl<N: Lines> ResultsEnd<N> {
         None
     }
 
-    /// Takes a result, and waits for one. None comes only where the queue was empty at a moment of the call.
+    /// Takes a result, and waits for one. Where none comes, nothing changes.
     fn next<R: Wait>(&mut self, rt: &R) -> Option<Finished<N>>
         ensures some { IfSome result (λ finished.
             self.new ≡ record self.old { hand = after_result self.old.hand (job_of finished) }) }
