@@ -1,9 +1,11 @@
 -- Where a cursor finds an offset.
-use Rattle.std.proofs.Common.{◌≡◌, ℕ, ◌+◌, ◌-◌, ◌≤◌, List, length, take, take_all, ap, sym, ◌∙◌, subst, inl, inr, arith}
+use Rattle.std.proofs.Common.{◌≡◌, ℕ, zero, suc, ◌+◌, ◌-◌, ◌≤◌, List, [], length, take, take_all, get_or, ap, sym, ◌∙◌, subst, inl, inr, arith}
 use Rattle.std.specs.List.{concat}
+use Rattle.std.specs.Prelude.{unwrap_or}
 use Rattle.std.proofs.lemmas.Bool.{cases_lt}
+use Rattle.std.proofs.lemmas.Option.{unwrap_or-slice_get}
 use Rattle.cell_units.specs.declared.place.Bias.TheVariants.{Left}
-use Rattle.sum_tree.specs.Cursors.{IsSought}
+use Rattle.sum_tree.specs.Cursors.{IsSought, last_of}
 use Rattle.text_rope.specs.Finds.{IsBefore}
 use Rattle.text_rope.specs.Orders.{size_cmp}
 use Rattle.text_rope.specs.Sizes.{joined_size, no_size, size_of, total_size}
@@ -40,15 +42,23 @@ found_end chunks offset place within sought =
           omega (arith, reached, total_bytes (take place chunks))
     ])
 
+-- so many chunks stand before it
+pub found_count : (chunks : List (List ℕ)) (place : ℕ) → place ≤ length chunks + 1 → (total_size (take (place - 1) chunks)).chunks ≡ place - 1
+found_count chunks place within = total_chunks (take (place - 1) chunks) ∙ length-take-le (place - 1) chunks (omega (arith, within))
+
+-- the text of the item at a cursor's place, and none past the last
+pub last_text : (chunks : List (List ℕ)) (place k : ℕ) → 1 ≤ place → k ≡ place - 1 → unwrap_or (last_of chunks place) [] ≡ get_or chunks k []
+last_text chunks zero k some e = absurd (omega (arith, some))
+last_text chunks (suc i) k some e = unwrap_or-slice_get chunks i [] ∙ ap (λ (n : ℕ). get_or chunks n []) (omega (arith, e))
+
 pub found : (chunks items seen : List (List ℕ)) (offset place : ℕ) (r : TextSize) → items ≡ chunks → seen ≡ items → offset ≤ length (concat chunks) → IsFound items offset place → r ≡ total_size (take (place - 1) seen) → IsBefore chunks offset r
 found chunks items seen offset place r e f within sought s =
     let here : IsFound chunks offset place = subst (λ (l : List (List ℕ)). IsFound l offset place) e sought in
     let size : r ≡ total_size (take (place - 1) chunks) = s ∙ ap (λ (l : List (List ℕ)). total_size (take (place - 1) l)) (f ∙ e) in
-    let front : place - 1 ≤ length chunks = omega (arith, here.at_most_past_end) in
-    let count : r.chunks ≡ place - 1 = ap (λ (t : TextSize). t.chunks) size ∙ total_chunks (take (place - 1) chunks) ∙ length-take-le (place - 1) chunks front in
+    let count : r.chunks ≡ place - 1 = ap (λ (t : TextSize). t.chunks) size ∙ found_count chunks place here.at_most_past_end in
     record {
       size = size ∙ ap (λ (n : ℕ). total_size (take n chunks)) (sym count);
-      within = omega (arith, count, front);
+      within = omega (arith, count, here.at_most_past_end);
       start = omega (arith, ap (λ (t : TextSize). t.bytes) size, found_start chunks offset place here);
       end = subst (λ (n : ℕ). offset ≤ length (concat (take (n + 1) chunks))) (sym count) (found_end chunks offset place within here);
     }

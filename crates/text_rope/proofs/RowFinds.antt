@@ -9,12 +9,15 @@ use Rattle.cell_units.specs.declared.place.Bias.TheVariants.{Left}
 use Rattle.cell_units.specs.Text.{is_feed, line_feed}
 use Rattle.cell_units.specs.BufferLines.{behind_feeds, line_start, line_starts}
 use Rattle.cell_units.proofs.BufferLines.{behind_feeds-append, feeds-append, length-behind_feeds}
+use Rattle.cell_units.proofs.ReplacedRows.{row_of-le}
 use Rattle.sum_tree.specs.Cursors.{IsSought}
-use Rattle.text_rope.specs.Finds.{IsBeforeRow, IsBehindFeed}
+use Rattle.text_rope.specs.Finds.{IsBefore, IsBeforeRow, IsBehindFeed}
 use Rattle.text_rope.specs.RowSizes.{row_cmp, row_size_of}
 use Rattle.text_rope.specs.Sizes.{joined_size, no_size, size_of, total_size}
+use Rattle.text_rope.specs.declared.chunk.TextSize.{TextSize}
 use Rattle.text_rope.specs.declared.rows.RowSize.{RowSize}
-use Rattle.text_rope.proofs.Chunks.{total_bytes, total_chunks, total_feeds}
+use Rattle.text_rope.proofs.Chunks.{total_bytes, total_feeds}
+use Rattle.text_rope.proofs.Finds.{found_count}
 use Rattle.text_rope.proofs.Orders.{first_at_most}
 use Rattle.text_rope.proofs.Places.{in_three, last_chunk, take_at}
 
@@ -50,11 +53,10 @@ pub row_found : (chunks items seen : List (List ℕ)) (row place : ℕ) (r : Row
 row_found chunks items seen row place r e f some within sought s =
     let here : IsRowFound chunks row place = subst (λ (l : List (List ℕ)). IsRowFound l row place) e sought in
     let size : r ≡ row_size_of (total_size (take (place - 1) chunks)) = s ∙ ap (λ (l : List (List ℕ)). row_size_of (total_size (take (place - 1) l))) (f ∙ e) in
-    let front : place - 1 ≤ length chunks = omega (arith, here.at_most_past_end) in
-    let count : r.chunks ≡ place - 1 = ap (λ (t : RowSize). t.chunks) size ∙ total_chunks (take (place - 1) chunks) ∙ length-take-le (place - 1) chunks front in
+    let count : r.chunks ≡ place - 1 = ap (λ (t : RowSize). t.chunks) size ∙ found_count chunks place here.at_most_past_end in
     record {
       size = size ∙ ap (λ (n : ℕ). row_size_of (total_size (take n chunks))) (sym count);
-      within = omega (arith, count, front);
+      within = omega (arith, count, here.at_most_past_end);
       start = omega (arith, ap (λ (t : RowSize). t.feeds) size, row_found_start chunks row place some here);
       end = subst (λ (n : ℕ). row ≤ count_by is_feed (concat (take (n + 1) chunks))) (sym count) (row_found_end chunks row place within here);
     }
@@ -104,3 +106,18 @@ pub feeds_enough : (chunks : List (List ℕ)) (row : ℕ) (r : RowSize) → IsBe
 feeds_enough chunks row r found =
     let feeds : r.feeds ≡ count_by is_feed (concat (take r.chunks chunks)) = ap (λ (t : RowSize). t.feeds) found.size ∙ total_feeds (take r.chunks chunks) in
     omega (arith, feeds, found.end, ap (λ (t : List ℕ). count_by is_feed t) (last_chunk chunks r.chunks), feeds-append (concat (take r.chunks chunks)) (get_or chunks r.chunks []))
+
+-- the line feeds of a chunk's front are among its own
+pub front_feeds : (m : List ℕ) (n : ℕ) → n ≤ length m → count_by is_feed (take n m) ≤ count_by is_feed m
+front_feeds m n le = omega (arith, row_of-le m n (length m) le, ap (λ (t : List ℕ). count_by is_feed t) (take_all (length m) m (omega arith)))
+
+-- the chunk of an offset has the line feed before it, where one stands there
+pub row_in_chunk : (chunks : List (List ℕ)) (offset row k : ℕ) (r : TextSize) → IsBefore chunks offset r → row ≡ r.feeds + k → 0 < k → k ≤ count_by is_feed (get_or chunks r.chunks []) → IsBeforeRow chunks row (row_size_of r)
+row_in_chunk chunks offset row k r found e some le =
+    let feeds : r.feeds ≡ count_by is_feed (concat (take r.chunks chunks)) = ap (λ (t : TextSize). t.feeds) found.size ∙ total_feeds (take r.chunks chunks) in
+    record {
+      size = ap row_size_of found.size;
+      within = found.within;
+      start = omega (arith, e, some);
+      end = omega (arith, e, feeds, le, ap (λ (t : List ℕ). count_by is_feed t) (last_chunk chunks r.chunks), feeds-append (concat (take r.chunks chunks)) (get_or chunks r.chunks []));
+    }

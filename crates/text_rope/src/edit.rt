@@ -11,8 +11,8 @@ ghost use Rattle.text_rope.specs.Edits.{IsNeighbourBefore, IsNeighbourBehind, Is
 ghost use Rattle.text_rope.specs.Finds.{IsBefore};
 ghost use Rattle.text_rope.specs.Ropes.{IsRope};
 
-use crate::chunk::{CHUNK_BYTES, Chunk, LEAST_BYTES, TextSize, chunks_of};
-use crate::find::{before, is_boundary, text_at};
+use crate::chunk::{CHUNK_BYTES, Chunk, LEAST_BYTES, chunks_of};
+use crate::find::{Found, found_at, is_boundary, text_at};
 use cell_units::{Fault, NoMemory, Steps};
 use edit_patch::{Edit, Patch};
 use std::alloc::Global;
@@ -31,29 +31,6 @@ pub(crate) struct Renewal {
     pub from: u32,
     pub to: u32,
     pub chunks: Vec<Chunk>,
-}
-
-/// The text of a chunk, with the size of what stands before it.
-#[derive(Clone, Copy)]
-struct Found<'a> {
-    before: TextSize,
-    text: &'a str,
-}
-
-/// The chunk in which an offset lies, or at the end of which.
-fn found_at<'a>(chunks: &'a SumTree<Chunk>, offset: u32, steps: &mut Steps) -> Found<'a>
-    requires rope { IsRope chunks.now }
-    requires within { offset ≤ length (concat chunks.now) }
-    ensures found { IsBefore chunks.now offset result.before }
-    ensures here { result.text.now ≡ slice_index_or chunks.now result.before.chunks [] }
-    ensures counted { steps.old ≤ steps.new }
-    ensures steps { TakesOnText (ways 2) (concat chunks.now) steps.old steps.new }
-{
-    let before = before(chunks, offset, steps);
-    Found {
-        before,
-        text: text_at(chunks, before.chunks, steps),
-    }
 }
 
 /// The chunk before a place, and its own place; no text where there is none.
@@ -97,10 +74,9 @@ fn part_before(
     ensures counted { steps.old ≤ steps.new }
     ensures steps { TakesOnText (ways 3) (concat chunks.now) steps.old steps.new }
 {
-    let before = before(chunks, offset, steps);
-    let (at, neighbour) = neighbour_before(chunks, before.chunks, steps);
-    let here = text_at(chunks, before.chunks, steps);
-    let (front, _) = here.split_at((offset - before.bytes) as usize);
+    let found = found_at(chunks, offset, steps);
+    let (at, neighbour) = neighbour_before(chunks, found.before.chunks, steps);
+    let (front, _) = found.text.split_at((offset - found.before.bytes) as usize);
     let mut text = String::from_str(alloc, neighbour)?;
     text.push_str(front)?;
     Ok(Part { at, text })

@@ -1,6 +1,7 @@
 //! The chunk in which an offset lies, and what is found there.
-ghost use Rattle.std.specs.Prelude.{◌≡◌, ◌+◌, ◌*◌, ◌/◌, ◌≤◌, ◌↔◌, [], ℕ, length, drop, string_bytes, slice_index_or, count_by, IfOk, IsTrue};
+ghost use Rattle.std.specs.Prelude.{◌≡◌, ◌+◌, ◌*◌, ◌/◌, ◌≤◌, ◌↔◌, [], ℕ, length, drop, string_bytes, slice_index_or, count_by, unwrap_or, IfOk, IsTrue};
 ghost use Rattle.std.specs.List.{concat};
+ghost use Rattle.std.specs.Option.{option_copied};
 ghost use Rattle.cell_units.specs.Text.{IsBoundary, is_feed, row_of};
 ghost use Rattle.sum_tree.specs.Bounds.{way};
 ghost use Rattle.text_rope.specs.Bounds.{TakesOnText, ways};
@@ -13,11 +14,29 @@ use cell_units::{Bias, NoMemory, Steps};
 use std::alloc::Global;
 use sum_tree::SumTree;
 
-/// The size of what stands before the first chunk that ends at the offset or behind it.
-pub(crate) fn before(chunks: &SumTree<Chunk>, offset: u32, steps: &mut Steps) -> TextSize
+/// The text of a chunk, with the size of what stands before it.
+#[derive(Clone, Copy)]
+pub(crate) struct Found<'a> {
+    pub before: TextSize,
+    pub text: &'a str,
+}
+
+/// The text of a chunk, and none where there is no chunk.
+pub(crate) fn text_of<'a>(chunk: Option<&'a Chunk>) -> &'a str
+    ensures { result.now ≡ unwrap_or (option_copied chunk.entry) [] }
+{
+    match chunk {
+        None => "",
+        Some(chunk) => chunk.as_str(),
+    }
+}
+
+/// The first chunk that ends at the offset or behind it.
+pub(crate) fn found_at<'a>(chunks: &'a SumTree<Chunk>, offset: u32, steps: &mut Steps) -> Found<'a>
     requires rope { IsRope chunks.now }
     requires within { offset ≤ length (concat chunks.now) }
-    ensures found { IsBefore chunks.now offset result }
+    ensures found { IsBefore chunks.now offset result.before }
+    ensures here { result.text.now ≡ slice_index_or chunks.now result.before.chunks [] }
     ensures counted { steps.old ≤ steps.new }
     ensures steps { TakesOnText way (concat chunks.now) steps.old steps.new }
 {
@@ -28,7 +47,10 @@ pub(crate) fn before(chunks: &SumTree<Chunk>, offset: u32, steps: &mut Steps) ->
     };
     let mut cursor = chunks.cursor::<TextSize>();
     cursor.seek(target, Bias::Left, steps);
-    cursor.start()
+    Found {
+        before: cursor.start(),
+        text: text_of(cursor.item()),
+    }
 }
 
 /// The text of the chunk at a place, and none past the last.
@@ -38,10 +60,7 @@ pub(crate) fn text_at<'a>(chunks: &'a SumTree<Chunk>, at: u32, steps: &mut Steps
     ensures counted { steps.old ≤ steps.new }
     ensures steps { TakesOnText way (concat chunks.now) steps.old steps.new }
 {
-    match chunks.get(at, steps) {
-        None => "",
-        Some(chunk) => chunk.as_str(),
-    }
+    text_of(chunks.get(at, steps))
 }
 
 /// Whether the offset is a boundary of the text.
@@ -54,9 +73,9 @@ pub(crate) fn is_boundary(chunks: &SumTree<Chunk>, offset: u32, steps: &mut Step
     if offset > chunks.sum().bytes {
         return false;
     }
-    let before = before(chunks, offset, steps);
-    let text = text_at(chunks, before.chunks, steps);
-    text.is_char_boundary((offset - before.bytes) as usize)
+    let found = found_at(chunks, offset, steps);
+    let at = (offset - found.before.bytes) as usize;
+    found.text.is_char_boundary(at)
 }
 
 /// The boundary at the offset, or on the side of the bias where the offset is inside a character.
@@ -72,14 +91,13 @@ pub(crate) fn near_boundary(
     ensures counted { steps.old ≤ steps.new }
     ensures steps { TakesOnText (ways 2) (concat chunks.now) steps.old steps.new }
 {
-    let before = before(chunks, offset, steps);
-    let text = text_at(chunks, before.chunks, steps);
-    let at = (offset - before.bytes) as usize;
+    let found = found_at(chunks, offset, steps);
+    let at = (offset - found.before.bytes) as usize;
     let near = match bias {
-        Bias::Left => text.floor_char_boundary(at),
-        Bias::Right => text.ceil_char_boundary(at),
+        Bias::Left => found.text.floor_char_boundary(at),
+        Bias::Right => found.text.ceil_char_boundary(at),
     };
-    before.bytes + near as u32
+    found.before.bytes + near as u32
 }
 
 /// The row of an offset: how many line feeds stand before it.
@@ -90,10 +108,9 @@ pub(crate) fn row_at(chunks: &SumTree<Chunk>, offset: u32, steps: &mut Steps) ->
     ensures counted { steps.old ≤ steps.new }
     ensures steps { TakesOnText (ways 2) (concat chunks.now) steps.old steps.new }
 {
-    let before = before(chunks, offset, steps);
-    let text = text_at(chunks, before.chunks, steps);
-    let front = &text.as_bytes()[..(offset - before.bytes) as usize];
-    before.feeds + count_feeds(front)
+    let found = found_at(chunks, offset, steps);
+    let front = &found.text.as_bytes()[..(offset - found.before.bytes) as usize];
+    found.before.feeds + count_feeds(front)
 }
 
 /// The text from the chunk at place `first` on, up to the end of the chunk with which it has `count` bytes.

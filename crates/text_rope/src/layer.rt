@@ -46,7 +46,7 @@ impl Layer for Rope {
     }
 
     fn line_start(&self, line: u32) -> u32 {
-        self.row_range(line, &mut Steps::new()).0
+        self.row_start(line, &mut Steps::new())
     }
 
     fn pieces(&self, alloc: Global, line: u32) -> Result<Vec<Piece>, NoMemory> {

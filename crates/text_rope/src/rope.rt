@@ -5,7 +5,7 @@ ghost use Rattle.cell_units.specs.BufferLines.{buffer_lines, line_end, line_star
 ghost use Rattle.cell_units.specs.Layers.{point_of};
 ghost use Rattle.cell_units.specs.Operation.{replaced_text};
 ghost use Rattle.cell_units.specs.Record.{line_count};
-ghost use Rattle.cell_units.specs.Text.{IsBoundary, IsText, clean};
+ghost use Rattle.cell_units.specs.Text.{IsBoundary, IsText, clean, row_of};
 ghost use Rattle.text_rope.specs.Bounds.{ChangesText, TakesOnText, reading_row, replacing, slicing, ways};
 ghost use Rattle.text_rope.specs.Edits.{IsReplaceFault, IsReplaced};
 ghost use Rattle.cell_units.specs.Points.{offset_at};
@@ -13,8 +13,8 @@ ghost use Rattle.cell_units.specs.Refusal.{IsAccepted, IsTextRefused};
 
 use crate::chunk::{Chunk, chunks_of};
 use crate::edit::{is_range, patch_of, renewal_of};
-use crate::find::{before, gather, is_boundary, near_boundary, row_at};
-use crate::rows::{end_of_row, start_of_row};
+use crate::find::{found_at, gather, is_boundary, near_boundary, row_at};
+use crate::rows::{end_of_row, point_at, start_of_row};
 use cell_units::limits::TEXT_LIMIT;
 use cell_units::{
     Bias, Fault, NoMemory, Point, Refusal, Steps, Text, TextFault, cleaned, read_text,
@@ -124,6 +124,16 @@ impl Rope {
         is_boundary(&self.chunks, offset, steps)
     }
 
+    /// The first offset of a row.
+    pub(crate) fn row_start(&self, row: u32, steps: &mut Steps) -> u32
+        requires { row < line_count self.now }
+        ensures start { result ≡ line_start self.now row }
+        ensures counted { steps.old ≤ steps.new }
+        ensures steps { TakesOnText (ways 2) self.now steps.old steps.new }
+    {
+        start_of_row(&self.chunks, row, steps)
+    }
+
     /// The first offset of a row and its end.
     pub(crate) fn row_range(&self, row: u32, steps: &mut Steps) -> (u32, u32)
         requires { row < line_count self.now }
@@ -139,6 +149,16 @@ impl Rope {
         (start, end)
     }
 
+    /// The row of an offset, which is at most the text's length.
+    pub fn row_of(&self, offset: u32, steps: &mut Steps) -> u32
+        requires { offset ≤ length self.now }
+        ensures row { result ≡ row_of self.now offset }
+        ensures counted { steps.old ≤ steps.new }
+        ensures steps { TakesOnText (ways 2) self.now steps.old steps.new }
+    {
+        row_at(&self.chunks, offset, steps)
+    }
+
     /// The row of an offset, which is at most the text's length, and its column of bytes in that row.
     pub fn point_of(&self, offset: u32, steps: &mut Steps) -> Point
         requires { offset ≤ length self.now }
@@ -146,11 +166,7 @@ impl Rope {
         ensures counted { steps.old ≤ steps.new }
         ensures steps { TakesOnText (ways 4) self.now steps.old steps.new }
     {
-        let row = row_at(&self.chunks, offset, steps);
-        Point {
-            row,
-            column: offset - start_of_row(&self.chunks, row, steps),
-        }
+        point_at(&self.chunks, offset, steps)
     }
 
     /// The offset of a point: past the last row the text's end, past a row's end that end, and inside a character its start
@@ -200,7 +216,7 @@ impl Rope {
         ensures counted { steps.old ≤ steps.new }
         ensures steps { TakesOnText (slicing (end - start)) self.now steps.old steps.new }
     {
-        let before = before(&self.chunks, start, steps);
+        let before = found_at(&self.chunks, start, steps).before;
         let from = (start - before.bytes) as usize;
         let to = (end - before.bytes) as usize;
         let text = gather(alloc, &self.chunks, before.chunks, to, steps)?;

@@ -1,16 +1,17 @@
 //! Where the rows of a text start and end.
-ghost use Rattle.std.specs.Prelude.{◌≡◌, ◌+◌, ◌*◌, ◌<◌, ◌≤◌, ℕ, length, take, count_by};
+ghost use Rattle.std.specs.Prelude.{◌≡◌, ◌+◌, ◌*◌, ◌<◌, ◌≤◌, [], ℕ, length, take, slice_index_or, count_by};
 ghost use Rattle.std.specs.List.{concat};
 ghost use Rattle.cell_units.specs.BufferLines.{line_end, line_start};
+ghost use Rattle.cell_units.specs.Layers.{point_of};
 ghost use Rattle.cell_units.specs.Text.{is_feed};
 ghost use Rattle.sum_tree.specs.Bounds.{way};
 ghost use Rattle.text_rope.specs.Bounds.{TakesOnText, ways};
 ghost use Rattle.text_rope.specs.Finds.{IsBehindFeed, IsBeforeRow};
 ghost use Rattle.text_rope.specs.Ropes.{IsRope};
 
-use crate::chunk::{Chunk, TextSize};
-use crate::find::text_at;
-use cell_units::{Bias, Steps};
+use crate::chunk::{Chunk, TextSize, count_feeds};
+use crate::find::{found_at, text_of};
+use cell_units::{Bias, Point, Steps};
 use sum_core::Dimension;
 use sum_tree::SumTree;
 
@@ -51,12 +52,20 @@ impl Dimension<TextSize> for RowSize {
     }
 }
 
-/// The size of what stands before the chunk with the line feed behind which the row starts.
-fn before_row(chunks: &SumTree<Chunk>, row: u32, steps: &mut Steps) -> RowSize
+/// The text of a chunk, with the size of what stands before it.
+#[derive(Clone, Copy)]
+struct FoundRow<'a> {
+    before: RowSize,
+    text: &'a str,
+}
+
+/// The chunk with the line feed behind which the row starts.
+fn found_row<'a>(chunks: &'a SumTree<Chunk>, row: u32, steps: &mut Steps) -> FoundRow<'a>
     requires rope { IsRope chunks.now }
     requires some { 0 < row }
     requires within { row ≤ count_by is_feed (concat chunks.now) }
-    ensures found { IsBeforeRow chunks.now row result }
+    ensures found { IsBeforeRow chunks.now row result.before }
+    ensures here { result.text.now ≡ slice_index_or chunks.now result.before.chunks [] }
     ensures counted { steps.old ≤ steps.new }
     ensures steps { TakesOnText way (concat chunks.now) steps.old steps.new }
 {
@@ -67,7 +76,10 @@ fn before_row(chunks: &SumTree<Chunk>, row: u32, steps: &mut Steps) -> RowSize
     };
     let mut cursor = chunks.cursor::<RowSize>();
     cursor.seek(target, Bias::Left, steps);
-    cursor.start()
+    FoundRow {
+        before: cursor.start(),
+        text: text_of(cursor.item()),
+    }
 }
 
 /// The place right behind the line feed that is number `feeds`, counted from 1.
@@ -99,9 +111,33 @@ pub(crate) fn start_of_row(chunks: &SumTree<Chunk>, row: u32, steps: &mut Steps)
     if row == 0 {
         return 0;
     }
-    let before = before_row(chunks, row, steps);
-    let text = text_at(chunks, before.chunks, steps);
-    before.bytes + behind_feed(text, row - before.feeds) as u32
+    let found = found_row(chunks, row, steps);
+    found.before.bytes + behind_feed(found.text, row - found.before.feeds) as u32
+}
+
+/// The row of an offset, and its column of bytes in that row. A row that begins in the offset's own chunk isn't sought.
+pub(crate) fn point_at(chunks: &SumTree<Chunk>, offset: u32, steps: &mut Steps) -> Point
+    requires rope { IsRope chunks.now }
+    requires within { offset ≤ length (concat chunks.now) }
+    ensures point { result ≡ point_of (concat chunks.now) offset }
+    ensures counted { steps.old ≤ steps.new }
+    ensures steps { TakesOnText (ways 3) (concat chunks.now) steps.old steps.new }
+{
+    let found = found_at(chunks, offset, steps);
+    let front = &found.text.as_bytes()[..(offset - found.before.bytes) as usize];
+    let feeds = count_feeds(front);
+    let row = found.before.feeds + feeds;
+    if feeds == 0 {
+        return Point {
+            row,
+            column: offset - start_of_row(chunks, row, steps),
+        };
+    }
+    let start = found.before.bytes + behind_feed(found.text, feeds) as u32;
+    Point {
+        row,
+        column: offset - start,
+    }
 }
 
 /// The end of a row of the text: before its line feed, or the text's end.

@@ -12,18 +12,18 @@ returns-then-offset-sum-clause-test c =
     let bytes = ap (λ (s : TextSize). s.bytes) c.sum.ensures ∙ total_bytes chunks in
     (λ t. absurd (false≢true t), λ b. absurd (omega (arith, bytes, b.0)))
 
-pub before-before-requires-clause-within : goal.before-before-requires-clause-within
-before-before-requires-clause-within c =
+pub found_at-found-requires-clause-within : goal.found_at-found-requires-clause-within
+found_at-found-requires-clause-within c =
     let chunks = c.args.chunks.now in
     omega (arith, ap (λ (s : TextSize). s.bytes) c.sum.ensures ∙ total_bytes chunks)
 
 pub returns-clause-test : goal.returns-clause-test
 returns-clause-test c =
     let chunks = c.args.chunks.now in
-    let r = c.before-before.result in
+    let r = c.found_at-found.result.before in
     let i = c.args.offset - r.bytes in
-    let here = boundary_here chunks c.args.offset r c.requires.cut c.before-before.ensures.found in
+    let here = boundary_here chunks c.args.offset r c.requires.cut c.found_at-found.ensures.found in
     let test = c.is_char_boundary.ensures.test in (
-      λ t. here.0 (subst (λ (m : List ℕ). IsCharBoundary m i) c.text_at-text.ensures.text (test.0 t)),
-      λ b. test.1 (subst (λ (m : List ℕ). IsCharBoundary m i) (sym c.text_at-text.ensures.text) (here.1 b)),
+      λ t. here.0 (subst (λ (m : List ℕ). IsCharBoundary m i) c.found_at-found.ensures.here (test.0 t)),
+      λ b. test.1 (subst (λ (m : List ℕ). IsCharBoundary m i) (sym c.found_at-found.ensures.here) (here.1 b)),
     )

@@ -10,15 +10,15 @@ pub returns-clause-near : goal.returns-clause-near
 returns-clause-near c =
     let chunks = c.args.chunks.now in
     let offset = c.args.offset in
-    let r = c.before-before.result in
-    let m = c.text_at-text.result.now in
+    let r = c.found_at-found.result.before in
+    let m = c.found_at-found.result.text.now in
     elim c.match-bias.branch [
       | in-Left w ↦
           let floor = w.floor_char_boundary-near in
-          let near = near_left chunks offset r m c.requires.rope.cut c.before-before.ensures.found c.text_at-text.ensures.text floor.result floor.ensures.bound floor.ensures.boundary floor.ensures.nearest in
+          let near = near_left chunks offset r m c.requires.rope.cut c.found_at-found.ensures.found c.found_at-found.ensures.here floor.result floor.ensures.bound floor.ensures.boundary floor.ensures.nearest in
           subst (λ (b : Bias). IsNearBoundary (concat chunks) offset b (r.bytes + c.match-bias.near)) (sym w.in-Left.is) (subst (λ (k : ℕ). IsLastBoundary (concat chunks) offset (r.bytes + k)) (sym w.near-is) near)
       | in-Right w ↦
           let ceil = w.ceil_char_boundary-near in
-          let near = near_right chunks offset r m c.requires.rope.cut c.before-before.ensures.found c.text_at-text.ensures.text ceil.result ceil.ensures.bound ceil.ensures.boundary ceil.ensures.nearest in
+          let near = near_right chunks offset r m c.requires.rope.cut c.found_at-found.ensures.found c.found_at-found.ensures.here ceil.result ceil.ensures.bound ceil.ensures.boundary ceil.ensures.nearest in
           subst (λ (b : Bias). IsNearBoundary (concat chunks) offset b (r.bytes + c.match-bias.near)) (sym w.in-Right.is) (subst (λ (k : ℕ). IsFirstBoundary (concat chunks) offset (r.bytes + k)) (sym w.near-is) near)
     ]

@@ -8,24 +8,24 @@ use Rattle.text_rope.proofs.find.row_at.Goals as goal
 use Rattle.text_rope.proofs.find.row_at.Goals.{After-count_feeds}
 
 -- the bytes of the chunk
-chunk_is : (c : After-count_feeds) → c.as_bytes.result.now ≡ get_or c.args.chunks.now c.before-before.result.chunks []
-chunk_is c = c.as_bytes.ensures.value ∙ c.text_at-text.ensures.text
+chunk_is : (c : After-count_feeds) → c.as_bytes.result.now ≡ get_or c.args.chunks.now c.found_at-found.result.before.chunks []
+chunk_is c = c.as_bytes.ensures.value ∙ c.found_at-found.ensures.here
 
-row : (c : After-count_feeds) → c.before-before.result.feeds + c.count_feeds.result ≡ row_of (concat c.args.chunks.now) c.args.offset
+row : (c : After-count_feeds) → c.found_at-found.result.before.feeds + c.count_feeds.result ≡ row_of (concat c.args.chunks.now) c.args.offset
 row c =
-    let r = c.before-before.result in
+    let r = c.found_at-found.result.before in
     let n = c.args.offset - r.bytes in
     ap (λ (k : ℕ). r.feeds + k) c.count_feeds.ensures
-    ∙ row_here c.args.chunks.now c.args.offset r (take n c.as_bytes.result.now) c.before-before.ensures.found (ap (take n) (chunk_is c))
+    ∙ row_here c.args.chunks.now c.args.offset r (take n c.as_bytes.result.now) c.found_at-found.ensures.found (ap (take n) (chunk_is c))
 
 pub slice_bounds-front-end : goal.slice_bounds-front-end
 slice_bounds-front-end c =
-    let r = c.before-before.result in
+    let r = c.found_at-found.result.before in
     let n = c.args.offset - r.bytes in
     sym (length-take-le n c.as_bytes.result.now (omega (
       arith,
-      within_chunk c.args.chunks.now c.args.offset r c.before-before.ensures.found,
-      ap length (c.as_bytes.ensures.value ∙ c.text_at-text.ensures.text),
+      within_chunk c.args.chunks.now c.args.offset r c.found_at-found.ensures.found,
+      ap length (c.as_bytes.ensures.value ∙ c.found_at-found.ensures.here),
     )))
 
 pub overflow_add-result : goal.overflow_add-result

@@ -8,12 +8,12 @@ use Rattle.text_rope.proofs.rows.start_of_row.Goals.{After-behind_feed}
 
 pub behind_feed-requires-clause-within : goal.behind_feed-requires-clause-within
 behind_feed-requires-clause-within c =
-    let r = c.before_row-before.result in
-    subst (λ (m : List ℕ). c.args.row - r.feeds ≤ count_by is_feed m) (sym c.text_at-text.ensures.text) (feeds_enough c.args.chunks.now c.args.row r c.before_row-before.ensures.found)
+    let r = c.found_row-found.result.before in
+    subst (λ (m : List ℕ). c.args.row - r.feeds ≤ count_by is_feed m) (sym c.found_row-found.ensures.here) (feeds_enough c.args.chunks.now c.args.row r c.found_row-found.ensures.found)
 
 -- the place in the text
-behind : (c : After-behind_feed) → IsBehindFeed (concat c.args.chunks.now) c.args.row (c.before_row-before.result.bytes + c.behind_feed.result)
-behind c = feed_in_chunk c.args.chunks.now c.args.row c.before_row-before.result c.text_at-text.result.now c.behind_feed.result c.before_row-before.ensures.found c.text_at-text.ensures.text c.behind_feed.ensures
+behind : (c : After-behind_feed) → IsBehindFeed (concat c.args.chunks.now) c.args.row (c.found_row-found.result.before.bytes + c.behind_feed.result)
+behind c = feed_in_chunk c.args.chunks.now c.args.row c.found_row-found.result.before c.found_row-found.result.text.now c.behind_feed.result c.found_row-found.ensures.found c.found_row-found.ensures.here c.behind_feed.ensures
 
 pub overflow_add-result : goal.overflow_add-result
 overflow_add-result c =
@@ -21,4 +21,4 @@ overflow_add-result c =
     omega (arith, place.within, c.requires.rope.small)
 
 pub returns-clause-start : goal.returns-clause-start
-returns-clause-start c = starts_behind (concat c.args.chunks.now) c.args.row (c.before_row-before.result.bytes + c.behind_feed.result) (behind (goal.at.returns-clause-start c).After-behind_feed)
+returns-clause-start c = starts_behind (concat c.args.chunks.now) c.args.row (c.found_row-found.result.before.bytes + c.behind_feed.result) (behind (goal.at.returns-clause-start c).After-behind_feed)

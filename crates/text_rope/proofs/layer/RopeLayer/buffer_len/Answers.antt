@@ -1,4 +1,3 @@
-use Rattle.std.proofs.Common.{refl}
 use Rattle.cell_units.proofs.PlainLayers.{plain_well_formed}
 use Rattle.text_rope.proofs.layer.RopeLayer.buffer_len.Goals as goal
 

@@ -12,52 +12,52 @@ use Rattle.text_rope.proofs.rope.Rope.slice.Goals.{After-gather}
 pub gather-requires-clause-some : goal.gather-requires-clause-some
 gather-requires-clause-some c =
     let chunks = c.self.inside.chunks in
-    let r = c.before-before.result in
-    omega (arith, ap length (in_two chunks r.chunks), length-append (concat (take r.chunks chunks)) (concat (drop r.chunks chunks)), bytes_before chunks r c.before-before.ensures.found.size, c.requires.end.0, ap length c.self.view_is)
+    let r = c.found_at.result.before in
+    omega (arith, ap length (in_two chunks r.chunks), length-append (concat (take r.chunks chunks)) (concat (drop r.chunks chunks)), bytes_before chunks r c.found_at.ensures.found.size, c.requires.end.0, ap length c.self.view_is)
 
 pub range-requires-clause-start_boundary : goal.range-requires-clause-start_boundary
 range-requires-clause-start_boundary c =
     let text = c.args.self.now in
     let chunks = c.self.inside.chunks in
-    let r = c.before-before.result in
+    let r = c.found_at.result.before in
     let m = string_bytes c.in_ok-text.text in
-    let part : IsPartAt text r.bytes m = part_at chunks r m c.in_ok-text.ensures.front.0 text c.self.view_is c.before-before.ensures.found.size c.in_ok-text.ensures.front.1 in
+    let part : IsPartAt text r.bytes m = part_at chunks r m c.in_ok-text.ensures.front.0 text c.self.view_is c.found_at.ensures.found.size c.in_ok-text.ensures.front.1 in
     let utf8 : IsUtf8 text = subst IsUtf8 c.self.view_is (chunks_utf8 chunks c.self.invariant.cut) in
     let within = c.in_ok-text.ensures.enough in
-    λ some. subst (λ (t : List ℕ). IsCharBoundary t (c.args.start - r.bytes)) (sym c.as_str.ensures.value) (boundary_in text m r.bytes c.args.start utf8 part c.before-before.ensures.found.start (omega (arith, within, c.requires.order)) c.requires.start)
+    λ some. subst (λ (t : List ℕ). IsCharBoundary t (c.args.start - r.bytes)) (sym c.as_str.ensures.value) (boundary_in text m r.bytes c.args.start utf8 part c.found_at.ensures.found.start (omega (arith, within, c.requires.order)) c.requires.start)
 
 pub range-requires-clause-end_boundary : goal.range-requires-clause-end_boundary
 range-requires-clause-end_boundary c =
     let text = c.args.self.now in
     let chunks = c.self.inside.chunks in
-    let r = c.before-before.result in
+    let r = c.found_at.result.before in
     let m = string_bytes c.in_ok-text.text in
-    let part : IsPartAt text r.bytes m = part_at chunks r m c.in_ok-text.ensures.front.0 text c.self.view_is c.before-before.ensures.found.size c.in_ok-text.ensures.front.1 in
+    let part : IsPartAt text r.bytes m = part_at chunks r m c.in_ok-text.ensures.front.0 text c.self.view_is c.found_at.ensures.found.size c.in_ok-text.ensures.front.1 in
     let utf8 : IsUtf8 text = subst IsUtf8 c.self.view_is (chunks_utf8 chunks c.self.invariant.cut) in
-    subst (λ (t : List ℕ). IsCharBoundary t (c.args.end - r.bytes)) (sym c.as_str.ensures.value) (boundary_in text m r.bytes c.args.end utf8 part (omega (arith, c.before-before.ensures.found.start, c.requires.order)) c.in_ok-text.ensures.enough c.requires.end)
+    subst (λ (t : List ℕ). IsCharBoundary t (c.args.end - r.bytes)) (sym c.as_str.ensures.value) (boundary_in text m r.bytes c.args.end utf8 part (omega (arith, c.found_at.ensures.found.start, c.requires.order)) c.in_ok-text.ensures.enough c.requires.end)
 
 pub returns-clause-text : goal.returns-clause-text
 returns-clause-text c =
     let text = c.args.self.now in
     let chunks = c.self.inside.chunks in
-    let r = c.before-before.result in
+    let r = c.found_at.result.before in
     let m = string_bytes c.in_ok-text.text in
     let from = c.args.start - r.bytes in
     let to = c.args.end - r.bytes in
-    let part : IsPartAt text r.bytes m = part_at chunks r m c.in_ok-text.ensures.front.0 text c.self.view_is c.before-before.ensures.found.size c.in_ok-text.ensures.front.1 in
+    let part : IsPartAt text r.bytes m = part_at chunks r m c.in_ok-text.ensures.front.0 text c.self.view_is c.found_at.ensures.found.size c.in_ok-text.ensures.front.1 in
     let between : c.range.result.now ≡ take (c.args.end - c.args.start) (drop c.args.start text) =
     c.range.ensures.value ∙ ap (λ (t : List ℕ). take (to - from) (drop from t)) c.as_str.ensures.value
-    ∙ between_in text m r.bytes c.args.start c.args.end part c.before-before.ensures.found.start c.requires.order c.in_ok-text.ensures.enough in
+    ∙ between_in text m r.bytes c.args.start c.args.end part c.found_at.ensures.found.start c.requires.order c.in_ok-text.ensures.enough in
     IfOk-weaker c.from_str.result _ _ (λ t e. e ∙ between) c.from_str.ensures
 
 -- what is gathered is little more than what is asked for
 steps : (c : After-gather) → (h : ℕ) → HasHeight h c.args.self.now → c.gather.new.steps ≤ c.args.steps.now + 7 * ((c.args.end - c.args.start) / 64 + 1) * (h + 1)
 steps c h high =
     let chunks = c.self.inside.chunks in
-    let r = c.before-before.result in
+    let r = c.found_at.result.before in
     let high' : HasHeight h (concat chunks) = subst (HasHeight h) (sym c.self.view_is) high in
-    let far : c.args.start - r.bytes ≤ 128 = omega (arith, within_chunk chunks c.args.start r c.before-before.ensures.found, chunk_small chunks r.chunks c.self.invariant.cut) in
-    slice_steps (c.args.end - c.args.start) (c.args.end - r.bytes) h c.args.steps.now c.before-before.new.steps c.gather.new.steps (omega (arith, far, c.requires.order)) (c.before-before.ensures.steps h high') (c.gather.ensures.steps h high')
+    let far : c.args.start - r.bytes ≤ 128 = omega (arith, within_chunk chunks c.args.start r c.found_at.ensures.found, chunk_small chunks r.chunks c.self.invariant.cut) in
+    slice_steps (c.args.end - c.args.start) (c.args.end - r.bytes) h c.args.steps.now c.found_at.new.steps c.gather.new.steps (omega (arith, far, c.requires.order)) (c.found_at.ensures.steps h high') (c.gather.ensures.steps h high')
 
 pub returns-in_err-text-clause-steps : goal.returns-in_err-text-clause-steps
 returns-in_err-text-clause-steps c = steps (goal.at.returns-in_err-text-clause-steps c).After-gather
