@@ -1,7 +1,9 @@
 -- What a seek among the splices finds.
-use Rattle.std.proofs.Common.{◌≡◌, ℕ, zero, suc, ◌+◌, ◌-◌, ◌<◌, ◌≤◌, ◌^◌, List, [], ◌∷◌, length, take, count_by, Some, None, refl, sym, ap, ◌∙◌, subst, arith}
+use Rattle.std.proofs.Common.{◌≡◌, ℕ, zero, suc, ◌+◌, ◌-◌, ◌<◌, ◌≤◌, ◌^◌, List, [], ◌∷◌, ◌++◌, length, take, take_all, drop, length-append, count_by, Some, None, refl, sym, ap, ◌∙◌, subst, arith}
 use Rattle.std.specs.List.{slice_get}
+use Rattle.std.proofs.lemmas.List.{length-drop, length-take}
 use Rattle.std.proofs.lemmas.List.Sums.{count_by-le-length}
+use Rattle.std.proofs.lemmas.Option.{slice_get_past}
 use Rattle.cell_units.specs.declared.limits.TheConstants.{TEXT_LIMIT}
 use Rattle.cell_units.specs.declared.place.Bias.{Bias}
 use Rattle.cell_units.specs.declared.place.Bias.TheVariants.{Right}
@@ -21,6 +23,7 @@ use Rattle.inlay_map.specs.Splices.{base_at, splice_of, splices_from}
 use Rattle.inlay_map.specs.Spots.{IsSpot, end_at, sum_before}
 use Rattle.inlay_map.proofs.Cuts.{cut-at, text-is}
 use Rattle.inlay_map.proofs.Places.{place-limit}
+use Rattle.inlay_map.proofs.RowsShown.{in-spot}
 use Rattle.inlay_map.proofs.ShownFeeds.{feeds-shown}
 use Rattle.inlay_map.proofs.SpliceLists.{length-splices}
 use Rattle.inlay_map.proofs.Spread.{IsSpread, spread}
@@ -101,4 +104,42 @@ feed-sum text is are short =
       order = le;
       feeds = omega (arith, le, sum, same, none);
       small = omega (arith, count_by-le-length is_feed (shown_text (inlay_source text is)), place-limit text Right (length text) is are short (omega arith));
+    }
+
+-- how many bytes are shown
+pub record IsByteSum (text : List ℕ) (is : List Inlay) (lower upper : ℕ) : Type 0 where
+  pub order : lower ≤ length text
+  pub bytes : length (shown_text (inlay_source text is)) ≡ upper + (length text - lower)
+  pub small : length (shown_text (inlay_source text is)) < 2 ^ 28
+
+pub byte-sum : (text : List ℕ) (is : List Inlay) → AreInlays text is → length text ≤ TEXT_LIMIT
+    → IsByteSum text is (total (none nothing) (both together) (piece_sum together) (splices_from text 0 is)).lower.bytes (total (none nothing) (both together) (piece_sum together) (splices_from text 0 is)).upper.bytes
+byte-sum text is are short =
+    let n = length is in
+    let at = in-spot text is n (spread text is are) in
+    let base = base_at 0 is n in
+    let here = take (length text - base) (drop base text) in
+    let past : end_at text is n ≡ length text = end-past text 0 is n (slice_get_past (splices_from text 0 is) n (omega (arith, length-splices text 0 is))) in
+    let all : take n (splices_from text 0 is) ≡ splices_from text 0 is = take_all n (splices_from text 0 is) (omega (arith, length-splices text 0 is)) in
+    let lower = ap (λ (l : List (Piece Amount NoLoad)). (total (none nothing) (both together) (piece_sum together) l).lower.bytes) all in
+    let upper = ap (λ (l : List (Piece Amount NoLoad)). (total (none nothing) (both together) (piece_sum together) l).upper.bytes) all in
+    let whole : shown_text (inlay_source text is) ≡ at.front ++ (here ++ []) =
+    at.whole ∙ ap (λ (m : ℕ). at.front ++ (take (m - base) (drop base text) ++ at.tail)) past ∙ ap (λ (l : List ℕ). at.front ++ (here ++ l)) (at.none (slice_get_past is n (omega arith))) in
+    record {
+      order = omega (arith, at.order, past, at.offset, lower);
+      bytes = omega (
+        arith,
+        ap (λ (l : List ℕ). length l) whole,
+        length-append at.front (here ++ []),
+        length-append here [],
+        length-take (length text - base) (drop base text),
+        length-drop base text,
+        at.long,
+        at.offset,
+        at.order,
+        past,
+        lower,
+        upper,
+      );
+      small = place-limit text Right (length text) is are short (omega arith);
     }

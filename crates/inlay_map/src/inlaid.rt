@@ -96,7 +96,7 @@ impl Inlaid {
         ensures counted { steps.old ≤ steps.new }
         ensures steps { TakesOnText (ways 4) self.now.text steps.old steps.new }
     {
-        let row = self.rope.point_of(end, steps).row;
+        let row = self.rope.row_of(end, steps);
         Amount {
             bytes: end - before.bytes,
             feeds: row - before.feeds,
@@ -125,7 +125,7 @@ impl Inlaid {
         ensures row { result ≡ row_of self.now.text offset }
         ensures counted { steps.old ≤ steps.new }
     {
-        self.rope.point_of(offset, steps).row
+        self.rope.row_of(offset, steps)
     }
 
     /// The first offset of a row.

@@ -19,7 +19,7 @@ impl Layer for InlaySnapshot {
     }
 
     fn length(&self) -> u32 {
-        self.length(&mut Steps::new())
+        InlaySnapshot::length(self)
     }
 
     fn lines(&self) -> u32 {

@@ -14,11 +14,12 @@ use std::alloc::Global;
 
 impl InlaySnapshot {
     /// The number of bytes that are shown.
-    pub(crate) fn length(&self, steps: &mut Steps) -> u32
-        ensures length { result ≡ length (shown_text self.now) }
-        ensures counted { steps.old ≤ steps.new }
+    pub(crate) fn length(&self) -> u32
+        ensures { result ≡ length (shown_text self.now) }
     {
-        self.place(self.inlaid.len(), Bias::Right, steps)
+        let len = self.inlaid.len();
+        let sum = self.splices.sum();
+        sum.upper.bytes + (len - sum.lower.bytes)
     }
 
     /// The number of display lines.
@@ -138,7 +139,7 @@ impl InlaySnapshot {
         if line + 1 < lines {
             self.row_start(line + 1, steps) - 1
         } else {
-            self.length(steps)
+            self.length()
         }
     }
 

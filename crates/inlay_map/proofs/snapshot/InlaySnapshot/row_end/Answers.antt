@@ -27,4 +27,4 @@ returns-else-line-lines-clause-end c =
     let s = c.args.self.now in
     let w : IsWellFormed s = subst IsWellFormed c.self.view_is (well-formed c.self.inside.inlaid c.len-len.ensures.lawful.text c.len-len.ensures.lawful.inlays c.len-len.ensures.lawful.folds) in
     let last : c.args.line + 1 ≡ line_count (shown_text s) = omega (arith, length-shown_lines s (ends_open s w), c.lines-lines.ensures, c.if-line-lines.false, c.requires) in
-    omega (arith, line_end_last (shown_text s) c.args.line last, c.length.ensures.length)
+    omega (arith, line_end_last (shown_text s) c.args.line last, c.length.ensures)
