@@ -29,6 +29,7 @@ pub mod ShownSteps
 pub mod SpotsBack
 pub mod SpotsFound
 pub mod SpotsLayer
+pub mod SpotsLines
 pub mod SpotsShown
 pub mod StateAnswers
 pub mod StateFolds

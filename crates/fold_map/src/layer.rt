@@ -48,8 +48,18 @@ impl<L: Layer> Layer for FoldSnapshot<L> {
         let _length = self.layer.length();
         let _lines = self.layer.lines();
         let spot = spot_at(&self.splices, place, &mut Steps::new());
-        let below = self.layer.point(spot.below).row;
-        let row = spot.before.upper.feeds + (below - spot.before.lower.feeds);
+        let below = self.layer.point(spot.below);
+        let rows = below.row - spot.before.lower.feeds;
+        let row = spot.before.upper.feeds + rows;
+        if rows > 0 {
+            // The line begins in the stretch in which the place lies.
+            let first = spot.below - below.column;
+            let begin = spot.before.upper.bytes + (first - spot.before.lower.bytes);
+            return Point {
+                row,
+                column: place - begin,
+            };
+        }
         let start = start_of(&self.splices, row, &mut Steps::new());
         let begin = start.place(self.layer.line_start(start.below));
         Point {
