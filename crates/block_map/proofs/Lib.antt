@@ -4,6 +4,7 @@ pub mod BlockRefusals
 pub mod BlockRows
 pub mod CountedPlaces
 pub mod EditMoves
+pub mod EvenEdits
 pub mod FirstMarks
 pub mod FoundTexts
 pub mod Gathered

@@ -1,10 +1,10 @@
 //! Stops that are taken out, and stops that edits of rows carry.
 ghost use Rattle.std.specs.Prelude.{◌≡◌, ◌*◌, ◌<◌, ◌≤◌, length, map, OnOk};
-ghost use Rattle.std.specs.List.{All};
+ghost use Rattle.std.specs.List.{All, list_any};
 ghost use Rattle.edit_patch.specs.Patch.{IsPatch};
 ghost use Rattle.sum_tree.specs.Bounds.{TakesAtMost};
 ghost use Rattle.block_map.specs.Bounds.{putting};
-ghost use Rattle.block_map.specs.inside.RowMoves.{IsKeptStop, MayBeMoved, carried, grown, shrunk};
+ghost use Rattle.block_map.specs.inside.RowMoves.{IsKeptStop, MayBeMoved, carried, changes_count, grown, shrunk};
 ghost use Rattle.block_map.specs.inside.StopLists.{AreRising, StopsFit};
 ghost use Rattle.block_map.specs.inside.Without.{IsRising, without};
 
@@ -12,6 +12,16 @@ use crate::stops::Stops;
 use cell_units::{Bias, NoMemory, Shift, Steps};
 use edit_patch::Edit;
 use std::alloc::Global;
+
+/// Whether an edit puts in more rows than it takes away, or fewer.
+fn change_counts(edits: &[Edit]) -> bool
+    ensures { result ≡ list_any changes_count edits.now }
+{
+    edits.iter().any(|edit| {
+        u64::from(edit.old_end) + u64::from(edit.new_start)
+            != u64::from(edit.new_end) + u64::from(edit.old_start)
+    })
+}
 
 impl Stops {
     /// Takes out the stops of some places, which rise.
@@ -55,6 +65,10 @@ impl Stops {
         ensures steps { let count = length edits.now in
             TakesAtMost (λ h. 2 * count * putting h) (length self.old) steps.old steps.new }
     {
+        // Where each puts in as many rows as it takes away, no stop moves.
+        if !change_counts(edits) {
+            return Ok(());
+        }
         self.shrink(alloc, bias, edits, steps)?;
         self.grow(alloc, bias, edits, steps)
     }

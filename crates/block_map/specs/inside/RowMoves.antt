@@ -1,5 +1,5 @@
 -- Where stops go that edits of rows keep.
-use Rattle.std.specs.Prelude.{◌≡◌, ℕ, ◌+◌, ◌-◌, ◌≤◌, true, if◌then◌else◌, List, [], ◌∷◌, Some, map}
+use Rattle.std.specs.Prelude.{◌≡◌, ℕ, ◌+◌, ◌-◌, ◌≤◌, ◌==◌, Bool, not, true, if◌then◌else◌, List, [], ◌∷◌, Some, map}
 use Rattle.std.specs.List.{All}
 use Rattle.cell_units.specs.declared.place.Bias.{Bias}
 use Rattle.cell_units.specs.declared.place.Bias.TheVariants.{Left, Right}
@@ -31,6 +31,10 @@ AreClear bias start end stops = All (λ s. stands_before bias end s ≡ true →
 -- by all edits
 abbrev pub carried : Bias → List Edit → Stop → Stop
 carried bias es s = grown bias es (shrunk bias es s)
+
+-- an edit puts in more rows than it takes away, or fewer
+abbrev pub changes_count : Edit → Bool
+changes_count e = not (e.old_end + e.new_start == e.new_end + e.old_start)
 
 -- a stop has before it as many rows as its own row has (Left), or that row too (Right)
 abbrev pub own : Bias → ℕ

@@ -1,11 +1,19 @@
-use Rattle.std.proofs.Common.{◌≡◌, ◌+◌, ◌*◌, length, map, sym, ap, subst, ◌∙◌, arith}
+use Rattle.std.proofs.Common.{◌≡◌, ◌+◌, ◌*◌, false, length, map, sym, ap, subst, ◌∙◌, arith}
+use Rattle.std.specs.List.{list_any}
 use Rattle.std.proofs.lemmas.List.{length-map}
 use Rattle.std.proofs.lemmas.Result.{on_ok_weaker}
-use Rattle.block_map.specs.inside.RowMoves.{grown, shrunk}
+use Rattle.block_map.specs.inside.RowMoves.{changes_count, grown, shrunk}
 use Rattle.block_map.specs.inside.StopLists.{AreRising, StopsFit}
+use Rattle.block_map.proofs.EvenEdits.{stops-stay}
 use Rattle.block_map.proofs.StepSums.{two-walks}
 use Rattle.block_map.proofs.StopLoops.{carried-map}
 use Rattle.block_map.proofs.stops.Stops.carry.Goals as goal
+
+-- no edit moves a stop
+pub returns-then-not-change_counts-clause-ok : goal.returns-then-not-change_counts-clause-ok
+returns-then-not-change_counts-clause-ok c =
+    let even : list_any changes_count c.args.edits.now ≡ false = sym c.change_counts.ensures ∙ c.if-not-change_counts.true in
+    sym (stops-stay c.args.bias c.args.edits.now c.args.self.now c.requires.patch even c.requires.stops.kept)
 
 pub shrink-requires-clause-kept : goal.shrink-requires-clause-kept
 shrink-requires-clause-kept c = c.requires.stops.kept
