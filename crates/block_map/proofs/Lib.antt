@@ -3,6 +3,7 @@ pub mod AnewPlaces
 pub mod BlockRefusals
 pub mod BlockRows
 pub mod CountedPlaces
+pub mod CutWindows
 pub mod EditMoves
 pub mod EvenEdits
 pub mod FirstMarks

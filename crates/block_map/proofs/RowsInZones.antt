@@ -1,5 +1,5 @@
 -- What stands at a row of lines with blocks between them, by its zone.
-use Rattle.std.proofs.Common.{◌≡◌, ◌≢◌, ℕ, zero, suc, ◌+◌, ◌-◌, ◌*◌, ◌/◌, ◌^◌, ◌<◌, ◌≤◌, Bool, cond, eqb, List, [], ◌∷◌, ◌++◌, flat_map, length, map, min, take, drop, get_or, refl, sym, ap, subst, ◌∙◌, inl, inr, arith, Option, Some, None, option_map}
+use Rattle.std.proofs.Common.{◌≡◌, ◌≢◌, ℕ, zero, suc, ◌+◌, ◌*◌, ◌^◌, ◌<◌, ◌≤◌, Bool, cond, eqb, List, [], ◌∷◌, ◌++◌, flat_map, length, map, min, take, drop, get_or, refl, sym, ap, subst, ◌∙◌, inl, inr, arith, Option, Some, None, option_map}
 use Rattle.std.specs.List.{range_with_len, slice_get}
 use Rattle.std.proofs.Math.Nat.{mul-le-mul_left}
 use Rattle.std.proofs.lemmas.Bool.{cases_order, le-leb, lt-ltb, ne_eqb}
@@ -24,13 +24,6 @@ range-take : (a n t : ℕ) → t ≤ n → take t (range_with_len a n) ≡ range
 range-take a n zero le = refl
 range-take a zero (suc t) le = absurd (omega (arith, le))
 range-take a (suc n) (suc t) le = ap (λ (l : List ℕ). a ∷ l) (range-take (a + 1) n t (omega arith))
-
--- half of what is at most a power of 2 is at most the power before it
-pub halved : (n k : ℕ) → 1 < n → n ≤ 2 ^ k → (1 ≤ k) × (n / 2 ≤ 2 ^ (k - 1)) × (n - n / 2 ≤ 2 ^ (k - 1))
-halved n zero some few = absurd (omega arith)
-halved n (suc k) some few =
-    let before : suc k - 1 ≡ k = omega arith in
-    (omega arith, subst (λ (m : ℕ). n / 2 ≤ 2 ^ m) (sym before) (omega arith), subst (λ (m : ℕ). n - n / 2 ≤ 2 ^ m) (sym before) (omega arith))
 
 -- one more round of a loop, each of which takes x steps at most
 pub steps-more : (x k n s₀ s₁ s₂ : ℕ) → k + 1 ≤ n → s₁ ≤ s₀ + x * k → s₂ ≤ s₁ + x → s₂ ≤ s₀ + x * n

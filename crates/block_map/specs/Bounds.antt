@@ -15,9 +15,9 @@ TakesBetween cost b old new = (h : ℕ) → IsHeight h b → new ≤ old + cost 
 abbrev pub both_ways : ℕ → ℕ
 both_ways h = 2 * (h + 1)
 
--- the text row in whose zone a row lies is found by halving: at most 33 ways down the trees of both sides
+-- the text row in whose zone a row lies is found by at most 32 ways down the trees of both sides
 abbrev pub zoning : ℕ → ℕ
-zoning h = 66 * (h + 1)
+zoning h = 64 * (h + 1)
 
 -- what stands at a place of a zone
 abbrev pub finding : ℕ → ℕ
@@ -25,7 +25,7 @@ finding h = 4 * (h + 1)
 
 -- a row is sought and read
 abbrev pub reading : ℕ → ℕ
-reading h = 72 * (h + 1)
+reading h = 70 * (h + 1)
 
 -- a stop is put among others, or taken out: its neighbours are looked up, and one replacement is made
 abbrev pub putting : ℕ → ℕ

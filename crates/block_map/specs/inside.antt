@@ -1,5 +1,6 @@
 pub mod Anew
 pub mod RowMoves
+pub mod Seekings
 pub mod ShownStops
 pub mod SideMoves
 pub mod Sides

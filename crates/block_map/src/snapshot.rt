@@ -1,15 +1,17 @@
 //! What a block map shows at one moment.
-ghost use Rattle.std.specs.Prelude.{◌≡◌, ◌==◌, ◌+◌, ◌-◌, ◌*◌, ◌^◌, ◌<◌, ◌≤◌, ◌++◌, if◌then◌else◌, IfOk, OnOk, Some, drop, length, slice_get, take};
+ghost use Rattle.std.specs.Prelude.{◌≡◌, ◌==◌, ◌+◌, ◌-◌, ◌*◌, ◌^◌, ◌<◌, ◌≤◌, ◌++◌, if◌then◌else◌, IfOk, OnOk, Some, drop, length, max, slice_get, take};
 ghost use Rattle.cell_units.specs.Rows.{all_rows, line_rows};
 ghost use Rattle.plain_rows.specs.Rows.{head_kind, more_kind};
 ghost use Rattle.block_map.specs.Between.{IsTextAt, block_row, place_of_row, rows_between};
 ghost use Rattle.block_map.specs.Bounds.{TakesBetween, both_ways, finding, reading, zoning};
 ghost use Rattle.block_map.specs.ShownRows.{letter_of, row_of_shown, shown_row, shown_rows};
 ghost use Rattle.block_map.specs.Stops.{texts_at};
+ghost use Rattle.block_map.specs.inside.Seekings.{IsWindow};
 ghost use Rattle.block_map.specs.inside.Zones.{IsBetween, IsInZone, text_row, texts_of_kinds, zone, zone_start};
 
 use crate::shown::{Kind, Shown};
 use crate::stops::Stops;
+use crate::window::Window;
 use cell_units::{Bias, NoMemory, Rows, Steps, Text};
 use std::alloc::Global;
 use std::marker::Model;
@@ -90,21 +92,66 @@ impl<R: Rows> BlockSnapshot<R> {
         ensures counted { steps.old ≤ steps.new }
         ensures steps { TakesBetween zoning self.now steps.old steps.new }
     {
-        let mut low = 0;
-        let mut high = self.text_rows();
-        while high - low > 1 {
-            let middle = low + (high - low) / 2;
-            if self.zone_start(middle, steps) <= row {
-                low = middle;
-            } else {
-                high = middle;
-            }
+        let mut window = Window {
+            low: 0,
+            start: 0,
+            next: 1,
+            high: self.text_rows(),
+            end: self.row_count(),
+        };
+        // Each look halves it. Beside those that halving takes there is room for four looks that tell little.
+        let mut room = window.high.saturating_mul(16);
+        'seek: while window.next < window.high {
+            room /= 2;
+            let guess = window.guess(row, room);
+            window = self.narrowed(window, guess, row, steps);
         }
-        let start = self.zone_start(low, steps);
         Place {
-            text_row: low,
-            at: row - start,
+            text_row: window.low,
+            at: row - window.start,
         }
+    }
+
+    /// The window that a look at the start of a zone leaves. A text row farther is at least a row farther: so it is cut at both
+    /// ends.
+    fn narrowed(&self, window: Window, guess: u32, row: u32, steps: &mut Steps) -> Window
+        requires window { IsWindow self.now row window }
+        requires from { window.next ≤ guess }
+        requires upto { guess < window.high }
+        ensures window { IsWindow self.now row result }
+        ensures cut { let before = guess - window.next in
+            let behind = window.high - (guess + 1) in
+            result.high - result.next ≤ max before behind }
+        ensures counted { steps.old ≤ steps.new }
+        ensures steps { TakesBetween both_ways self.now steps.old steps.new }
+    {
+        // Each zone has a row.
+        let _count = self.text_rows();
+        let start = self.zone_start(guess, steps);
+        if start > row {
+            let first = guess - (start - row).min(guess);
+            return Window {
+                next: window.next.max(first),
+                high: guess,
+                end: start,
+                ..window
+            };
+        }
+        let above = Window {
+            low: guess,
+            start,
+            next: guess + 1,
+            ..window
+        };
+        let behind = guess + (row - start) + 1;
+        if behind < window.high {
+            return Window {
+                high: behind,
+                end: row + 1,
+                ..above
+            };
+        }
+        above
     }
 
     /// The row of this number, counted from 0. `None` exactly past the last row.

@@ -1,52 +1,32 @@
-use Rattle.std.proofs.Common.{◌+◌, ◌-◌, ◌*◌, ap, arith}
-use Rattle.block_map.specs.inside.Zones.{zone_start}
-use Rattle.block_map.proofs.RowsInZones.{all-zones, first-zone, halved, some-zone, steps-more}
+use Rattle.std.proofs.Common.{◌+◌, ◌-◌, ◌*◌, arith}
+use Rattle.block_map.proofs.CutWindows.{found-zone, halved, whole-window}
+use Rattle.block_map.proofs.RowsInZones.{steps-more}
 use Rattle.block_map.proofs.snapshot.BlockSnapshot.place_of.Goals as goal
 
-pub loop-high-init : goal.loop-high-init
-loop-high-init g c =
-    let b = c.args.self.now in
-    let lawful = c.text_rows-high.ensures.lawful in
+pub seek-init : goal.seek-init
+seek-init g c = record {
+  window = whole-window c.args.self.now c.text_rows.ensures.lawful c.args.row c.text_rows.result c.row_count.result c.requires c.text_rows.ensures.count c.row_count.ensures;
+  opened = omega (arith, c.saturating_mul-room.ensures, c.text_rows.type_inv);
+  left = 32;
+  few = omega arith;
+  room = omega (arith, c.saturating_mul-room.type_inv);
+  counted = omega arith;
+  steps = λ h few. omega arith;
+}
+
+pub seek-preserved : goal.seek-preserved
+seek-preserved g c =
+    let left = c.seek.invariant.left in
+    let next = halved c.seek.room left (omega (arith, c.seek-test.true, c.seek.invariant.opened)) c.seek.invariant.room in
     record {
-      order = omega (arith, some-zone b lawful c.args.row c.requires, c.text_rows-high.ensures.count);
-      within = omega (arith, c.text_rows-high.ensures.count);
-      low_is = omega (arith, first-zone b lawful);
-      high_is = omega (arith, c.requires, all-zones b lawful, ap (zone_start b) c.text_rows-high.ensures.count);
-      left = 32;
-      few = omega arith;
-      narrow = omega (arith, c.text_rows-high.type_inv);
-      counted = omega arith;
-      steps = λ h few. omega arith;
+      window = c.narrowed-window.ensures.window;
+      opened = omega (arith, c.narrowed-window.ensures.cut, c.guess-guess.ensures.open_before, c.guess-guess.ensures.open_behind);
+      left = left - 1;
+      few = omega (arith, c.seek.invariant.few);
+      room = next.1;
+      counted = omega (arith, c.seek.invariant.counted, c.narrowed-window.ensures.counted);
+      steps = λ h few. steps-more (2 * (h + 1)) (32 - left) (32 - (left - 1)) c.args.steps.now c.seek.steps c.narrowed-window.new.steps (omega (arith, next.0, c.seek.invariant.few)) (c.seek.invariant.steps h few) (c.narrowed-window.ensures.steps h few);
     }
 
-pub loop-high-preserved-then-zone_start-row : goal.loop-high-preserved-then-zone_start-row
-loop-high-preserved-then-zone_start-row g c =
-    let left = c.loop-high.invariant.left in
-    let next = halved (c.loop-high.high - c.loop-high.low) left c.loop-high-test.true c.loop-high.invariant.narrow in
-    record {
-      order = omega (arith, c.loop-high-test.true);
-      within = c.loop-high.invariant.within;
-      low_is = omega (arith, c.zone_start.ensures.start, c.if-zone_start-row.true);
-      high_is = c.loop-high.invariant.high_is;
-      left = left - 1;
-      few = omega (arith, c.loop-high.invariant.few);
-      narrow = omega (arith, next.2);
-      counted = omega (arith, c.loop-high.invariant.counted, c.zone_start.ensures.counted);
-      steps = λ h few. steps-more (2 * (h + 1)) (32 - left) (32 - (left - 1)) c.args.steps.now c.loop-high.steps c.zone_start.new.steps (omega (arith, next.0, c.loop-high.invariant.few)) (c.loop-high.invariant.steps h few) (c.zone_start.ensures.steps h few);
-    }
-
-pub loop-high-preserved : goal.loop-high-preserved
-loop-high-preserved g c =
-    let left = c.loop-high.invariant.left in
-    let next = halved (c.loop-high.high - c.loop-high.low) left c.loop-high-test.true c.loop-high.invariant.narrow in
-    record {
-      order = omega (arith, c.loop-high-test.true);
-      within = omega (arith, c.loop-high-test.true, c.loop-high.invariant.within);
-      low_is = c.loop-high.invariant.low_is;
-      high_is = omega (arith, c.zone_start.ensures.start, c.if-zone_start-row.false);
-      left = left - 1;
-      few = omega (arith, c.loop-high.invariant.few);
-      narrow = omega (arith, next.1);
-      counted = omega (arith, c.loop-high.invariant.counted, c.zone_start.ensures.counted);
-      steps = λ h few. steps-more (2 * (h + 1)) (32 - left) (32 - (left - 1)) c.args.steps.now c.loop-high.steps c.zone_start.new.steps (omega (arith, next.0, c.loop-high.invariant.few)) (c.loop-high.invariant.steps h few) (c.zone_start.ensures.steps h few);
-    }
+pub returns-clause-place : goal.returns-clause-place
+returns-clause-place g c = found-zone c.args.self.now c.args.row c.seek.window c.seek.invariant.window c.seek-test.false

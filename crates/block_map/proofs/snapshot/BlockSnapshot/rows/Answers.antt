@@ -22,5 +22,5 @@ walk-preserved g c =
           ∙ sym (window-join all c.args.first m n)
           ∙ ap (λ (k : ℕ). take k (drop c.args.first all)) size;
       counted = omega (arith, c.walk.invariant.counted, c.in_ok-next.ensures.counted);
-      steps = λ h few. steps-more (72 * (h + 1)) m (c.in_ok-next.next - c.args.first) c.args.steps.now c.walk.steps c.push_at.new.steps (omega (arith, c.walk.invariant.begun, c.in_ok-next.ensures.some.0)) (c.walk.invariant.steps h few) (c.in_ok-next.ensures.steps h few);
+      steps = λ h few. steps-more (70 * (h + 1)) m (c.in_ok-next.next - c.args.first) c.args.steps.now c.walk.steps c.push_at.new.steps (omega (arith, c.walk.invariant.begun, c.in_ok-next.ensures.some.0)) (c.walk.invariant.steps h few) (c.in_ok-next.ensures.steps h few);
     }
