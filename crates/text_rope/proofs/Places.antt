@@ -1,5 +1,5 @@
 -- The chunk in which an offset lies: what it is of the text.
-use Rattle.std.proofs.Common.{◌≡◌, ℕ, ◌+◌, ◌-◌, ◌≤◌, ◌↔◌, ◌++◌, List, [], ◌∷◌, length, length-append, take, drop, get_or, ap, sym, ◌∙◌, subst, inl, inr, arith}
+use Rattle.std.proofs.Common.{◌≡◌, Bool, IsTrue, ℕ, ◌+◌, ◌-◌, ◌≤◌, ◌↔◌, ◌++◌, List, [], ◌∷◌, length, length-append, take, drop, get_or, ap, sym, ◌∙◌, subst, inl, inr, arith}
 use Rattle.std.specs.List.{concat}
 use Rattle.std.specs.Str.{IsCharBoundary, IsUtf8}
 use Rattle.std.proofs.lemmas.Bool.{cases_lt}
@@ -118,4 +118,12 @@ boundary_here chunks offset r are found =
     let place : r.bytes + (offset - r.bytes) ≡ offset = omega (arith, found.start) in (
       λ b. subst (IsBoundary (concat chunks)) place (boundary_out chunks r (offset - r.bytes) are found.size b),
       λ b. boundary_into chunks offset offset r are found found.start (within_chunk chunks offset r found) b,
+    )
+
+-- a test in the chunk of an offset tells whether that is a boundary of the text
+pub tested_here : (chunks : List (List ℕ)) (offset : ℕ) (r : TextSize) (m : List ℕ) (t : Bool) → AreChunks chunks → IsBefore chunks offset r → m ≡ get_or chunks r.chunks [] → (IsTrue t ↔ IsCharBoundary m (offset - r.bytes)) → IsTrue t ↔ IsBoundary (concat chunks) offset
+tested_here chunks offset r m t are found e test =
+    let here = boundary_here chunks offset r are found in (
+      λ yes. here.0 (subst (λ (l : List ℕ). IsCharBoundary l (offset - r.bytes)) e (test.0 yes)),
+      λ b. test.1 (subst (λ (l : List ℕ). IsCharBoundary l (offset - r.bytes)) (sym e) (here.1 b)),
     )

@@ -204,7 +204,23 @@ pub(crate) fn is_range(chunks: &SumTree<Chunk>, start: u32, end: u32, steps: &mu
     ensures counted { steps.old ≤ steps.new }
     ensures steps { TakesOnText (ways 4) (concat chunks.now) steps.old steps.new }
 {
-    start <= end && is_boundary(chunks, start, steps) && is_boundary(chunks, end, steps)
+    if end < start {
+        return false;
+    }
+    if end > chunks.sum().bytes {
+        return false;
+    }
+    let found = found_at(chunks, end, steps);
+    let last = (end - found.before.bytes) as usize;
+    if !found.text.is_char_boundary(last) {
+        return false;
+    }
+    if start < found.before.bytes {
+        return is_boundary(chunks, start, steps);
+    }
+    // Both lie in one chunk.
+    let first = (start - found.before.bytes) as usize;
+    found.text.is_char_boundary(first)
 }
 
 /// The patch that puts `count` bytes in the place of the range; no edit where nothing replaces nothing.

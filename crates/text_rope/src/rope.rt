@@ -216,10 +216,13 @@ impl Rope {
         ensures counted { steps.old ≤ steps.new }
         ensures steps { TakesOnText (slicing (end - start)) self.now steps.old steps.new }
     {
-        let before = found_at(&self.chunks, start, steps).before;
-        let from = (start - before.bytes) as usize;
-        let to = (end - before.bytes) as usize;
-        let text = gather(alloc, &self.chunks, before.chunks, to, steps)?;
+        let found = found_at(&self.chunks, start, steps);
+        let from = (start - found.before.bytes) as usize;
+        let to = (end - found.before.bytes) as usize;
+        if to <= found.text.len() {
+            return Text::from_str(alloc, &found.text[from..to]);
+        }
+        let text = gather(alloc, &self.chunks, found.before.chunks, to, steps)?;
         Text::from_str(alloc, &text.as_str()[from..to])
     }
 }
