@@ -121,3 +121,14 @@ row_in_chunk chunks offset row k r found e some le =
       start = omega (arith, e, some);
       end = omega (arith, e, feeds, le, ap (λ (t : List ℕ). count_by is_feed t) (last_chunk chunks r.chunks), feeds-append (concat (take r.chunks chunks)) (get_or chunks r.chunks []));
     }
+
+-- a row's chunk has the line feed of the next one too, where more stand there
+pub next_in_chunk : (chunks : List (List ℕ)) (row : ℕ) (r : RowSize) → IsBeforeRow chunks row r → row - r.feeds < count_by is_feed (get_or chunks r.chunks []) → IsBeforeRow chunks (row + 1) r
+next_in_chunk chunks row r found more =
+    let feeds : r.feeds ≡ count_by is_feed (concat (take r.chunks chunks)) = ap (λ (t : RowSize). t.feeds) found.size ∙ total_feeds (take r.chunks chunks) in
+    record {
+      size = found.size;
+      within = found.within;
+      start = omega (arith, found.start);
+      end = omega (arith, feeds, more, found.start, ap (λ (t : List ℕ). count_by is_feed t) (last_chunk chunks r.chunks), feeds-append (concat (take r.chunks chunks)) (get_or chunks r.chunks []));
+    }

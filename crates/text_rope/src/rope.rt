@@ -14,7 +14,7 @@ ghost use Rattle.cell_units.specs.Refusal.{IsAccepted, IsTextRefused};
 use crate::chunk::{Chunk, chunks_of};
 use crate::edit::{is_range, patch_of, renewal_of};
 use crate::find::{found_at, gather, is_boundary, near_boundary, row_at};
-use crate::rows::{end_of_row, point_at, start_of_row};
+use crate::rows::{end_of_row, point_at, range_of_row, start_of_row};
 use cell_units::limits::TEXT_LIMIT;
 use cell_units::{
     Bias, Fault, NoMemory, Point, Refusal, Steps, Text, TextFault, cleaned, read_text,
@@ -144,9 +144,7 @@ impl Rope {
         ensures counted { steps.old ≤ steps.new }
         ensures steps { TakesOnText (ways 4) self.now steps.old steps.new }
     {
-        let start = start_of_row(&self.chunks, row, steps);
-        let end = end_of_row(&self.chunks, row, steps);
-        (start, end)
+        range_of_row(&self.chunks, row, steps)
     }
 
     /// The row of an offset, which is at most the text's length.

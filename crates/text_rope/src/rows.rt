@@ -155,3 +155,25 @@ pub(crate) fn end_of_row(chunks: &SumTree<Chunk>, row: u32, steps: &mut Steps) -
         start_of_row(chunks, row + 1, steps) - 1
     }
 }
+
+/// The first offset of a row and its end. An end in the chunk behind whose line feed the row begins isn't sought.
+pub(crate) fn range_of_row(chunks: &SumTree<Chunk>, row: u32, steps: &mut Steps) -> (u32, u32)
+    requires rope { IsRope chunks.now }
+    requires within { row ≤ count_by is_feed (concat chunks.now) }
+    ensures start { result.0 ≡ line_start (concat chunks.now) row }
+    ensures end { result.1 ≡ line_end (concat chunks.now) row }
+    ensures counted { steps.old ≤ steps.new }
+    ensures steps { TakesOnText (ways 3) (concat chunks.now) steps.old steps.new }
+{
+    if row == 0 {
+        return (0, end_of_row(chunks, row, steps));
+    }
+    let found = found_row(chunks, row, steps);
+    let number = row - found.before.feeds;
+    let start = found.before.bytes + behind_feed(found.text, number) as u32;
+    if number == count_feeds(found.text.as_bytes()) {
+        return (start, end_of_row(chunks, row, steps));
+    }
+    let next = found.before.bytes + behind_feed(found.text, number + 1) as u32;
+    (start, next - 1)
+}
