@@ -1,0 +1,136 @@
+//! What is timed of changes.
+
+use crate::looks::rows;
+use crate::text::{block_lines, scattered, side_of, start_of};
+use blocked_text::BlockedText;
+use cell_units::{Fault, NoMemory, Side, Steps, Text};
+use std::alloc::Global;
+use wrapped_text::WrappedText;
+
+/// The id of a block that is added and taken out again.
+const FRESH: u32 = u32::MAX;
+
+/// Adds a block at a line and takes it out again, each with what is shown then, at lines far from each other. It gives the
+/// number of rows of the last snapshot.
+pub fn blocks(
+    alloc: Global,
+    text: &mut BlockedText,
+    lines: u32,
+    group: u32,
+    times: u32,
+    steps: &mut Steps,
+) -> Result<u64, Fault> {
+    let given = block_lines(alloc)?;
+    put_and_take(alloc, text, given.as_slice(), lines, group, times, steps)?;
+    Ok(rows(&text.shown))
+}
+
+/// The same with the lines of the block.
+fn put_and_take(
+    alloc: Global,
+    text: &mut BlockedText,
+    given: &[Text],
+    lines: u32,
+    group: u32,
+    times: u32,
+    steps: &mut Steps,
+) -> Result<(), Fault> {
+    for turn in 0..times {
+        let at = start_of(scattered(turn, lines), group);
+        put_one(alloc, text, given, side_of(turn), at, steps)?;
+        take_one(alloc, text, steps)?;
+    }
+    Ok(())
+}
+
+/// Adds a block and shows it.
+fn put_one(
+    alloc: Global,
+    text: &mut BlockedText,
+    given: &[Text],
+    side: Side,
+    at: u32,
+    steps: &mut Steps,
+) -> Result<(), Fault> {
+    text.insert(alloc, FRESH, side, at, given, steps)?;
+    text.show(alloc, steps)?;
+    Ok(())
+}
+
+/// Takes the block out and shows what is left.
+fn take_one(alloc: Global, text: &mut BlockedText, steps: &mut Steps) -> Result<(), Fault> {
+    text.remove(alloc, FRESH, steps)?;
+    text.show(alloc, steps)?;
+    Ok(())
+}
+
+/// Shows a text in which nothing has changed. It gives the number of rows.
+pub fn shows(
+    alloc: Global,
+    text: &mut BlockedText,
+    times: u32,
+    steps: &mut Steps,
+) -> Result<u64, NoMemory> {
+    for _ in 0..times {
+        text.show(alloc, steps)?;
+    }
+    Ok(rows(&text.shown))
+}
+
+/// Changes letters of lines far from each other, each time with what is shown then: the text with its maps and its blocks. It
+/// gives the number of rows of the last snapshot.
+pub fn letters(
+    alloc: Global,
+    text: &mut BlockedText,
+    lines: u32,
+    group: u32,
+    times: u32,
+    steps: &mut Steps,
+) -> Result<u64, Fault> {
+    for turn in 0..times {
+        let at = start_of(scattered(turn, lines), group);
+        text.replace(alloc, at, at.saturating_add(1), "b", steps)?;
+    }
+    Ok(rows(&text.shown))
+}
+
+/// The same without blocks: the text with its maps alone. It gives the number of rows of the last snapshot.
+pub fn letters_below(
+    alloc: Global,
+    text: &BlockedText,
+    lines: u32,
+    group: u32,
+    times: u32,
+    steps: &mut Steps,
+) -> Result<u64, Fault> {
+    let mut changed = text.text.share()?;
+    change_letters(alloc, &mut changed, lines, group, times, steps)
+}
+
+/// The same in a text of its own.
+fn change_letters(
+    alloc: Global,
+    text: &mut WrappedText,
+    lines: u32,
+    group: u32,
+    times: u32,
+    steps: &mut Steps,
+) -> Result<u64, Fault> {
+    let mut count = 0;
+    for turn in 0..times {
+        let at = start_of(scattered(turn, lines), group);
+        count = change_letter(alloc, text, at, steps)?;
+    }
+    Ok(count)
+}
+
+/// Changes a letter. It gives how many rows come for those of its line.
+fn change_letter(
+    alloc: Global,
+    text: &mut WrappedText,
+    at: u32,
+    steps: &mut Steps,
+) -> Result<u64, Fault> {
+    let change = text.replace(alloc, at, at.saturating_add(1), "b", steps)?;
+    Ok(change.rows.map_or(0, |rows| rows.count as u64))
+}

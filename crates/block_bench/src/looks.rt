@@ -1,0 +1,77 @@
+//! What is timed of snapshots.
+
+use crate::text::scattered;
+use blocked_text::BlockRows;
+use cell_units::{NoMemory, Rows, Steps};
+use std::alloc::Global;
+use wrapped_text::Shown;
+
+/// The number of rows.
+pub fn rows(shown: &BlockRows<Shown>) -> u64 {
+    shown.blocks.row_count() as u64
+}
+
+/// Asks for the lines of text rows far from each other, without blocks. It gives their sum.
+pub fn lines_of_rows(shown: &BlockRows<Shown>, times: u32) -> u64 {
+    let rows = shown.rows.rows_before(shown.rows.lines());
+    let mut check: u64 = 0;
+    for turn in 0..times {
+        let found = shown.rows.line_at(scattered(turn, rows));
+        check = check.wrapping_add(found.map_or(0, |(line, _)| line as u64));
+    }
+    check
+}
+
+/// Asks for text rows far from each other, without blocks. It gives how many bytes these have.
+pub fn texts_of_rows(alloc: Global, shown: &BlockRows<Shown>, times: u32) -> Result<u64, NoMemory> {
+    let rows = shown.rows.rows_before(shown.rows.lines());
+    let mut check: u64 = 0;
+    for turn in 0..times {
+        if let Some((line, row)) = shown.rows.line_at(scattered(turn, rows)) {
+            let text = shown.rows.row_text(alloc, line, row)?;
+            check = check.wrapping_add(text.as_str().len() as u64);
+        }
+    }
+    Ok(check)
+}
+
+/// Asks at which rows lines far from each other begin. It gives their sum.
+pub fn rows_of_lines(shown: &BlockRows<Shown>, times: u32, steps: &mut Steps) -> u64 {
+    let lines = shown.rows.lines();
+    let mut check: u64 = 0;
+    for turn in 0..times {
+        let line = scattered(turn, lines);
+        if line < lines {
+            check = check.wrapping_add(shown.blocks.row_of(line, 0, steps) as u64);
+        }
+    }
+    check
+}
+
+/// Asks which lines stand at rows far from each other. It gives their sum.
+pub fn texts_at_rows(shown: &BlockRows<Shown>, times: u32, steps: &mut Steps) -> u64 {
+    let rows = shown.blocks.row_count();
+    let mut check: u64 = 0;
+    for turn in 0..times {
+        let found = shown.blocks.text_at(scattered(turn, rows), steps);
+        check = check.wrapping_add(found.map_or(0, |(line, _)| line as u64));
+    }
+    check
+}
+
+/// Asks for rows far from each other. It gives how many bytes these have.
+pub fn rows_at(
+    alloc: Global,
+    shown: &BlockRows<Shown>,
+    times: u32,
+    steps: &mut Steps,
+) -> Result<u64, NoMemory> {
+    let rows = shown.blocks.row_count();
+    let mut check: u64 = 0;
+    for turn in 0..times {
+        if let Some(row) = shown.blocks.row(alloc, scattered(turn, rows), steps)? {
+            check = check.wrapping_add(row.text.as_str().len() as u64);
+        }
+    }
+    Ok(check)
+}
