@@ -2,8 +2,8 @@
 use crate::checks::{Change, Shown, agrees, answers, answers_change, leads};
 use crate::laid::{Laid, Replaced};
 use crate::plain::{IDS, PlainText, WORDS, bytes_of, given};
-use crate::random::Numbers;
 use cell_units::{Bias, Fault, NoMemory};
+use made_input::Generator;
 use std::alloc::Global;
 use std::test::Fail;
 
@@ -16,7 +16,7 @@ struct History {
     /// The changes since the last snapshot: how many there were, and the last one.
     changes: u32,
     last: Change,
-    numbers: Numbers,
+    generator: Generator,
 }
 
 impl History {
@@ -30,7 +30,7 @@ impl History {
             shown,
             changes: 0,
             last: Change::at_row(0),
-            numbers: Numbers::new(seed),
+            generator: Generator::new(seed),
         })
     }
 
@@ -46,7 +46,7 @@ impl History {
 
     /// Makes a random change of both, or shows both, and tells whether they agree.
     fn agrees_once_more(&mut self) -> Result<bool, NoMemory> {
-        match self.numbers.below(20) {
+        match self.generator.below(20) {
             0..=3 => Ok(self.insert()),
             4 | 5 => Ok(self.remove()),
             6..=9 => Ok(self.fold()),
@@ -66,14 +66,14 @@ impl History {
     }
 
     fn insert(&mut self) -> bool {
-        let id = self.numbers.below(IDS);
-        let offset = self.numbers.below(self.plain.len().saturating_add(2));
-        let bias = if self.numbers.below(2) == 0 {
+        let id = self.generator.below(IDS);
+        let offset = self.generator.below(self.plain.len().saturating_add(2));
+        let bias = if self.generator.below(2) == 0 {
             Bias::Left
         } else {
             Bias::Right
         };
-        let word = self.numbers.below(WORDS);
+        let word = self.generator.below(WORDS);
         let refusal = self.plain.insert(id, offset, bias, word);
         if refusal.is_none() {
             let change = Change::at_row(self.plain.row(offset));
@@ -83,7 +83,7 @@ impl History {
     }
 
     fn remove(&mut self) -> bool {
-        let id = self.numbers.below(IDS);
+        let id = self.generator.below(IDS);
         if let Some(offset) = self.plain.offset_of(id) {
             let change = Change::at_row(self.plain.row(offset));
             self.note(change);
@@ -94,9 +94,9 @@ impl History {
 
     /// Folds a range, which may be empty, backwards or past the end.
     fn fold(&mut self) -> bool {
-        let id = self.numbers.below(IDS);
-        let start = self.numbers.below(self.plain.len().saturating_add(2));
-        let end = start.wrapping_add(self.numbers.below(12)).wrapping_sub(2);
+        let id = self.generator.below(IDS);
+        let start = self.generator.below(self.plain.len().saturating_add(2));
+        let end = start.wrapping_add(self.generator.below(12)).wrapping_sub(2);
         let refusal = self.plain.fold(id, start, end);
         if refusal.is_none() {
             let change = Change::of_fold(&self.plain, start, end);
@@ -106,7 +106,7 @@ impl History {
     }
 
     fn unfold(&mut self) -> bool {
-        let id = self.numbers.below(IDS);
+        let id = self.generator.below(IDS);
         if let Some(fold) = self.plain.fold_of(id) {
             let change = Change::of_fold(&self.plain, fold.start, fold.end);
             self.note(change);
@@ -117,9 +117,9 @@ impl History {
 
     /// Replaces a short range, which may be backwards or past the end.
     fn edit(&mut self) -> Result<bool, NoMemory> {
-        let start = self.numbers.below(self.plain.len().saturating_add(1));
-        let end = start.wrapping_add(self.numbers.below(5)).wrapping_sub(1);
-        let word = self.numbers.below(WORDS);
+        let start = self.generator.below(self.plain.len().saturating_add(1));
+        let end = start.wrapping_add(self.generator.below(5)).wrapping_sub(1);
+        let word = self.generator.below(WORDS);
         let before = (self.plain.row(start), self.plain.row(end));
         let refusal = self.plain.edit(start, end, word)?;
         let count = bytes_of(word);

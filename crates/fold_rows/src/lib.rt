@@ -15,8 +15,6 @@ mod moves;
 #[cfg(test)]
 mod plain;
 #[cfg(test)]
-mod random;
-#[cfg(test)]
 mod refusals;
 #[cfg(test)]
 mod rows;

@@ -2,7 +2,7 @@
 use Rattle.std.proofs.Common.{Result, ◌≡◌, ℕ, ◌≤◌, List, length, Option, option_map, Some, None, refl, sym, ap, ◌∙◌, subst, arith}
 use Rattle.std.proofs.Math.Logic.{∥∥₁_elim}
 use Rattle.std.proofs.lemmas.Result.{on_ok_weaker}
-use Rattle.std.specs.Result.{OnOk}
+use Rattle.std.specs.Result.{IfOk, OnOk}
 use Rattle.std.proofs.Props.{props}
 use Rattle.cell_units.specs.declared.limits.TheConstants.{TEXT_LIMIT}
 use Rattle.cell_units.specs.declared.place.Bias.TheVariants.{Right}
@@ -20,7 +20,7 @@ use Rattle.fold_map.specs.Maps.{FoldState}
 use Rattle.fold_map.specs.Synced as folded
 use Rattle.fold_map.specs.Synced.{Follows, MeetsTouched, StandAfter, folds_after, source_after}
 use Rattle.fold_map.proofs.MapTokens.{layer-is, place-size}
-use Rattle.folded_text.specs.Shown.{BelongTogether, IsReplaced, IsReplacedIfAny, folds_shown, inlays_shown}
+use Rattle.folded_text.specs.Shown.{BelongTogether, IsReplaced, IsReplacedIfAny, IsShown, folds_shown, inlays_shown}
 use Rattle.folded_text.proofs.Reaches.{ReachesOver, answer-reaches, meets-rows, never-none}
 use Rattle.folded_text.proofs.Texts.{folds-moved, folds-stand, places-fit, replaced-leads}
 
@@ -119,3 +119,10 @@ module _ (inlays : InlayState) (folds : FoldState) (text : List ℕ) (belong : B
       on_ok_weaker r
       (λ d. subst (λ (m : InlayState). BelongTogether text m folds') (sym e)
       (subst (λ (m : FoldState). BelongTogether text (inlays_shown text moved inlays) m) (sym (d ∙ ap (λ (v : Source). folded.synced v moved folds) synced.made)) belong-shown)) ok
+
+-- The map of folds makes the snapshot of what the map of inlays made.
+pub is-shown : {E : Type 0} (inlays : InlayState) (folds : FoldState) (text : List ℕ) (moved : Option Reach) (made : Source) (below : Option Reach) → inlaid.IsSynced text moved inlays made below
+    → (r : Result (Source × Option Shift) E) → IfOk r (λ (v : Source × Option Shift). folded.IsSynced made moved below folds v.0 (option_map reach_of v.1))
+    → IfOk r (λ (v : Source × Option Shift). IsShown text moved inlays folds v.0 (option_map reach_of v.1))
+is-shown inlays folds text moved made below synced r is =
+    subst (λ (p : Source × Option Reach). IfOk r (λ (v : Source × Option Shift). folded.IsSynced p.0 moved p.1 folds v.0 (option_map reach_of v.1))) (λ i. (synced.made i, synced.answered i)) is

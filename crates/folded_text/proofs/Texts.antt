@@ -26,7 +26,7 @@ use Rattle.inlay_map.specs.Maps as inlaid
 use Rattle.inlay_map.proofs.ReplacedTexts.{IsTold, told, told-leads, told-stand}
 use Rattle.fold_map.specs.Snapshots.{PlacesFit}
 use Rattle.fold_map.specs.Synced.{StandAfter, folds_after}
-use Rattle.folded_text.specs.Shown.{IsReplaced, IsReplacedIfAny}
+use Rattle.folded_text.specs.Shown.{IsReplaced, IsReplacedIfAny, put_at}
 
 -- ---- a replacement of the text
 
@@ -38,13 +38,20 @@ pub replaced-leads : (old new : List ℕ) (r : Option Reach) → IsReplacedIfAny
 replaced-leads old new None is = is
 replaced-leads old new (Some s) is = told-leads old new is.put s (told-is old new s is)
 
--- so it is where the count is reckoned from the lengths of both texts
-pub is-replaced : (old rope made new put : List ℕ) (a b bytes after : ℕ) (r : Reach) → old ≡ rope → new ≡ made → IsUtf8 put → IsRange rope a b → made ≡ replaced_text rope a b put
-    → bytes ≡ length rope → after ≡ length made → r.start ≡ a → r.end ≡ b → r.count ≡ after - (bytes - (b - a)) → IsReplaced old new r
-is-replaced old rope made new put a b bytes after r e d utf8 range text was is start end count =
+-- where the count is reckoned from the lengths of both texts, it is the replacement of the range by those bytes
+pub put-is : (rope made put : List ℕ) (a b bytes after : ℕ) (r : Reach) → IsRange rope a b → made ≡ replaced_text rope a b put
+    → bytes ≡ length rope → after ≡ length made → r.start ≡ a → r.end ≡ b → r.count ≡ after - (bytes - (b - a)) → r ≡ put_at a b put
+put-is rope made put a b bytes after r range text was is start end count =
     let t = told rope made put a b bytes after r range text was is start end count in
-    subst (λ (p : List ℕ × List ℕ). IsReplaced p.0 p.1 r) (λ i. (sym e i, sym d i))
-    (record { put = put; utf8 = utf8; range = t.range; text = t.text; count = t.count })
+    let counted : r.count ≡ length put = t.count in
+    λ i. record { start = start i; end = end i; count = counted i }
+
+-- and by that, those bytes took the place of the range
+pub is-replaced : (old new put : List ℕ) (a b : ℕ) (r : Reach) → IsUtf8 put → IsRange old a b → new ≡ replaced_text old a b put → r ≡ put_at a b put
+    → IsReplaced old new r
+is-replaced old new put a b r utf8 range text is =
+    subst (λ (p : List ℕ × Reach). IsReplaced old p.0 p.1) (λ i. (sym text i, sym is i))
+    (record { put = put; utf8 = utf8; range = range; text = refl; count = refl })
 
 -- inlays, moved by it, stand at boundaries of the new text
 pub inlays-stand : (old new : List ℕ) (r : Option Reach) → IsReplacedIfAny old new r → IsUtf8 old → (inlays : List Inlay) → AreInlays old inlays → inlaid.StandAfter new r inlays

@@ -1,9 +1,11 @@
 -- A text with the maps of its inlays and folds, and what is shown of them.
 use Rattle.std.specs.Prelude.{ℕ, ◌≡◌, ◌≤◌, List, length, Option, Some, None}
 use Rattle.std.specs.Str.{IsUtf8}
-use Rattle.cell_units.specs.Layers.{unfolded}
+use Rattle.cell_units.specs.declared.fault.Fault.{Fault}
+use Rattle.cell_units.specs.declared.fault.Fault.TheVariants.{Refused, NoMemory}
+use Rattle.cell_units.specs.Layers.{Source, plain_source, unfolded}
 use Rattle.cell_units.specs.Operation.{replaced_text}
-use Rattle.text_rope.specs.Edits.{IsRange}
+use Rattle.text_rope.specs.Edits.{IsRange, IsReplaceFault}
 use Rattle.shifted_lists.specs.LayerLeads.{LayerLeads}
 use Rattle.shifted_lists.specs.Leads.{Reach}
 use Rattle.inlay_map.specs.Maps as inlaid
@@ -21,6 +23,22 @@ pub record BelongTogether (buffer : List ℕ) (inlays : InlayState) (folds : Fol
   pub ordered : (s : Reach) → inlays.pending ≡ Some s → s.start ≤ s.end
   pub settled : inlays.pending ≡ None → inlays ≡ record inlays { current = inlays.shown }
 
+-- ---- at first
+
+-- a text without inlays, which counts as shown
+abbrev pub no_inlays : List ℕ → InlayState
+no_inlays text = record { current = plain_source text; shown = plain_source text; pending = None }
+
+-- and without folds
+abbrev pub no_folds : List ℕ → FoldState
+no_folds text = record { current = plain_source text; shown = plain_source text; pending = None }
+
+-- ---- a replacement of the text
+
+-- the replacement of a range by these bytes
+abbrev pub put_at : ℕ → ℕ → List ℕ → Reach
+put_at start end bytes = record { start = start; end = end; count = length bytes }
+
 -- a text took the place of the range, and so many bytes are in it
 pub record IsReplaced (old new : List ℕ) (s : Reach) : Type 0 where
   pub put : List ℕ
@@ -34,10 +52,24 @@ abbrev pub IsReplacedIfAny : List ℕ → List ℕ → Option Reach → Type 0
 IsReplacedIfAny old new None = new ≡ old
 IsReplacedIfAny old new (Some s) = IsReplaced old new s
 
--- what a snapshot of the text leaves of the inlays
+-- The fault tells why the clean text s doesn't come for the range. Want of memory tells nothing, since the text is copied before
+-- the range is judged.
+abbrev pub IsReplaceRefusal : List ℕ → ℕ → ℕ → List ℕ → Fault → Type 0
+IsReplaceRefusal text start end s (Refused refusal) = IsReplaceFault text start end s (Refused refusal)
+IsReplaceRefusal text start end s NoMemory = Unit {0}
+
+-- ---- a snapshot
+
+-- what a snapshot of the text leaves of the inlays: they are moved, and count as shown
 abbrev pub inlays_shown : List ℕ → Option Reach → InlayState → InlayState
 inlays_shown text shift inlays = inlaid.synced text shift inlays
 
 -- and of the folds
 abbrev pub folds_shown : List ℕ → Option Reach → InlayState → FoldState → FoldState
 folds_shown text shift inlays folds = folded.synced (inlaid.source_after text shift inlays.current) shift folds
+
+-- The snapshot shows the text with the inlays and the folds, moved. The answer is the one replacement that leads to it from what
+-- was shown last, or none.
+abbrev pub IsShown : List ℕ → Option Reach → InlayState → FoldState → Source → Option Reach → Type 0
+IsShown text shift inlays folds =
+    folded.IsSynced (inlaid.source_after text shift inlays.current) shift (inlaid.answer_of text shift inlays) folds

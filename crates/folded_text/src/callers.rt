@@ -1,7 +1,7 @@
 //! The caller that the page of the fold map shows.
-ghost use Rattle.std.specs.Prelude.{◌≡◌, option_map, IfOk, OnErr, OnOk};
+ghost use Rattle.std.specs.Prelude.{◌≡◌, ◌≤◌, option_map, IfOk, OnErr, OnOk};
 ghost use Rattle.shifted_lists.specs.Leads.{reach_of};
-ghost use Rattle.folded_text.specs.Shown.{BelongTogether, IsReplacedIfAny, folds_shown, inlays_shown};
+ghost use Rattle.folded_text.specs.Shown.{BelongTogether, IsReplacedIfAny, IsShown, folds_shown, inlays_shown};
 
 use cell_units::{Layer, NoMemory, Shift, Steps};
 use fold_map::{FoldMap, FoldSnapshot};
@@ -21,12 +21,15 @@ pub fn show(
 ) -> Result<(FoldSnapshot<InlaySnapshot>, Option<Shift>), NoMemory>
     requires belong { BelongTogether inlays.old.current.text inlays.old folds.old }
     requires text { IsReplacedIfAny inlays.old.current.text rope (option_map reach_of shift) }
-    ensures inlays { OnOk result (inlays.new ≡ inlays_shown rope (option_map reach_of shift) inlays.old) }
+    ensures inlays { let replaced = option_map reach_of shift in
+        OnOk result (inlays.new ≡ inlays_shown rope replaced inlays.old) }
     ensures folds { let replaced = option_map reach_of shift in
         OnOk result (folds.new ≡ folds_shown rope replaced inlays.old folds.old) }
     ensures belong { OnOk result (BelongTogether rope inlays.new folds.new) }
-    ensures shown { IfOk result (λ shown. shown.0 ≡ folds.new.current) }
+    ensures shown { let replaced = option_map reach_of shift in IfOk result (λ made.
+        IsShown rope replaced inlays.old folds.old made.0 (option_map reach_of made.1)) }
     ensures err { OnErr result (folds.new ≡ folds.old) }
+    ensures counted { steps.old ≤ steps.new }
 {
     // The text is within its limit, and the inlays and the folds fit it.
     let _sizes = (rope.len(), inlays.len(), folds.len());

@@ -1,13 +1,17 @@
 //! A text with its inlays and folds.
-ghost use Rattle.std.specs.Prelude.{◌≡◌, ◌≤◌, None, Some, length, option_map, IfErr, IfOk, OnErr, OnOk};
+ghost use Rattle.std.specs.Prelude.{◌≡◌, ◌≤◌, None, Some, option_map, IfErr, IfOk, OnErr, OnOk};
 ghost use Rattle.std.specs.List.{Contains};
 ghost use Rattle.cell_units.specs.Operation.{replaced_text};
 ghost use Rattle.cell_units.specs.Record.{Fold, Inlay};
 ghost use Rattle.cell_units.specs.Text.{clean};
-ghost use Rattle.inlay_map.specs.Maps.{added, inlay_with, removed};
+ghost use Rattle.text_rope.specs.Edits.{IsRange};
+ghost use Rattle.inlay_map.specs.Maps as inlaid;
+ghost use Rattle.inlay_map.specs.Maps.{add_refusal, added, inlay_with, remove_refusal, removed};
+ghost use Rattle.fold_map.specs.Maps as folded;
 ghost use Rattle.fold_map.specs.Maps.{fold_with, folded_up, opened_up};
+ghost use Rattle.fold_map.specs.Snapshots.{fold_refusal, unfold_refusal};
 ghost use Rattle.shifted_lists.specs.Leads.{reach_of};
-ghost use Rattle.folded_text.specs.Shown.{BelongTogether, folds_shown, inlays_shown};
+ghost use Rattle.folded_text.specs.Shown.{BelongTogether, IsReplaceRefusal, IsReplacedIfAny, IsShown, folds_shown, inlays_shown, no_folds, no_inlays, put_at};
 
 use crate::callers::show;
 use cell_units::{Bias, Fault, NoMemory, Shift, Steps};
@@ -28,10 +32,37 @@ pub struct FoldedText {
     ghost belong: { BelongTogether rope inlays folds },
 }
 
+/// The text with another in the place of a range, and the replacement that leads to it. It is refused as the rope refuses it.
+fn replaced(
+    alloc: Global,
+    rope: &Rope,
+    start: u32,
+    end: u32,
+    text: &str,
+    steps: &mut Steps,
+) -> Result<(Rope, Shift), Fault>
+    ensures range { OnOk result (IsRange rope.now start end) }
+    ensures text { let made = replaced_text rope.now start end (clean text.now) in
+        IfOk result (λ new. new.0 ≡ made) }
+    ensures shift { let put = put_at start end (clean text.now) in
+        IfOk result (λ new. reach_of new.1 ≡ put) }
+    ensures refused { IfErr result (IsReplaceRefusal rope.now start end (clean text.now)) }
+    ensures counted { steps.old ≤ steps.new }
+{
+    let bytes = rope.len();
+    let mut made = rope.share()?;
+    made.replace(alloc, start, end, text, steps)?;
+    let shift = Shift::new(start, end, made.len() - (bytes - (end - start)));
+    Ok((made, shift))
+}
+
 impl FoldedText {
     /// The text without inlays and folds, which counts as shown.
     pub fn new(alloc: Global, rope: Rope, steps: &mut Steps) -> Result<FoldedText, NoMemory>
         ensures text { IfOk result (λ made. made.rope ≡ rope) }
+        ensures inlays { IfOk result (λ made. made.inlays ≡ no_inlays rope) }
+        ensures folds { IfOk result (λ made. made.folds ≡ no_folds rope) }
+        ensures counted { steps.old ≤ steps.new }
     {
         let mut inlays = InlayMap::new(alloc, rope.share()?, steps)?;
         let (layer, _) = inlays.sync(alloc, rope.share()?, None, steps)?;
@@ -55,8 +86,14 @@ impl FoldedText {
     ) -> Result<(), Fault>
         ensures ok { let inlay = inlay_with id offset bias text.now in
             OnOk result (self.new.inlays ≡ added inlay self.old.inlays) }
+        ensures accepted { let before = self.old.inlays.current in
+            OnOk result (add_refusal before id offset text.now ≡ None) }
+        ensures text { self.new.rope ≡ self.old.rope }
         ensures folds { self.new.folds ≡ self.old.folds }
+        ensures refused { let refusal = add_refusal self.old.inlays.current id offset text.now in
+            IfErr result (inlaid.IsOwed refusal) }
         ensures unchanged { OnErr result (self.new ≡ self.old) }
+        ensures counted { steps.old ≤ steps.new }
     {
         // The inlays stand within the text, at boundaries.
         let _inlays = self.inlays.len();
@@ -68,8 +105,13 @@ impl FoldedText {
     pub fn remove(&mut self, alloc: Global, id: u32, steps: &mut Steps) -> Result<(), Fault>
         ensures ok { (i : Inlay) → Contains self.old.inlays.current.inlays i → i.id ≡ id →
             OnOk result (self.new.inlays ≡ removed i self.old.inlays) }
+        ensures accepted { OnOk result (remove_refusal self.old.inlays.current id ≡ None) }
+        ensures text { self.new.rope ≡ self.old.rope }
         ensures folds { self.new.folds ≡ self.old.folds }
+        ensures refused { let refusal = remove_refusal self.old.inlays.current id in
+            IfErr result (inlaid.IsOwed refusal) }
         ensures unchanged { OnErr result (self.new ≡ self.old) }
+        ensures counted { steps.old ≤ steps.new }
     {
         // The inlays stand within the text, no two with one id.
         let _inlays = self.inlays.len();
@@ -88,8 +130,13 @@ impl FoldedText {
     ) -> Result<(), Fault>
         ensures ok { let fold = fold_with id start end in
             OnOk result (self.new.folds ≡ folded_up fold self.old.folds) }
+        ensures accepted { OnOk result (fold_refusal self.old.folds.current id start end ≡ None) }
+        ensures text { self.new.rope ≡ self.old.rope }
         ensures inlays { self.new.inlays ≡ self.old.inlays }
+        ensures refused { let refusal = fold_refusal self.old.folds.current id start end in
+            IfErr result (folded.IsOwed refusal) }
         ensures unchanged { OnErr result (self.new ≡ self.old) }
+        ensures counted { steps.old ≤ steps.new }
     {
         // The text is within its limit, and the folds fit it.
         let _sizes = (self.rope.len(), self.folds.len());
@@ -101,8 +148,13 @@ impl FoldedText {
     pub fn unfold(&mut self, alloc: Global, id: u32, steps: &mut Steps) -> Result<(), Fault>
         ensures ok { (f : Fold) → Contains self.old.folds.current.folds f → f.id ≡ id →
             OnOk result (self.new.folds ≡ opened_up f self.old.folds) }
+        ensures accepted { OnOk result (unfold_refusal self.old.folds.current id ≡ None) }
+        ensures text { self.new.rope ≡ self.old.rope }
         ensures inlays { self.new.inlays ≡ self.old.inlays }
+        ensures refused { let refusal = unfold_refusal self.old.folds.current id in
+            IfErr result (folded.IsOwed refusal) }
         ensures unchanged { OnErr result (self.new ≡ self.old) }
+        ensures counted { steps.old ≤ steps.new }
     {
         // The text is within its limit, and the folds fit it.
         let _sizes = (self.rope.len(), self.folds.len());
@@ -117,17 +169,17 @@ impl FoldedText {
         steps: &mut Steps,
     ) -> Result<(Shown, Option<Shift>), NoMemory>
         ensures text { self.new.rope ≡ self.old.rope }
-        ensures inlays { OnOk result (self.new.inlays ≡ inlays_shown self.old.rope None self.old.inlays) }
+        ensures inlays { let made = inlays_shown self.old.rope None self.old.inlays in
+            OnOk result (self.new.inlays ≡ made) }
         ensures folds { let made = folds_shown self.old.rope None self.old.inlays self.old.folds in
             OnOk result (self.new.folds ≡ made) }
-        ensures shown { IfOk result (λ shown. shown.0 ≡ self.new.folds.current) }
+        ensures shown { let was = self.old in IfOk result (λ made.
+            IsShown was.rope None was.inlays was.folds made.0 (option_map reach_of made.1)) }
         ensures unchanged { OnErr result (self.new ≡ self.old) }
+        ensures counted { steps.old ≤ steps.new }
     {
-        let mut inlays = self.inlays.share()?;
         let rope = self.rope.share()?;
-        let shown = show(alloc, &mut inlays, &mut self.folds, rope, None, steps)?;
-        self.inlays = inlays;
-        Ok(shown)
+        self.follow(alloc, rope, None, steps)
     }
 
     /// Puts a text in the place of a range, and shows what is there then. It is refused as the rope refuses it.
@@ -139,25 +191,51 @@ impl FoldedText {
         text: &str,
         steps: &mut Steps,
     ) -> Result<(Shown, Option<Shift>), Fault>
+        ensures range { OnOk result (IsRange self.old.rope start end) }
         ensures text { let made = replaced_text self.old.rope start end (clean text.now) in
             OnOk result (self.new.rope ≡ made) }
-        ensures shown { IfOk result (λ shown. shown.0 ≡ self.new.folds.current) }
+
+        // Inlays and folds are moved, and folds that are empty then are dropped.
+        ensures inlays { let put = put_at start end (clean text.now) in
+            OnOk result (self.new.inlays ≡ inlays_shown self.new.rope (Some put) self.old.inlays) }
+        ensures folds { let put = put_at start end (clean text.now) in
+            let made = folds_shown self.new.rope (Some put) self.old.inlays self.old.folds in
+            OnOk result (self.new.folds ≡ made) }
+        ensures shown { let put = put_at start end (clean text.now) in let was = self.old in
+            IfOk result (λ made. let answer = option_map reach_of made.1 in
+            IsShown self.new.rope (Some put) was.inlays was.folds made.0 answer) }
+        ensures refused { IfErr result (IsReplaceRefusal self.old.rope start end (clean text.now)) }
         ensures unchanged { OnErr result (self.new ≡ self.old) }
+        ensures counted { steps.old ≤ steps.new }
     {
-        let bytes = self.rope.len();
-        let mut rope = self.rope.share()?;
-        rope.replace(alloc, start, end, text, steps)?;
-        let shift = Shift::new(start, end, rope.len() - (bytes - (end - start)));
+        let (rope, shift) = replaced(alloc, &self.rope, start, end, text, steps)?;
+        Ok(self.follow(alloc, rope, Some(shift), steps)?)
+    }
+
+    /// Shows the text that is there now, after the replacement that led to it, if there was one.
+    fn follow(
+        &mut self,
+        alloc: Global,
+        rope: Rope,
+        shift: Option<Shift>,
+        steps: &mut Steps,
+    ) -> Result<(Shown, Option<Shift>), NoMemory>
+        requires { IsReplacedIfAny self.old.rope rope (option_map reach_of shift) }
+        ensures text { OnOk result (self.new.rope ≡ rope) }
+        ensures inlays { let made = inlays_shown rope (option_map reach_of shift) self.old.inlays in
+            OnOk result (self.new.inlays ≡ made) }
+        ensures folds { let was = self.old in let replaced = option_map reach_of shift in
+            let made = folds_shown rope replaced was.inlays was.folds in
+            OnOk result (self.new.folds ≡ made) }
+        ensures shown { let was = self.old in let replaced = option_map reach_of shift in
+            IfOk result (λ made. let answer = option_map reach_of made.1 in
+            IsShown rope replaced was.inlays was.folds made.0 answer) }
+        ensures unchanged { OnErr result (self.new ≡ self.old) }
+        ensures counted { steps.old ≤ steps.new }
+    {
         let mut inlays = self.inlays.share()?;
         let next = rope.share()?;
-        let shown = show(
-            alloc,
-            &mut inlays,
-            &mut self.folds,
-            next,
-            Some(shift),
-            steps,
-        )?;
+        let shown = show(alloc, &mut inlays, &mut self.folds, next, shift, steps)?;
         self.rope = rope;
         self.inlays = inlays;
         Ok(shown)

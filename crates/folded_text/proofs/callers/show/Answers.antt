@@ -1,6 +1,6 @@
 use Rattle.std.proofs.Common.{option_map, arith}
 use Rattle.shifted_lists.specs.Leads.{reach_of}
-use Rattle.folded_text.proofs.Follows.{belong-made, follows-made}
+use Rattle.folded_text.proofs.Follows.{belong-made, follows-made, is-shown}
 use Rattle.folded_text.proofs.Sent.{sent}
 use Rattle.folded_text.proofs.Texts.{inlays-stand, replaced-leads}
 use Rattle.folded_text.proofs.callers.show.Goals as goal
@@ -34,3 +34,8 @@ pub returns-clause-belong : goal.returns-clause-belong
 returns-clause-belong c =
     belong-made c.args.inlays.now c.args.folds.now c.args.rope c.requires.belong c.len-2.ensures.lawful c.len-3.ensures.lawful c.args.shift c.requires.text
     (omega (arith, c.len.ensures.value, c.len.ensures.within)) c.in_ok-layer.layer c.in_ok-layer.below c.in_ok-layer.ensures.synced c.sync.new.self c.in_ok-layer.ensures.ok c.sync-2.new.self c.sync-2.result c.sync-2.ensures.ok
+
+pub returns-clause-shown : goal.returns-clause-shown
+returns-clause-shown c =
+    is-shown c.args.inlays.now c.args.folds.now c.args.rope (option_map reach_of c.args.shift) c.in_ok-layer.layer (option_map reach_of c.in_ok-layer.below) c.in_ok-layer.ensures.synced
+    c.sync-2.result c.sync-2.ensures.synced

@@ -1,19 +1,22 @@
-use Rattle.std.proofs.Common.{◌∙◌, List, ℕ, length, ap, sym}
-use Rattle.cell_units.specs.Text.{clean}
+use Rattle.std.proofs.Common.{ℕ, List, Some, option_map, subst, sym}
 use Rattle.cell_units.proofs.Characters.{clean-utf8}
-use Rattle.inlay_map.specs.Maps.{InlayState}
-use Rattle.shifted_lists.specs.Leads.{reach_of}
+use Rattle.cell_units.specs.Text.{clean}
+use Rattle.shifted_lists.specs.Leads.{Reach, reach_of}
 use Rattle.folded_text.proofs.Texts.{is-replaced}
+use Rattle.folded_text.specs.Shown.{IsShown}
 use Rattle.folded_text.proofs.text.FoldedText.replace.Goals as goal
 
-pub show-requires-clause-text : goal.show-requires-clause-text
-show-requires-clause-text c =
+pub follow-requires : goal.follow-requires
+follow-requires c =
+    let made = c.in_ok-rope.ensures in
+    is-replaced c.args.self.now.rope c.in_ok-rope.rope (clean c.args.text.now) c.args.start c.args.end (reach_of c.in_ok-rope.shift)
+    (clean-utf8 c.args.text.now c.utf8.text) made.range made.text made.shift
+
+pub returns-clause-shown : goal.returns-clause-shown
+returns-clause-shown c =
     let m = c.args.self.now in
-    let made = c.in_ok-replace.ensures.cases in
-    let shift = c.new-shift.ensures in
-    is-replaced c.in_ok-inlays.inlays.current.text c.in_ok-rope.rope c.replace.new.self c.in_ok-next.next (clean c.args.text.now) c.args.start c.args.end
-    c.len-bytes.result c.len.result (reach_of c.new-shift.result)
-    (ap (λ (s : InlayState). s.current.text) c.in_ok-inlays.ensures ∙ m.belong.text ∙ sym c.in_ok-rope.ensures)
-    c.in_ok-next.ensures (clean-utf8 c.args.text.now c.utf8.text) made.range made.text
-    (c.len-bytes.ensures.value ∙ ap (λ (t : List ℕ). length t) (sym c.in_ok-rope.ensures)) c.len.ensures.value
-    shift.start shift.end shift.count
+    let made = c.in_ok-follow.field-0 in
+    let e = c.in_ok-follow.ensures in
+    let text = e.text in
+    let put = c.in_ok-rope.ensures.shift in
+    subst (λ (p : List ℕ × Reach). IsShown p.0 (Some p.1) m.inlays m.folds made.0 (option_map reach_of made.1)) (λ i. (sym text i, put i)) e.shown
