@@ -34,6 +34,11 @@ impl History {
         })
     }
 
+    /// Takes so many turns, and lets both go. It gives the first after which they don't agree.
+    fn difference(mut self, turns: u32) -> Result<Option<u32>, NoMemory> {
+        self.first_difference(turns)
+    }
+
     /// Takes so many turns. It gives the first after which the two don't agree.
     fn first_difference(&mut self, turns: u32) -> Result<Option<u32>, NoMemory> {
         for turn in 0..turns {
@@ -158,8 +163,8 @@ impl History {
 
 /// Takes so many turns over an empty text. It gives the first after which the maps and the lists don't agree.
 fn differ_at(alloc: Global, seed: u64, turns: u32) -> Result<Option<u32>, Fail> {
-    let mut history = History::new(alloc, seed)?;
-    Ok(history.first_difference(turns)?)
+    let history = History::new(alloc, seed)?;
+    Ok(history.difference(turns)?)
 }
 
 /// After each of 2,000 random changes in four histories, refused ones among them, the maps agree with the text that is written out.

@@ -44,8 +44,8 @@ pub(crate) enum Step<'a> {
 
 /// Takes the steps one by one over a text without inlays and folds. It gives their answers, with `; ` between them.
 pub(crate) fn play(alloc: Global, text: &str, steps: &[Step]) -> Result<String, Fail> {
-    let mut laid = Laid::new(alloc, text)?;
-    Ok(laid.take(steps)?)
+    let laid = Laid::new(alloc, text)?;
+    Ok(laid.take_all(steps)?)
 }
 
 /// The same, and then other steps over an equal text with equal maps, and others again over the first ones. It gives the answers
@@ -57,8 +57,8 @@ pub(crate) fn play_apart(
     apart: &[Step],
     behind: &[Step],
 ) -> Result<String, Fail> {
-    let mut laid = Laid::new(alloc, text)?;
-    Ok(laid.take_apart(before, apart, behind)?)
+    let laid = Laid::new(alloc, text)?;
+    Ok(laid.take_all_apart(before, apart, behind)?)
 }
 
 /// So many times one text.
@@ -84,10 +84,14 @@ impl Laid {
         Ok(all)
     }
 
+    /// The same, and lets it go. Who calls it has no `Laid` to let go, which takes the prover minutes.
+    fn take_all(mut self, steps: &[Step]) -> Result<String, NoMemory> {
+        self.take(steps)
+    }
+
     /// Takes the steps over an equal one.
     fn take_shared(&self, steps: &[Step]) -> Result<String, NoMemory> {
-        let mut shared = self.share()?;
-        shared.take(steps)
+        self.share()?.take_all(steps)
     }
 
     /// Takes the first steps, the second ones over an equal one, and then the third.
@@ -103,6 +107,16 @@ impl Laid {
         all.push_str(" / ")?;
         all.push_str(told.as_str())?;
         Ok(all)
+    }
+
+    /// The same, and lets it go.
+    fn take_all_apart(
+        mut self,
+        before: &[Step],
+        apart: &[Step],
+        behind: &[Step],
+    ) -> Result<String, NoMemory> {
+        self.take_apart(before, apart, behind)
     }
 
     /// The answer to a step.
