@@ -1,5 +1,5 @@
 -- Blocks of a layer after one was added or taken out.
-use Rattle.std.proofs.Common.{◌≡◌, ℕ, ◌+◌, ◌<◌, ◌≤◌, Bool, true, false, Result, Ok, Err, OnErr, OnOk, cond, not, nat_le, nat_lt, ◌&&◌, List, [], length, Option, None, Some, refl, sym, ap, subst, ◌∙◌, arith}
+use Rattle.std.proofs.Common.{◌≡◌, ℕ, ◌≤◌, Bool, true, false, Result, Ok, Err, OnErr, OnOk, cond, not, nat_le, nat_lt, ◌&&◌, List, length, Option, None, Some, refl, sym, subst, arith}
 use Rattle.std.specs.Prelude.{◌==◌}
 use Rattle.std.specs.List.{All, list_any}
 use Rattle.std.specs.Str.{IsUtf8}
@@ -7,19 +7,19 @@ use Rattle.std.proofs.lemmas.Bool.{and_parts, leb-true}
 use Rattle.std.proofs.lemmas.List.Elements.{All-filter, All-nil}
 use Rattle.cell_units.specs.declared.fault.Refusal.{Refusal}
 use Rattle.cell_units.specs.declared.fault.Refusal.TheVariants.{BadRange, IdInUse}
-use Rattle.cell_units.specs.declared.limits.TheConstants.{BLOCK_LINES_LIMIT, ENTRY_LIMIT}
+use Rattle.cell_units.specs.declared.limits.TheConstants.{BLOCK_LINES_LIMIT}
 use Rattle.cell_units.specs.declared.place.Side.{Side}
 use Rattle.cell_units.specs.declared.place.Side.TheVariants.{Above, Below}
 use Rattle.cell_units.specs.Layers.{Source}
 use Rattle.cell_units.specs.Sorting.{insert_by}
-use Rattle.cell_units.specs.Text.{IsBoundary, is_boundary}
+use Rattle.cell_units.specs.Text.{is_boundary}
 use Rattle.cell_units.proofs.FoundEntries.{All-from_Every, Every-from_All}
 use Rattle.cell_units.proofs.SortedLists.{Every-insert}
 use Rattle.cell_units.proofs.TextLaws.{tells_boundaries}
 use Rattle.mark_tree.proofs.Sorting.{length-insert}
 use Rattle.unicode_segmentation.proofs.SegmentsLemmas.{length-filter-le}
-use Rattle.block_map.specs.Maps.{BlockState, Kept, add_refusal, added, are_block_lines, fresh, has_block, is_line_end, kept_le, removed, state_of, without}
-use Rattle.block_map.proofs.BlockRefusals.{IsAccepted, accepted}
+use Rattle.block_map.specs.Maps.{BlockState, Kept, add_refusal, added, are_block_lines, fresh, has_block, is_line_end, kept_le, removed, state_of}
+use Rattle.block_map.proofs.BlockRefusals.{accepted}
 use Rattle.blocked_text.specs.Standing.{IsBlockOf, StandsOn}
 
 abbrev Lines : Type 0

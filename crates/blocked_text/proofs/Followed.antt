@@ -1,5 +1,5 @@
 -- Rows that follow what was shown: as they were, after a replacement of the text, and when a run of lines landed.
-use Rattle.std.proofs.Common.{◌≡◌, ℕ, ◌+◌, ◌-◌, ◌<◌, ◌≤◌, ◌^◌, false, List, [], ◌∷◌, length, map, Option, None, Some, refl, sym, ap, subst, ◌∙◌, arith, inl, inr}
+use Rattle.std.proofs.Common.{◌≡◌, ℕ, ◌+◌, ◌-◌, ◌<◌, ◌≤◌, ◌^◌, false, List, [], ◌∷◌, length, map, None, Some, refl, sym, ap, subst, ◌∙◌, arith, inl, inr}
 use Rattle.std.specs.List.{All}
 use Rattle.std.specs.Str.{IsUtf8}
 use Rattle.std.proofs.lemmas.Bool.{cases_lt}
@@ -13,7 +13,7 @@ use Rattle.cell_units.specs.declared.place.Side.TheVariants.{Above, Below}
 use Rattle.cell_units.specs.Lawful.{IsWellFormed}
 use Rattle.cell_units.specs.Layers.{Source, place_of, plain_source, shown_lines}
 use Rattle.cell_units.specs.Operation.{replaced_text}
-use Rattle.cell_units.specs.Rows.{HaveRows, all_rows, line_rows, rows_before}
+use Rattle.cell_units.specs.Rows.{HaveRows, all_rows, rows_before}
 use Rattle.cell_units.specs.Text.{IsBoundary, row_end, row_of, row_start}
 use Rattle.cell_units.proofs.CutLists.{Every}
 use Rattle.cell_units.proofs.FoundEntries.{All-from_Every, Every-from_All}
@@ -34,7 +34,7 @@ use Rattle.wrap_map.specs.Standing.{Standing, shown_rows, standing_after}
 use Rattle.wrap_map.proofs.Carried.{length-marks_landed}
 use Rattle.wrap_map.proofs.Landed.{length-shown}
 use Rattle.wrap_map.proofs.Snapshots.{shown-have-rows}
-use Rattle.block_map.specs.Follows.{Follows, GoesTo, IsFollowed, KeepsLine}
+use Rattle.block_map.specs.Follows.{Follows, GoesTo, IsFollowed}
 use Rattle.block_map.specs.Maps.{BlockState, Kept, kept_le, line_of_kept, moved_kept, move_kept, row_at_line}
 use Rattle.blocked_text.specs.Standing.{IsBlockOf, StandsOn}
 use Rattle.blocked_text.proofs.Kept.{rows-fit}

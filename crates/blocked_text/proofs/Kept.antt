@@ -1,8 +1,8 @@
 -- What a sync leaves of blocks that stand on a layer.
-use Rattle.std.proofs.Common.{◌≡◌, ℕ, ◌+◌, ◌*◌, ◌<◌, ◌≤◌, ◌^◌, List, [], ◌∷◌, length, map, Option, None, Some, refl, sym, ap, subst, ◌∙◌, arith}
+use Rattle.std.proofs.Common.{◌≡◌, ℕ, ◌+◌, ◌*◌, ◌<◌, ◌≤◌, ◌^◌, List, [], ◌∷◌, length, map, Option, None, Some, refl, ◌∙◌, arith}
 use Rattle.std.specs.List.{All}
 use Rattle.std.proofs.lemmas.List.Sums.{sum_by-cons}
-use Rattle.cell_units.specs.declared.limits.TheConstants.{BLOCK_LINES_LIMIT, ENTRY_LIMIT}
+use Rattle.cell_units.specs.declared.limits.TheConstants.{BLOCK_LINES_LIMIT}
 use Rattle.cell_units.specs.declared.place.Shift.{Shift}
 use Rattle.cell_units.specs.declared.place.Side.{Side}
 use Rattle.cell_units.specs.declared.place.Side.TheVariants.{Above, Below}
@@ -14,7 +14,7 @@ use Rattle.cell_units.proofs.SortedLists.{Every-map, Every-sort}
 use Rattle.mark_tree.proofs.Moved.{length-map}
 use Rattle.mark_tree.proofs.Sorting.{length-sort}
 use Rattle.block_map.specs.Follows.{block_height}
-use Rattle.block_map.specs.Maps.{BlockState, Kept, kept_le, moved_kept, move_kept, placed, row_of_kept, synced}
+use Rattle.block_map.specs.Maps.{BlockState, Kept, kept_le, moved_kept, move_kept, placed, synced}
 use Rattle.blocked_text.specs.Standing.{IsBlockOf, StandsOn}
 
 -- blocks are no fewer after a replacement

@@ -1,9 +1,9 @@
 -- Which lines keep their rows when a run of lines lands.
-use Rattle.std.proofs.Common.{◌≡◌, ℕ, ◌+◌, ◌-◌, ◌<◌, ◌≤◌, Bool, true, false, cond, List, [], length, take, Some, None, refl, sym, ap, subst, ◌∙◌, arith, inl, inr}
+use Rattle.std.proofs.Common.{◌≡◌, ℕ, ◌+◌, ◌-◌, ◌<◌, Bool, true, false, cond, List, [], length, Some, None, refl, sym, ap, subst, ◌∙◌, arith, inl, inr}
 use Rattle.std.proofs.lemmas.Bool.{cases_lt, cases_order}
 use Rattle.std.proofs.lemmas.List.{take_all}
 use Rattle.cell_line.specs.declared.lines.Run.{Run}
-use Rattle.cell_units.specs.Rows.{HaveRows, all_rows, line_rows, rows_before}
+use Rattle.cell_units.specs.Rows.{all_rows, line_rows, rows_before}
 use Rattle.edit_patch.specs.declared.edit.Edit.{Edit}
 use Rattle.edit_patch.specs.Came.{Came, IsReplaced, origin_of}
 use Rattle.edit_patch.proofs.Correspondence.{corresponds}

@@ -1,8 +1,8 @@
 -- The rows of lines after some of them were replaced.
-use Rattle.std.proofs.Common.{◌≡◌, ℕ, ◌+◌, ◌-◌, ◌<◌, ◌≤◌, List, [], ◌∷◌, ◌++◌, length, map, take, drop, replicate, refl, sym, ap, subst, ◌∙◌, append_assoc, length-append, arith, Some}
+use Rattle.std.proofs.Common.{◌≡◌, ℕ, ◌+◌, ◌≤◌, List, ◌++◌, length, map, take, drop, replicate, sym, ap, subst, ◌∙◌, append_assoc, length-append, arith, Some}
 use Rattle.std.specs.List.{zip}
 use Rattle.std.proofs.lemmas.Grind.{flat_map-append}
-use Rattle.std.proofs.lemmas.List.{drop_at, length-drop, length-replicate, length-take-le, take_at}
+use Rattle.std.proofs.lemmas.List.{drop_at, length-replicate, length-take-le, take_at}
 use Rattle.cell_line.specs.declared.element.Element.{Element}
 use Rattle.cell_units.specs.declared.place.Shift.{Shift}
 use Rattle.cell_units.specs.Rows.{all_rows, rows_before}

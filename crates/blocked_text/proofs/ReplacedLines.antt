@@ -1,16 +1,14 @@
 -- Lines of rows of which some were replaced, each by one of one row, and the edit of rows that says so.
-use Rattle.std.proofs.Common.{◌≡◌, ℕ, ◌+◌, ◌-◌, ◌<◌, ◌≤◌, ◌||◌, Bool, true, false, List, [], ◌∷◌, ◌++◌, None, Some, length, take, drop, get_or, refl, sym, ap, subst, ◌∙◌, arith, inl, inr, length-append, append_assoc}
+use Rattle.std.proofs.Common.{◌≡◌, ℕ, ◌+◌, ◌-◌, ◌<◌, ◌≤◌, ◌||◌, Bool, true, false, List, [], ◌∷◌, None, Some, length, take, drop, get_or, refl, sym, ap, subst, ◌∙◌, arith, inl, inr, length-append}
 use Rattle.std.specs.Prelude.{nat_lt, if◌then◌else◌}
 use Rattle.std.proofs.Math.Seq.{take-add}
 use Rattle.std.proofs.lemmas.Bool.{cases_lt, lt-ltb, le-ltb}
 use Rattle.std.proofs.lemmas.Grind.{flat_map-append}
-use Rattle.std.proofs.lemmas.List.{drop_at, get_or-drop, get_or-take, length-drop, length-take-le, take-take, take_at}
-use Rattle.cell_units.specs.Rows.{HaveRows, all_rows, line_rows, rows_before}
-use Rattle.edit_patch.specs.declared.edit.Edit.{Edit}
+use Rattle.std.proofs.lemmas.List.{get_or-drop, get_or-take, length-drop, take-take}
+use Rattle.cell_units.specs.Rows.{all_rows, line_rows, rows_before}
 use Rattle.edit_patch.specs.Came.{Came, IsReplaced, edit_of, origin_of}
 use Rattle.edit_patch.specs.Fits.{replacement}
 use Rattle.shifted_lists.specs.Leads.{LeadsAt}
-use Rattle.block_map.proofs.LineStarts.{rows_before-next, rows_before-rises}
 
 abbrev Lines : Type 0
 Lines = List (List (List ℕ))

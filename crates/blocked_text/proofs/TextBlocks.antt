@@ -1,25 +1,23 @@
 -- Blocks of a text stand at the lines of their rows, and follow these when rows are replaced.
-use Rattle.std.proofs.Common.{◌≡◌, ℕ, ◌+◌, ◌-◌, ◌<◌, ◌≤◌, Bool, false, List, [], ◌∷◌, length, Option, None, Some, refl, sym, ap, subst, ◌∙◌, arith, inl, inr}
+use Rattle.std.proofs.Common.{◌≡◌, ℕ, ◌+◌, ◌-◌, ◌<◌, ◌≤◌, List, [], length, Some, sym, ap, subst, ◌∙◌, arith, inl, inr}
 use Rattle.std.specs.List.{count_by}
-use Rattle.std.specs.Prelude.{◌==◌, ◌&&◌, nat_le, if◌then◌else◌}
-use Rattle.std.proofs.lemmas.Bool.{cases_lt, cases_order, le-ltb, lt-leb, lt-ltb, ne_eqb}
+use Rattle.std.proofs.lemmas.Bool.{cases_lt, cases_order}
 use Rattle.cell_units.specs.Anchor.{move}
 use Rattle.cell_units.specs.declared.place.Bias.TheVariants.{Left, Right}
-use Rattle.cell_units.specs.declared.place.Shift.{Shift}
 use Rattle.cell_units.specs.declared.place.Side.{Side}
 use Rattle.cell_units.specs.declared.place.Side.TheVariants.{Above, Below}
-use Rattle.cell_units.specs.Layers.{Source, plain_source}
+use Rattle.cell_units.specs.Layers.{plain_source}
 use Rattle.cell_units.specs.Operation.{replaced_text}
-use Rattle.cell_units.specs.Rows.{HaveRows, all_rows, line_rows, rows_before}
-use Rattle.cell_units.specs.Text.{IsBoundary, is_feed, row_end, row_of, row_start}
+use Rattle.cell_units.specs.Rows.{HaveRows, line_rows, rows_before}
+use Rattle.cell_units.specs.Text.{is_feed, row_end, row_of, row_start}
 use Rattle.cell_units.proofs.Moves.{move-above, move-below}
 use Rattle.cell_units.proofs.ReplacedRows.{row_of-le, take-replaced_text}
 use Rattle.edit_patch.specs.declared.edit.Edit.{Edit}
-use Rattle.edit_patch.specs.Came.{Came, IsReplaced}
+use Rattle.edit_patch.specs.Came.{Came}
 use Rattle.edit_patch.specs.Fits.{replacement}
 use Rattle.shifted_lists.specs.Leads.{LeadsAt}
 use Rattle.block_map.specs.Follows.{GoesTo, KeepsLine}
-use Rattle.block_map.specs.Maps.{Kept, line_of_kept, move_kept, row_at_line, row_of_kept}
+use Rattle.block_map.specs.Maps.{Kept, line_of_kept, row_at_line}
 use Rattle.blocked_text.specs.Standing.{IsBlockOf}
 use Rattle.block_map.proofs.BlockRows.{starts-apart}
 use Rattle.block_map.proofs.LineStarts.{rows_before-next, rows_before-rises}

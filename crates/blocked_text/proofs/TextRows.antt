@@ -1,12 +1,12 @@
 -- The lines of a text by itself are its rows, and where a replacement of the text moves them.
-use Rattle.std.proofs.Common.{◌≡◌, ℕ, ◌+◌, ◌-◌, ◌<◌, ◌≤◌, List, [], ◌∷◌, ◌++◌, length, take, drop, cond, refl, sym, ap, ◌∙◌, append_assoc, append-nil, length-append, arith}
+use Rattle.std.proofs.Common.{◌≡◌, ℕ, ◌+◌, ◌-◌, ◌≤◌, List, [], ◌∷◌, ◌++◌, length, take, drop, cond, refl, sym, ap, ◌∙◌, append_assoc, append-nil, length-append, arith}
 use Rattle.std.specs.List.{count_by}
 use Rattle.std.proofs.Math.Seq.{take-add, take-append-add}
 use Rattle.std.proofs.lemmas.List.{length-take-le}
 use Rattle.cell_units.specs.declared.place.Bias.{Bias}
 use Rattle.cell_units.specs.declared.place.Bias.TheVariants.{Left, Right}
 use Rattle.cell_units.specs.Folded.{line_of, shown}
-use Rattle.cell_units.specs.Inlaid.{Byte, Token, is_break, show_each}
+use Rattle.cell_units.specs.Inlaid.{Byte, is_break, show_each}
 use Rattle.cell_units.specs.Operation.{replaced_text}
 use Rattle.cell_units.specs.Text.{is_feed, row_end, row_of, row_start}
 use Rattle.cell_units.proofs.BufferLines.{feeds-append, feeds-cons, row_of_end, row_of_start}

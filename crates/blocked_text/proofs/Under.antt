@@ -1,5 +1,5 @@
 -- What a block map over a text under a tab map and a wrap map is owed by what these answer, and where it stands then.
-use Rattle.std.proofs.Common.{◌≡◌, ◌≢◌, ℕ, ◌+◌, ◌-◌, ◌<◌, ◌≤◌, ◌^◌, List, [], ◌++◌, length, map, take, drop, replicate, Option, None, Some, refl, sym, ap, subst, ◌∙◌, arith, inl, inr, length-append, length-drop}
+use Rattle.std.proofs.Common.{◌≡◌, ◌≢◌, ℕ, ◌+◌, ◌-◌, ◌<◌, ◌≤◌, ◌^◌, List, [], ◌++◌, length, take, drop, replicate, Option, None, Some, sym, ap, subst, ◌∙◌, arith, inl, inr, length-append, length-drop}
 use Rattle.std.specs.List.{sum_by}
 use Rattle.std.specs.Prelude.{IfSome}
 use Rattle.std.specs.Str.{IsUtf8}
@@ -22,8 +22,8 @@ use Rattle.shifted_lists.specs.Leads.{LeadsAt, LeadsBy}
 use Rattle.tab_map.specs.TabLines.{lines_at}
 use Rattle.tab_map.proofs.PlainTexts.{plain-few}
 use Rattle.text_rope.specs.Edits.{IsRange}
-use Rattle.wrap_map.specs.Landing.{IsLanded, IsPatchOfLanded, marks_landed, standing_landed}
-use Rattle.wrap_map.specs.Standing.{AreReplaced, IsSynced, Standing, Wrapped, all_at, shown_rows, standing_after}
+use Rattle.wrap_map.specs.Landing.{IsLanded, IsPatchOfLanded, standing_landed}
+use Rattle.wrap_map.specs.Standing.{IsSynced, Standing, Wrapped, shown_rows, standing_after}
 use Rattle.wrap_map.proofs.Carried.{length-marks_landed}
 use Rattle.wrap_map.proofs.Landed.{length-shown}
 use Rattle.wrap_map.proofs.Rooms.{rows-few}
@@ -33,7 +33,7 @@ use Rattle.wrapped_text.specs.Shown.{AreLinesMet, patch_of}
 use Rattle.wrapped_text.proofs.Follows.{leads-fit_if}
 use Rattle.block_map.specs.Follows.{IsFollowed}
 use Rattle.block_map.specs.Maps.{BlockState, synced}
-use Rattle.blocked_text.specs.Standing.{StandsOn, StandsUnder}
+use Rattle.blocked_text.specs.Standing.{StandsUnder}
 use Rattle.blocked_text.proofs.Followed.{followed-landed, followed-replaced, followed-same}
 use Rattle.blocked_text.proofs.Kept.{stands-synced}
 

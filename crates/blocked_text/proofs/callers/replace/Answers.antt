@@ -13,7 +13,7 @@ use Rattle.wrap_map.specs.Standing.{Standing, Wrapped, shown_rows, standing_afte
 use Rattle.wrapped_text.specs.Shown.{lines_of, patch_of}
 use Rattle.block_map.specs.Follows.{IsFollowed}
 use Rattle.block_map.specs.Maps.{BlockState, IsShown, synced}
-use Rattle.blocked_text.specs.Standing.{IsShownAfter, StandsUnder}
+use Rattle.blocked_text.specs.Standing.{StandsUnder}
 use Rattle.blocked_text.proofs.Under.{IsTabbed, count-told, follows-replaced, marks-synced, rows-small, told-small, under-synced}
 use Rattle.blocked_text.proofs.callers.replace.Goals as goal
 use Rattle.blocked_text.proofs.callers.replace.Goals.{After-new-shift}
