@@ -14,7 +14,7 @@ use Rattle.mark_tree.proofs.Order.{in_order-below, in_order-cases, in_order-same
 use Rattle.mark_tree.proofs.Sorting.{Every, IsSorted, every-sort}
 
 -- an offset that isn't met stands before the replaced bytes or behind them
-unmet-cases : (a b o : ℕ) → (nat_le a o && nat_le o b) ≡ false → (o < a) ⊎ (b < o)
+pub unmet-cases : (a b o : ℕ) → (nat_le a o && nat_le o b) ≡ false → (o < a) ⊎ (b < o)
 unmet-cases a b o e = elim (cases_lt o a) [
   | inl lt ↦ inl lt
   | inr ge ↦ elim (cases_lt b o) [

@@ -1,12 +1,14 @@
 -- One side after a `sync`: what each call of it asks, and what it makes.
-use Rattle.std.proofs.Common.{◌≡◌, ℕ, ◌^◌, ◌<◌, ◌≤◌, not, cond, List, [], ◌∷◌, Option, Some, None, length, map, filter, refl, sym, ap, subst, ◌∙◌, arith, inl, inr}
+use Rattle.std.proofs.Common.{◌≡◌, ℕ, ◌-◌, ◌^◌, ◌<◌, ◌≤◌, false, get_or, not, cond, List, [], ◌∷◌, Option, Some, None, length, map, filter, refl, sym, ap, subst, ◌∙◌, arith, inl, inr}
 use Rattle.std.specs.List.{All}
 use Rattle.std.specs.Option.{is_some}
 use Rattle.std.proofs.lemmas.List.{length-map}
+use Rattle.std.proofs.lemmas.List.Elements.{All-head, All-tail}
 use Rattle.cell_units.specs.declared.limits.TheConstants.{ENTRY_LIMIT}
 use Rattle.cell_units.specs.declared.place.Bias.TheVariants.{Right}
 use Rattle.cell_units.specs.declared.place.Shift.{Shift}
 use Rattle.cell_units.specs.declared.place.Side.{Side}
+use Rattle.cell_units.specs.Anchor.{move}
 use Rattle.cell_units.specs.Lawful.{AreBlockLines}
 use Rattle.cell_units.specs.Layers.{Source}
 use Rattle.cell_units.specs.Rows.{HaveRows}
@@ -15,20 +17,23 @@ use Rattle.cell_units.specs.Text.{IsBoundary}
 use Rattle.edit_patch.specs.declared.edit.Edit.{Edit}
 use Rattle.edit_patch.specs.Patch.{IsPatch}
 use Rattle.mark_tree.specs.declared.mark.Mark.{Mark}
-use Rattle.mark_tree.specs.Marks.{IsMarkList, mark_le, move_mark}
+use Rattle.mark_tree.specs.Marks.{IsMarkList, is_met, mark_le, move_mark}
 use Rattle.mark_tree.proofs.Changing.{all-from_every, every-from_all}
+use Rattle.mark_tree.proofs.Moved.{move-before, move-behind}
 use Rattle.mark_tree.proofs.Sorting.{Every, Member, every-member, every-sort, every-weaker, length-sort, sort-member}
 use Rattle.sum_core.specs.declared.load.NoLoad.{NoLoad}
 use Rattle.block_map.specs.Maps.{Kept, moved_kept, placed, stop_of}
 use Rattle.block_map.specs.Stops.{Stop}
 use Rattle.block_map.specs.inside.RowMoves.{IsKeptStop, MayBeMoved, carried}
-use Rattle.block_map.specs.inside.SideMoves.{IsSideFollowed, LeaveCarried, MayStand, bias_of, marks_after, stop_of_mark, stops_of_marks}
+use Rattle.block_map.specs.inside.SideMoves.{IsSideFollowed, IsUnmet, LeaveCarried, MayStand, bias_of, marks_after, stop_of_mark, stops_of_marks}
 use Rattle.block_map.specs.inside.Sides.{ArePaired, BlockMark, IsSide, anchor_of, is_unshown, kept, kept_of, shown_at, unshown_anchors}
 use Rattle.block_map.specs.inside.StopLists.{AreRising, StopsFit}
 use Rattle.block_map.specs.inside.Without.{IsRising, without}
 use Rattle.block_map.proofs.AnewPlaces.{in-order}
+use Rattle.block_map.proofs.MovedMarks.{unmet-cases}
 use Rattle.block_map.proofs.PairedSides.{mark_of_kept}
 use Rattle.block_map.proofs.SideStops.{all-carried, all-kept, heights-after, heights-kept, marks-kept, shown-row, stops-fit, stops-rise}
+use Rattle.block_map.proofs.StopLoops.{got}
 use Rattle.block_map.proofs.StopSizes.{fit-left, rise-left}
 
 -- a mark goes to the right, and its lines are lawful
@@ -67,6 +72,31 @@ moved-offsets s ms all =
       each : (ns : List BlockMark) → ((m : BlockMark) → Member m ns → m.offset < 2 ^ 32) → Every (λ (m : BlockMark). m.offset < 2 ^ 32) ns
       each [] f = tt
       each (n ∷ ns) f = (f n (inl refl), each ns (λ m in'. f m (inr in')))
+
+-- where no stop is made anew, no mark is met
+pub all-unmet : (shift : Option Shift) (es : List Edit) (old : List (List (List ℕ))) (side : Side) (ms : List BlockMark) (ss : List Stop) → length ss ≡ length ms
+    → LeaveCarried shift es old side ms ss [] → All (IsUnmet shift) ms
+all-unmet shift es old side ms ss same leave k d lt =
+    let s : Stop = record { row = 0; lines = [] } in
+    elim (leave k (get_or ms k d) (get_or ss k s) (got ms k d lt) (got ss k s (omega (arith, lt, same)))) [
+      | inl at ↦ absurd (omega (arith, at.1))
+      | inr may ↦ may.unmet
+    ]
+
+-- and by a replacement that keeps the length they stay
+pub marks-stay : (s : Shift) (ms : List BlockMark) → sort_by mark_le ms ≡ ms → s.count ≡ s.end - s.start → All (IsUnmet (Some s)) ms → marks_after (Some s) ms ≡ ms
+marks-stay s ms sorted even all = ap (sort_by mark_le) (each ms all) ∙ sorted where
+  one : (m : BlockMark) → is_met s m ≡ false → move_mark s m ≡ m
+  one m unmet = elim (unmet-cases s.start s.end m.offset unmet) [
+    | inl lt ↦ let e = move-before m.offset m.bias s.start s.end s.count lt in (λ i. record { offset = e i; bias = m.bias; id = m.id; load = m.load })
+    | inr gt ↦
+        let e : move m.offset m.bias s.start s.end s.count ≡ m.offset = move-behind m.offset m.bias s.start s.end s.count s.ordered gt ∙ omega (arith, even, gt, s.ordered) in
+        (λ i. record { offset = e i; bias = m.bias; id = m.id; load = m.load })
+  ]
+
+  each : (ms : List BlockMark) → All (IsUnmet (Some s)) ms → map (move_mark s) ms ≡ ms
+  each [] all = refl
+  each (m ∷ ms) all = λ i. one m (All-head (IsUnmet (Some s)) m ms all) i ∷ each ms (All-tail (IsUnmet (Some s)) m ms all) i
 
 -- the marks of moved blocks stand where these do
 pub anchors-after : (source : Source) (shift : Option Shift) (ms : List BlockMark) (ss : List Stop) → ArePaired ms ss → All (λ k. IsBoundary source.text k.offset) (moved_kept shift (kept_of ms ss))

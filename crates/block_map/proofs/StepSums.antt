@@ -23,31 +23,31 @@ gathered-first h anchors edits a b first = omega (arith, first)
 pub gathered-second : (h anchors edits a b c : ℕ) → b ≤ a + 2 * (h + 1) → c ≤ b + anchors * (35 * (h + 1)) → c ≤ a + (35 * anchors + 2 * edits + 2) * (h + 1)
 gathered-second h anchors edits a b c first second = omega (arith, first, second)
 
--- the marks are moved
-pub side-first : (h anew met edits a b : ℕ) → met ≤ anew → b ≤ a + 170 * (h + 1) * (met + 1) → b ≤ a + (546 * anew + 342 * edits + 172) * (h + 1)
-side-first h anew met edits a b m first = omega (arith, first, mul-le-mul_right (h + 1) m)
-
 -- places are gathered
-pub side-second : (h anew met anchors edits a b c : ℕ) → met ≤ anew → anchors ≤ anew → b ≤ a + 170 * (h + 1) * (met + 1) → c ≤ b + (35 * anchors + 2 * edits + 2) * (h + 1)
+pub side-first : (h anew anchors edits a b : ℕ) → anchors ≤ anew → b ≤ a + (35 * anchors + 2 * edits + 2) * (h + 1) → b ≤ a + (546 * anew + 342 * edits + 172) * (h + 1)
+side-first h anew anchors edits a b n first = omega (arith, first, mul-le-mul_right (h + 1) n)
+
+-- the marks are moved
+pub side-second : (h anew met anchors edits a b c : ℕ) → met ≤ anew → anchors ≤ anew → b ≤ a + (35 * anchors + 2 * edits + 2) * (h + 1) → c ≤ b + 170 * (h + 1) * (met + 1)
     → c ≤ a + (546 * anew + 342 * edits + 172) * (h + 1)
 side-second h anew met anchors edits a b c m n first second = omega (arith, first, second, mul-le-mul_right (h + 1) m, mul-le-mul_right (h + 1) n)
 
 -- stops are taken out
 pub side-third : (h anew met anchors places edits a b c d : ℕ) → met ≤ anew → anchors ≤ anew → places ≤ anew
-    → b ≤ a + 170 * (h + 1) * (met + 1) → c ≤ b + (35 * anchors + 2 * edits + 2) * (h + 1) → d ≤ c + places * (170 * (h + 1)) → d ≤ a + (546 * anew + 342 * edits + 172) * (h + 1)
+    → b ≤ a + (35 * anchors + 2 * edits + 2) * (h + 1) → c ≤ b + 170 * (h + 1) * (met + 1) → d ≤ c + places * (170 * (h + 1)) → d ≤ a + (546 * anew + 342 * edits + 172) * (h + 1)
 side-third h anew met anchors places edits a b c d m n p first second third =
     omega (arith, first, second, third, mul-le-mul_right (h + 1) m, mul-le-mul_right (h + 1) n, mul-le-mul_right (h + 1) p)
 
 -- the others are carried
 pub side-fourth : (h anew met anchors places edits a b c d e : ℕ) → met ≤ anew → anchors ≤ anew → places ≤ anew
-    → b ≤ a + 170 * (h + 1) * (met + 1) → c ≤ b + (35 * anchors + 2 * edits + 2) * (h + 1) → d ≤ c + places * (170 * (h + 1)) → e ≤ d + 2 * edits * (170 * (h + 1))
+    → b ≤ a + (35 * anchors + 2 * edits + 2) * (h + 1) → c ≤ b + 170 * (h + 1) * (met + 1) → d ≤ c + places * (170 * (h + 1)) → e ≤ d + 2 * edits * (170 * (h + 1))
     → e ≤ a + (546 * anew + 342 * edits + 172) * (h + 1)
 side-fourth h anew met anchors places edits a b c d e m n p first second third fourth =
     omega (arith, first, second, third, fourth, mul-le-mul_right (h + 1) m, mul-le-mul_right (h + 1) n, mul-le-mul_right (h + 1) p)
 
 -- and those that were taken out are put in
 pub side-steps : (h anew met anchors places edits a b c d e f : ℕ) → met ≤ anew → anchors ≤ anew → places ≤ anew
-    → b ≤ a + 170 * (h + 1) * (met + 1) → c ≤ b + (35 * anchors + 2 * edits + 2) * (h + 1) → d ≤ c + places * (170 * (h + 1)) → e ≤ d + 2 * edits * (170 * (h + 1)) → f ≤ e + places * (171 * (h + 1))
+    → b ≤ a + (35 * anchors + 2 * edits + 2) * (h + 1) → c ≤ b + 170 * (h + 1) * (met + 1) → d ≤ c + places * (170 * (h + 1)) → e ≤ d + 2 * edits * (170 * (h + 1)) → f ≤ e + places * (171 * (h + 1))
     → f ≤ a + (546 * anew + 342 * edits + 172) * (h + 1)
 side-steps h anew met anchors places edits a b c d e f m n p first second third fourth fifth =
     omega (arith, first, second, third, fourth, fifth, mul-le-mul_right (h + 1) m, mul-le-mul_right (h + 1) n, mul-le-mul_right (h + 1) p)

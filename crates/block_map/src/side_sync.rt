@@ -1,11 +1,11 @@
 //! The blocks of one side after a replacement of the text and edits of rows.
-ghost use Rattle.std.specs.Prelude.{◌≡◌, ◌^◌, ◌<◌, ◌≤◌, length, map, IfOk};
+ghost use Rattle.std.specs.Prelude.{◌≡◌, ◌^◌, ◌<◌, ◌≤◌, [], length, map, IfOk};
 ghost use Rattle.std.specs.List.{All};
 ghost use Rattle.mark_tree.specs.Bounds.{moving};
 ghost use Rattle.sum_tree.specs.Bounds.{TakesAtMost};
 ghost use Rattle.block_map.specs.Carried.{SyncsSideAtMost};
 ghost use Rattle.block_map.specs.Maps.{moved_kept, placed};
-ghost use Rattle.block_map.specs.inside.SideMoves.{IsSideFollowed, bias_of, marks_after, met_count};
+ghost use Rattle.block_map.specs.inside.SideMoves.{IsSideFollowed, IsUnmet, bias_of, marks_after, met_count};
 
 use crate::anew::places_anew;
 use crate::block_lines::BlockLines;
@@ -25,14 +25,17 @@ fn bias_of(side: Side) -> Bias
     }
 }
 
-/// The marks after a replacement, if there was one.
+/// The marks after a replacement, if there was one. `places` are those of the stops that are made anew: where there is none, no mark
+/// is met, and a replacement that keeps the length of the text moves none.
 fn marks_after(
     alloc: Global,
     marks: &MarkTree<BlockLines>,
+    places: &[u32],
     shift: Option<Shift>,
     steps: &mut Steps,
 ) -> Result<MarkTree<BlockLines>, NoMemory>
-    requires { All (λ m. m.offset < 2 ^ 32) (marks_after shift marks.now) }
+    requires offsets { All (λ m. m.offset < 2 ^ 32) (marks_after shift marks.now) }
+    requires unmet { places.now ≡ [] → All (IsUnmet shift) marks.now }
     ensures ok { IfOk result (λ after. after ≡ marks_after shift marks.now) }
     ensures counted { steps.old ≤ steps.new }
     ensures steps { let met = met_count shift marks.now in
@@ -41,6 +44,11 @@ fn marks_after(
     match shift {
         None => marks.share(),
         Some(shift) => {
+            // Marks are in order.
+            let _count = marks.len();
+            if places.is_empty() && shift.count == shift.end - shift.start {
+                return marks.share();
+            }
             let mut after = marks.share()?;
             after.apply(alloc, shift, steps)?;
             Ok(after)
@@ -77,8 +85,6 @@ impl BlockSide {
         let _lines = old.lines();
         let _count = self.marks.len();
         let _rising = self.stops.len();
-        let marks = marks_after(alloc, &self.marks, shift, steps)?;
-        let _after = marks.len();
         let edits = edits.edits();
         let places = places_anew(
             alloc,
@@ -92,6 +98,8 @@ impl BlockSide {
             steps,
         )?;
         let places = places.as_slice();
+        let marks = marks_after(alloc, &self.marks, places, shift, steps)?;
+        let _after = marks.len();
         let mut stops = self.stops.share()?;
         stops.take_out(alloc, places, steps)?;
         stops.carry(alloc, bias_of(side), edits, steps)?;
