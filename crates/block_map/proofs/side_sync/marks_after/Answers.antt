@@ -19,7 +19,7 @@ returns-then-shift-clause-ok c =
     let none = no-place c.args.places.now (sym c.is_empty.ensures ∙ c.if-is_empty.true) in
     let unmet = subst (λ (o : Option Shift). All (IsUnmet o) ms) c.in-Some.is (c.requires.unmet none) in
     let stay : marks_after c.args.shift ms ≡ ms =
-        ap (λ (o : Option Shift). marks_after o ms) c.in-Some.is ∙ marks-stay c.in-Some.shift ms c.len-count.ensures.lawful.sorted c.if-shift.true unmet in
+    ap (λ (o : Option Shift). marks_after o ms) c.in-Some.is ∙ marks-stay c.in-Some.shift ms c.len-count.ensures.lawful.sorted c.if-shift.true unmet in
     IfOk-weaker c.share-then-shift.result (λ (l : List BlockMark). l ≡ ms) (λ (l : List BlockMark). l ≡ marks_after c.args.shift ms) (λ l e. e ∙ sym stay) c.share-then-shift.ensures
 
 pub apply-requires : goal.apply-requires
