@@ -1,6 +1,6 @@
 -- How many steps a call on a list takes at most. A step is one node that is opened or made. The tree of n items has at most
 -- h levels below its root for each h such that n is less than 2 * 6 ^ (h + 1); bounds are given for each such h.
-use Rattle.std.specs.Prelude.{ℕ, ◌+◌, ◌*◌, ◌^◌, ◌<◌, ◌≤◌}
+use Rattle.std.specs.Prelude.{ℕ, ◌+◌, ◌-◌, ◌*◌, ◌^◌, ◌<◌, ◌≤◌, min}
 
 -- a call on n items takes at most `cost h` steps
 abbrev pub TakesAtMost : (ℕ → ℕ) → ℕ → ℕ → ℕ → Type 0
@@ -9,6 +9,14 @@ TakesAtMost cost n old new = (h : ℕ) → n < 2 * 6 ^ (h + 1) → new ≤ old +
 -- a call that makes n items of m takes at most `cost h` steps
 abbrev pub ChangesAtMost : (ℕ → ℕ) → ℕ → ℕ → ℕ → ℕ → Type 0
 ChangesAtMost cost m n old new = (h : ℕ) → m < 2 * 6 ^ (h + 1) → n < 2 * 6 ^ (h + 1) → new ≤ old + cost h
+
+-- a call opens at least so many nodes; the counter stands still at the greatest u64
+abbrev pub OpensAtLeast : ℕ → ℕ → ℕ → Type 0
+OpensAtLeast count old new = min (old + count) (2 ^ 64 - 1) ≤ new
+
+-- a call on n items opens at least one node of each level that so many items need, of which a node has at most 12
+abbrev pub OpensEachLevel : ℕ → ℕ → ℕ → Type 0
+OpensEachLevel n old new = (h : ℕ) → 12 ^ h < n → OpensAtLeast (h + 1) old new
 
 -- One way from the root down opens one node on each level.
 abbrev pub way : ℕ → ℕ

@@ -1,5 +1,6 @@
 //! Finding an item by its place in the list.
 ghost use Rattle.std.specs.Prelude.{◌≡◌, ◌+◌, ◌^◌, ◌<◌, ◌≤◌, Some, map, length, take, slice_get};
+ghost use Rattle.sum_tree.specs.Bounds.{OpensAtLeast};
 ghost use Rattle.sum_core.specs.Nodes.{child_value, items_of, items_under};
 ghost use Rattle.sum_tree.specs.inside.Nodes.{AreChildren, IsLawfulNode, items_below};
 
@@ -38,6 +39,7 @@ pub fn item_at<'a, T: Item>(node: &'a Node<T>, height: usize, at: usize, steps: 
     ensures item { slice_get (items_of node.now) at ≡ Some result.now }
     ensures counted { steps.old ≤ steps.new }
     ensures steps { steps.new ≤ steps.old + height + 1 }
+    ensures opened { OpensAtLeast (height + 1) steps.old steps.new }
 {
     match node.entries(steps) {
         Entries::Leaf(items) => &items[at],

@@ -3,7 +3,7 @@ ghost use Rattle.std.specs.Prelude.{ℕ, ◌≡◌, ◌+◌, ◌*◌, ◌^◌, �
 ghost use Rattle.std.specs.List.{position, splice};
 ghost use Rattle.std.specs.Option.{option_copied};
 ghost use Rattle.sum_core.specs.Sums.{total};
-ghost use Rattle.sum_tree.specs.Bounds.{ChangesAtMost, Searches, TakesAtMost, building, cutting, joining, pushing, replacing, way};
+ghost use Rattle.sum_tree.specs.Bounds.{ChangesAtMost, OpensEachLevel, Searches, TakesAtMost, building, cutting, joining, pushing, replacing, way};
 ghost use Rattle.sum_tree.specs.inside.Paths.{items_seen};
 ghost use Rattle.sum_tree.specs.inside.Ways.{IsWay};
 
@@ -89,6 +89,8 @@ impl<T: Item> SumTree<T> {
         ensures item { option_copied result ≡ slice_get self.now at }
         ensures counted { steps.old ≤ steps.new }
         ensures steps { TakesAtMost way (length self.now) steps.old steps.new }
+        ensures opened { at < length self.now →
+            OpensEachLevel (length self.now) steps.old steps.new }
     {
         match &self.tree {
             None => None,
