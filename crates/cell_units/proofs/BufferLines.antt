@@ -1,24 +1,15 @@
 -- Where the lines of a buffer stand.
 use Rattle.std.proofs.Common.{◌≡◌, ℕ, ◌+◌, ◌-◌, ◌<◌, ◌≤◌, leb, nat_le, ◌⊎◌, zero, suc, Bool, true, false, cond, List, [], ◌∷◌, ◌++◌, length, take, drop, get_or, slice_range, refl, sym, ap, subst, ◌∙◌, inl, inr, arith, length-append, add-one, zero-add}
 use Rattle.std.specs.List.{count_by, sum_by, prefix_len}
-use Rattle.std.specs.Prelude.{codes}
 use Rattle.std.specs.Str.{IsUtf8, IsCharBoundary}
 use Rattle.std.proofs.lemmas.Bool.{cases_lt, eqb-true, le-leb, lt-leb}
 use Rattle.std.proofs.lemmas.Str.{IsCharBoundary-start, IsCharBoundary-end, IsCharBoundary-before_ascii, IsCharBoundary-after_ascii}
-use Rattle.std.proofs.lemmas.List.{take_all, take_at, take-take, take-append-le, drop_at, nil_from_length, take_more, length-take-le, append_assoc, drop-take, get_or_past, get_or_default, get_or_append_left, get_or_at}
-use Rattle.std.proofs.lemmas.List.Sums.{sum_by-take-le, sum_by-cons, sum_by-append}
+use Rattle.std.proofs.lemmas.List.{take_all, take_at, take-append-le, drop_at, nil_from_length, take_more, length-take-le, append_assoc, drop-take, get_or_past, get_or_default, get_or_append_left, get_or_at}
+use Rattle.std.proofs.lemmas.List.Sums.{sum_by-cons, sum_by-append}
 use Rattle.cell_units.specs.Text.{line_feed, is_feed, row_of}
 use Rattle.cell_units.specs.Cutting.{onto_line}
 use Rattle.cell_units.specs.Record.{line_count}
 use Rattle.cell_units.specs.BufferLines.{buffer_lines, behind_feeds, line_starts, line_start, line_end}
-
--- ---- worked
-
-feed_at_the_end : buffer_lines (codes "abc\n") ≡ codes "abc" ∷ [] ∷ []
-feed_at_the_end = refl
-
-starts_behind_feeds : line_starts (codes "a\n\nbc") ≡ 0 ∷ 2 ∷ 3 ∷ []
-starts_behind_feeds = refl
 
 -- ---- feeds
 
@@ -33,10 +24,6 @@ feeds-append xs ys = sum_by-append (λ (c : ℕ). cond (is_feed c) 1 0) xs ys
 
 pub line_count-is : (text : List ℕ) → line_count text ≡ count_by is_feed text + 1
 line_count-is text = ap (λ (t : List ℕ). count_by is_feed t + 1) (take_all (length text) text (omega arith))
-
-feeds_take-le : (text : List ℕ) (a b : ℕ) → a ≤ b → count_by is_feed (take a text) ≤ count_by is_feed (take b text)
-feeds_take-le text a b le =
-    omega (arith, sum_by-take-le (λ (c : ℕ). cond (is_feed c) 1 0) (take b text) a, ap (count_by is_feed) (take-take a b text le))
 
 -- ---- how many lines
 
@@ -262,12 +249,6 @@ feed_before o (b ∷ bs) line lt = go (is_feed b) line (λ line lt. feed_before 
   go true zero at lt = omega arith
   go true (suc line) at lt = omega (arith, at line (omega arith))
   go false line at lt = omega (arith, at line lt)
-
--- each offset of a line is in its row
-pub row_of_within : (text : List ℕ) (line o : ℕ) → line < line_count text → line_start text line ≤ o → o ≤ line_end text line → row_of text o ≡ line
-row_of_within text line o lt from to =
-    let rise = λ (a b : ℕ) (le : a ≤ b). feeds_take-le text a b le in
-    omega (arith, rise (line_start text line) o from, rise o (line_end text line) to, row_of_start text line lt, row_of_end text line lt)
 
 -- the last line ends at the text's end, and any other before the next one's start
 pub line_end_last : (text : List ℕ) (line : ℕ) → line + 1 ≡ line_count text → line_end text line ≡ length text

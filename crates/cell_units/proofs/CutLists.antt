@@ -177,13 +177,6 @@ module _ {X : Type 0} (brk : X → Bool) where
   Every-unit [] = tt
   Every-unit (x ∷ xs) = (tt, Every-unit xs)
 
-  Every-first : (P : X → Type 0) (r : List (List X)) → Every (FirstIs (λ _. Unit {0})) r → Every (Every P) r → Every (FirstIs P) r
-  Every-first P [] f a = tt
-  Every-first P (l ∷ ls) f a = (go l f.0 a.0, Every-first P ls f.1 a.1) where
-    go : (l : List X) → FirstIs (λ _. Unit {0}) l → Every P l → FirstIs P l
-    go [] f a = absurd f
-    go (t ∷ ts) f a = a.0
-
   pub Last-lines : (P : X → Type 0) (xs : List X) → Every P xs → Every (LastIs P) (cut_lines brk xs)
   Last-lines P xs a = Every-last P (cut_lines brk xs) (First-lines (λ _. Unit {0}) xs (Every-unit xs)) (Every-lines P xs a)
 

@@ -262,13 +262,3 @@ module _ (text : List ℕ) where
   rest-pieces (x ∷ y ∷ ys) u us g =
       rest-pieces (y ∷ ys) u us g.1
       ∙ rest-more x y g.0 (is_one_piece x y) refl (size (y ∷ ys)) (size (x ∷ y ∷ ys)) (length-append (bytes_of x) (flat_map bytes_of (y ∷ ys))) (some_size y ys) (pieces_of (y ∷ ys ++ u ∷ us)) (first-piece y (ys ++ u ∷ us))
-
--- a fold from a token of one line to a token of another: the front of the one, the placeholder, the rest of the other
-pub pieces-folded : (text : List ℕ) (xs : List Token) (u : Token) (us : List Token) (ys : List Token) (v : Token) (vs : List Token) →
-    Goes text (xs ++ u ∷ us) → Goes text (ys ++ v ∷ vs) →
-    pieces_of (xs ++ Hidden (offset_of u) ∷ v ∷ vs)
-    ≡ front_pieces (length (flat_map bytes_of xs)) (pieces_of (xs ++ u ∷ us))
-    ++ (hidden_piece (offset_of u) (offset_of v) ∷ rest_pieces (length (flat_map bytes_of ys)) (pieces_of (ys ++ v ∷ vs)))
-pieces-folded text xs u us ys v vs g h =
-    pieces-around xs (offset_of u) v vs
-    ∙ (λ i. (pieces-closed xs (Hidden (offset_of u)) u refl ∙ front-pieces text xs u us g) i ++ (hidden_piece (offset_of u) (offset_of v) ∷ rest-pieces text ys v vs h i))

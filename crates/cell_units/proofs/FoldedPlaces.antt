@@ -5,8 +5,8 @@ use Rattle.std.specs.List.{count_by}
 use Rattle.std.proofs.lemmas.List.Sums.{sum_by-append}
 use Rattle.cell_units.specs.declared.place.Bias.TheVariants.{Left, Right}
 use Rattle.cell_units.specs.Record.{Inlay, Fold}
-use Rattle.cell_units.specs.Inlaid.{Token, Hidden, inlays_at, is_break, offset_of, show_each}
-use Rattle.cell_units.specs.Folded.{inside, covered, shown, folded_before, line_of, span_start, span_end}
+use Rattle.cell_units.specs.Inlaid.{Token, Hidden, inlays_at, is_break, show_each}
+use Rattle.cell_units.specs.Folded.{inside, covered, shown, folded_before, line_of}
 use Rattle.cell_units.specs.Joined.{IsJoined, ShowsOnePlaceholder}
 use Rattle.cell_units.specs.Layers.{Source, place_of}
 use Rattle.cell_units.proofs.Joined.{IsJoined-hides, IsJoined-shows, inside-shows_none, shown-inlaid, shown-start}
@@ -176,19 +176,3 @@ module _ (text : List ℕ) (inlays : List Inlay) (folds : List Fold) where
       ∙ breaks-append (folded_before text inlays folds s) (show_each (shown inlays folds) s (part text s m))
       ∙ ap (λ (l : List Token). count_by is_break (folded_before text inlays folds s) + count_by is_break l) hidden in
       omega (arith, high, breaks-append (inlays_at inlays s) (Hidden s ∷ []), open_line e is.3, open_right_line s is.1)
-
--- ---- the span of a folded line
-
-span_end-from : (text : List ℕ) (xs : List Token) (v : Token) (vs : List Token) → span_end text (xs ++ v ∷ vs) ≡ span_end text (v ∷ vs)
-span_end-from text [] v vs = refl
-span_end-from text (x ∷ []) v vs = refl
-span_end-from text (x ∷ y ∷ ys) v vs = span_end-from text (y ∷ ys) v vs
-
--- a fold from a token of one line to a token of another: from the row of the one's start to that of the other's end
-pub span-folded : (text : List ℕ) (xs : List Token) (u : Token) (us : List Token) (ys : List Token) (v : Token) (vs : List Token) →
-    (span_start text (xs ++ Hidden (offset_of u) ∷ v ∷ vs) ≡ span_start text (xs ++ u ∷ us))
-    × (span_end text (xs ++ Hidden (offset_of u) ∷ v ∷ vs) ≡ span_end text (ys ++ v ∷ vs))
-span-folded text xs u us ys v vs = (first xs, span_end-from text xs (Hidden (offset_of u)) (v ∷ vs) ∙ sym (span_end-from text ys v vs)) where
-  first : (xs : List Token) → span_start text (xs ++ Hidden (offset_of u) ∷ v ∷ vs) ≡ span_start text (xs ++ u ∷ us)
-  first [] = refl
-  first (x ∷ xs) = refl

@@ -22,8 +22,6 @@ pub mod FoldedPlaces
 pub mod InlaidPlaces
 pub mod PieceSplits
 pub mod CutPieces
-pub mod FoldedLines
-mod WorkedSources
 pub mod LineSpans
 pub mod OneRow
 pub mod PlaceColumns

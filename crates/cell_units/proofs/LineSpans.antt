@@ -77,17 +77,9 @@ ended-push [] y = refl
 ended-push (x ∷ []) y = refl
 ended-push (x ∷ z ∷ zs) y = ended-push (z ∷ zs) y
 
-ended-cons : (t : Token) (ts : List Token) → is_break t ≡ true → ended ts ≡ true → ended (t ∷ ts) ≡ true
-ended-cons t [] e h = e
-ended-cons t (u ∷ us) e h = h
-
 module _ (A B : Token → Type 0) (q : Token) (qs : List Token) where
   abbrev cut : List Token → List (List Token)
   cut ts = cut_lines is_break (ts ++ q ∷ qs)
-
-  begun : (ts : List Token) → (t : Token) × Starts t (cut ts)
-  begun [] = (q, starts q qs)
-  begun (t ∷ ts) = (t, starts t (ts ++ q ∷ qs))
 
   -- the line's first token
   first-at : (ts : List Token) → Every A ts → (ended ts ≡ true → A q) → FirstIs A (get_or (cut ts) (breaks ts) [])
@@ -135,11 +127,6 @@ module _ (B : Token → Type 0) where
     go : (c : Bool) (ls : List (List Token)) → Starts u ls → (k : ℕ) → LastIs B (get_or ls k []) → LastIs B (get_or (cond c ((t ∷ []) ∷ ls) (onto_line t ls)) (cond c (suc k) k) [])
     go true ls s k f = f
     go false ls s k f = onto-last t u ls s k f
-
-LastIs-append : (B : Token → Type 0) (xs : List Token) (y : Token) (ys : List Token) → LastIs B (y ∷ ys) → LastIs B (xs ++ y ∷ ys)
-LastIs-append B [] y ys h = h
-LastIs-append B (x ∷ []) y ys h = h
-LastIs-append B (x ∷ z ∷ zs) y ys h = LastIs-append B (z ∷ zs) y ys h
 
 -- ---- offsets
 

@@ -56,9 +56,6 @@ tokens-are (t ∷ u ∷ us) = tokens-before (is_one_piece t u) t (runs_of (u ∷
 
 -- ---- each is one, as long as can be
 
-abbrev One : Token → Token → Type 0
-One t u = is_one_piece t u ≡ true
-
 each-before : (b : Bool) (t u : Token) (rs : List Run) → is_one_piece t u ≡ b → Begin u rs → Every IsRun (lists rs) → Every IsRun (lists (before b t rs))
 each-before b t u [] e s h = ((omega arith, tt), tt)
 each-before true t u (r ∷ rs) e (With _ _ same) h = ((omega arith, (ap (is_one_piece t) same ∙ e, h.0.1)), h.1)

@@ -43,8 +43,3 @@ row_of_end-replaced text a b s le =
     ap (λ (t : List ℕ). row_of t (a + length s)) (sym (append_assoc (take a text) s (drop b text)))
     ∙ ap (count_by is_feed) (take_at (take a text ++ s) (drop b text) (a + length s) long)
     ∙ feeds-append (take a text) s
-
-pub line_count-replaced_text : (text : List ℕ) (a b : ℕ) (s : List ℕ) →
-    line_count (replaced_text text a b s) ≡ row_of text a + count_by is_feed s + count_by is_feed (drop b text) + 1
-line_count-replaced_text text a b s =
-    omega (arith, line_count-is (replaced_text text a b s), feeds-append (take a text) (s ++ drop b text), feeds-append s (drop b text))

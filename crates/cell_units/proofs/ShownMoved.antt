@@ -74,10 +74,6 @@ parts_map : (f g : ℕ → Token) (sh : Token → Token) → ((c : ℕ) → f c 
 parts_map f g sh e [] = refl
 parts_map f g sh e (x ∷ xs) = λ i. e x i ∷ parts_map f g sh e xs i
 
--- the parts of what is shown by one test each
-show_from : {A : Type 0} (c c' : Bool) (x x' : List A) → c' ≡ c → x' ≡ x → cond c' [] x' ≡ cond c [] x
-show_from c c' x x' e h = λ i. cond (e i) [] (h i)
-
 module _ (a b n : ℕ) (ab : a ≤ b) (folds : List Fold) (inlays : List Inlay) (sorted : IsSorted inlay_le inlays) where
   lt_kept : (o : ℕ) (f : Fold) → (ltb f.start o && ltb o f.end) ≡ true → ltb f.start f.end ≡ true
   lt_kept o f h = let p = and_parts (ltb f.start o) (ltb o f.end) h in lt-ltb f.start f.end (omega (arith, ltb-true f.start o p.0, ltb-true o f.end p.1))

@@ -54,10 +54,6 @@ right_right true false before here there own = omega (arith, size-nil before, si
 right_right false true before here there own = omega (arith, size_next before here own, size-append before here)
 right_right false false before here there own = omega (arith, size_next before here own, size-append before here, size-append (next false before here own) there)
 
-right_left : (j : Bool) (before here : List Token) (own : Token) → right false before here ≤ left j (next false before here own)
-right_left true before here own = omega (arith, front_next before here own, size-append before here)
-right_left false before here own = omega (arith, size_next before here own, size-append before here)
-
 module _ (s : Source) where
   abbrev before : ℕ → List Token
   before o = folded_before s.text s.inlays s.folds o
@@ -104,14 +100,3 @@ module _ (s : Source) where
   pub place-le : (o : ℕ) (bias : Bias) → o ≤ length s.text → place_of s o bias ≤ length (shown_text s)
   place-le o Left le = omega (arith, places-left_first o, places-rise o (length s.text) Right le (omega arith))
   place-le o Right le = places-rise o (length s.text) Right le (omega arith)
-
-  -- an offset's right place is at or before the left place of the next, unless a fold reaches over it
-  pub right-le-left : (o p : ℕ) → inside s.folds o ≡ false → o < p → p ≤ length s.text → place_of s o Right ≤ place_of s p Left
-  right-le-left o p out lt le =
-      let here : place_of s o Right ≡ right false (before o) (inlays_at s.inlays o) = ap (λ (i : Bool). right i (before o) (inlays_at s.inlays o)) out in
-      let more : before (o + 1) ≡ next false (before o) (inlays_at s.inlays o) (own o) =
-      before_more o (omega arith) ∙ ap (λ (i : Bool). next i (before o) (inlays_at s.inlays o) (own o)) out in
-      let step = right_left (inside s.folds (o + 1)) (before o) (inlays_at s.inlays o) (own o) in
-      let there : place_of s (o + 1) Left ≡ left (inside s.folds (o + 1)) (next false (before o) (inlays_at s.inlays o) (own o)) =
-      ap (left (inside s.folds (o + 1))) more in
-      omega (arith, here, step, there, places-rise (o + 1) p Left (omega arith) le)

@@ -1,5 +1,5 @@
 -- What is so of each layer.
-use Rattle.std.proofs.Common.{◌≡◌, ℕ, ◌+◌, ◌<◌, ◌≤◌, ◌⊎◌, Bool, true, false, cond, List, [], ◌∷◌, length, get_or, slice_range, refl, sym, ap, ◌∙◌, subst, inl, inr, arith}
+use Rattle.std.proofs.Common.{◌≡◌, ℕ, ◌+◌, ◌<◌, ◌≤◌, ◌⊎◌, Bool, true, false, cond, List, [], ◌∷◌, length, get_or, refl, sym, ap, ◌∙◌, subst, inl, inr, arith}
 use Rattle.std.specs.List.{All, count_by}
 use Rattle.std.proofs.lemmas.Bool.{cases_Bool}
 use Rattle.std.proofs.lemmas.List.{get_or-map, get_or_default}
@@ -8,11 +8,11 @@ use Rattle.cell_units.specs.declared.piece.Piece.{Piece}
 use Rattle.cell_units.specs.Text.{is_feed, row_of}
 use Rattle.cell_units.specs.Record.{line_count}
 use Rattle.cell_units.specs.Folded.{covered}
-use Rattle.cell_units.specs.BufferLines.{buffer_lines, line_start, line_end}
+use Rattle.cell_units.specs.BufferLines.{buffer_lines}
 use Rattle.cell_units.specs.Lawful.{IsWellFormed}
 use Rattle.cell_units.specs.Layers.{Source, shown_lines, shown_text}
 use Rattle.cell_units.specs.Laws.{HasNoFeed, IsCopied}
-use Rattle.cell_units.proofs.BufferLines.{buffer_line, feeds-append, feeds-cons, get_or-buffer_lines, line_count-is}
+use Rattle.cell_units.proofs.BufferLines.{buffer_line, feeds-append, feeds-cons, line_count-is}
 use Rattle.cell_units.proofs.BufferPieces.{shown-copied}
 use Rattle.cell_units.proofs.Joined.{covered_inside, covered_of}
 use Rattle.cell_units.proofs.ReplacedRows.{row_of-lt}
@@ -49,11 +49,6 @@ line-bytes : (s : Source) → IsWellFormed s → (line : ℕ) → line < length 
 line-bytes s w line lt =
     sym (get_or-map line_bytes (shown_lines s) line [] [] lt)
     ∙ ap (λ (ls : List (List ℕ)). get_or ls line []) (lines_of_text s (ends_open s w))
-
-pub line-is : (s : Source) → IsWellFormed s → (line : ℕ) → line < length (shown_lines s) →
-    line_bytes (get_or (shown_lines s) line []) ≡ slice_range (shown_text s) (line_start (shown_text s) line) (line_end (shown_text s) line)
-line-is s w line lt =
-    line-bytes s w line lt ∙ get_or-buffer_lines (shown_text s) line (omega (arith, length-shown_lines s (ends_open s w)))
 
 -- ---- pieces
 

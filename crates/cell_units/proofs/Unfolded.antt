@@ -1,17 +1,15 @@
 -- The display lines of a text without inlays and folds.
-use Rattle.std.proofs.Common.{◌≡◌, ℕ, ◌+◌, ◌-◌, ◌<◌, ◌≤◌, leb, ◌&&◌, zero, suc, Bool, true, false, cond, List, [], ◌∷◌, ◌++◌, length, map, drop, append_assoc, subst, get_or, replicate, refl, sym, ap, ◌∙◌, arith}
-use Rattle.std.specs.List.{count_by, range_with_len}
-use Rattle.std.proofs.lemmas.Bool.{and_left, and_right, and_from, le-leb, lt-leb}
-use Rattle.std.proofs.lemmas.List.{map-append, length-map, take_at, length_push}
+use Rattle.std.proofs.Common.{◌≡◌, ℕ, ◌+◌, ◌<◌, zero, suc, Bool, true, false, cond, List, [], ◌∷◌, ◌++◌, length, map, drop, append_assoc, subst, get_or, refl, sym, ap, ◌∙◌, arith}
+use Rattle.std.specs.List.{count_by}
+use Rattle.std.proofs.lemmas.List.{length-map, take_at, length_push}
 use Rattle.cell_units.specs.declared.piece.Piece.{Piece}
 use Rattle.cell_units.specs.declared.piece.PieceKind.TheVariants.{Buffer}
 use Rattle.cell_units.specs.Text.{line_feed, is_feed, row_of}
 use Rattle.cell_units.specs.Cutting.{onto_line, cut_lines}
-use Rattle.cell_units.specs.Record.{Record, line_count}
+use Rattle.cell_units.specs.Record.{line_count}
 use Rattle.cell_units.specs.Inlaid.{Token, Byte, is_break, show_each}
 use Rattle.cell_units.specs.Folded.{shown, display_lines, span_start, span_end}
 use Rattle.cell_units.specs.Pieces.{pieces_of, piece_before, folded_lines}
-use Rattle.cell_units.specs.Touched.{RowRange, is_touched, touched_lines}
 use Rattle.cell_units.specs.BufferLines.{buffer_lines}
 use Rattle.cell_units.proofs.BufferLines.{feeds-cons, feeds-append, length-buffer_lines}
 
@@ -139,64 +137,3 @@ plain_spans text line lt =
       span_at text row (suc k) (l ∷ ls) h lt =
           let rest = span_at text (row + 1) k ls h.2 (omega arith) in
           (omega (arith, rest.0), omega (arith, rest.1))
-
--- ---- which are touched
-
-abbrev is_row : RowRange → ℕ → Bool
-is_row rows k = leb k rows.last && leb rows.first k
-
-by_rows : (text : List ℕ) (rows : RowRange) (row : ℕ) (ls : List (List Token)) → AreSpans text row ls →
-    map (is_touched text rows) ls ≡ map (is_row rows) (range_with_len row (length ls))
-by_rows text rows row [] h = refl
-by_rows text rows row (l ∷ ls) h =
-    λ i. (leb (h.0 i) rows.last && leb rows.first (h.1 i)) ∷ by_rows text rows (row + 1) ls h.2 i
-
-pub in_two : (a m n : ℕ) → range_with_len a (m + n) ≡ range_with_len a m ++ range_with_len (a + m) n
-in_two a zero n =
-    let whole : 0 + n ≡ n = omega arith in
-    let here : a ≡ a + 0 = omega arith in
-    ap (range_with_len a) whole ∙ ap (λ (k : ℕ). range_with_len k n) here
-in_two a (suc m) n =
-    let whole : suc m + n ≡ suc (m + n) = omega arith in
-    let there : a + 1 + m ≡ a + suc m = omega arith in
-    ap (range_with_len a) whole
-    ∙ ap (λ (l : List ℕ). a ∷ l) (in_two (a + 1) m n ∙ ap (λ (k : ℕ). range_with_len (a + 1) m ++ range_with_len k n) there)
-
-all_same : (f : ℕ → Bool) (v : Bool) (a n : ℕ) → ((k : ℕ) → a ≤ k → k < a + n → f k ≡ v) → map f (range_with_len a n) ≡ replicate n v
-all_same f v a zero h = refl
-all_same f v a (suc n) h = λ i. h a (omega arith) (omega arith) i ∷ all_same f v (a + 1) n (λ k le lt. h k (omega arith) (omega arith)) i
-
-rows_before : (rows : RowRange) (k : ℕ) → k < rows.first → is_row rows k ≡ false
-rows_before rows k lt = and_right (leb k rows.last) (leb rows.first k) (lt-leb rows.first k lt)
-
-rows_within : (rows : RowRange) (k : ℕ) → rows.first ≤ k → k ≤ rows.last → is_row rows k ≡ true
-rows_within rows k from to = and_from (leb k rows.last) (leb rows.first k) (le-leb k rows.last to) (le-leb rows.first k from)
-
-rows_behind : (rows : RowRange) (k : ℕ) → rows.last < k → is_row rows k ≡ false
-rows_behind rows k lt = and_left (leb k rows.last) (leb rows.first k) (lt-leb k rows.last lt)
-
-in_three : (rows : RowRange) (m n : ℕ) → rows.first + m ≡ rows.last + 1 →
-    map (is_row rows) (range_with_len 0 (rows.first + (m + n))) ≡ replicate rows.first false ++ (replicate m true ++ replicate n false)
-in_three rows m n e =
-    let f = is_row rows in
-    let here : 0 + rows.first ≡ rows.first = omega arith in
-    ap (map f) (in_two 0 rows.first (m + n) ∙ ap (λ (l : List ℕ). range_with_len 0 rows.first ++ l) (ap (λ (a : ℕ). range_with_len a (m + n)) here ∙ in_two rows.first m n))
-    ∙ map-append f (range_with_len 0 rows.first) (range_with_len rows.first m ++ range_with_len (rows.first + m) n)
-    ∙ (λ i. all_same f false 0 rows.first (λ k le lt. rows_before rows k (omega arith)) i ++ map-append f (range_with_len rows.first m) (range_with_len (rows.first + m) n) i)
-    ∙ (λ i. replicate rows.first false
-    ++ (all_same f true rows.first m (λ k le lt. rows_within rows k le (omega arith)) i
-    ++ all_same f false (rows.first + m) n (λ k le lt. rows_behind rows k (omega arith)) i))
-
--- of a text without inlays and folds, the lines before the first row are untouched, those up to the last row touched,
--- and those behind it untouched
-pub touched_are : (r : Record) (rows : RowRange) → r.inlays ≡ [] → r.folds ≡ [] → rows.first ≤ rows.last → rows.last < line_count r.text →
-    touched_lines rows r
-    ≡ replicate rows.first false
-    ++ (replicate (rows.last + 1 - rows.first) true ++ replicate (line_count r.text - (rows.last + 1)) false)
-touched_are r rows no_inlays no_folds le lt =
-    let n = line_count r.text in
-    let sum : n ≡ rows.first + (rows.last + 1 - rows.first + (n - (rows.last + 1))) = omega arith in
-    (λ i. map (is_touched r.text rows) (display_lines r.text (no_inlays i) (no_folds i)))
-    ∙ by_rows r.text rows 0 (display_lines r.text [] []) (spans [] r.text)
-    ∙ ap (λ (k : ℕ). map (is_row rows) (range_with_len 0 k)) (length-display_lines r.text ∙ sum)
-    ∙ in_three rows (rows.last + 1 - rows.first) (n - (rows.last + 1)) (omega arith)

@@ -2,10 +2,10 @@
 use Rattle.std.specs.Prelude.{ℕ, ◌≡◌, ◌≢◌, ◌≤◌, ◌<◌, ◌==◌, ◌⊎◌, Bool, List, length, count_by}
 use Rattle.std.specs.List.{All}
 use Rattle.std.specs.Str.{IsUtf8}
-use Rattle.cell_units.specs.declared.limits.TheConstants.{BLOCK_LINE_LIMIT, BLOCK_LINES_LIMIT, ENTRY_LIMIT, INLAY_LIMIT, LEAST_WIDTH, TAB_LIMIT, TEXT_LIMIT, WIDTH_LIMIT}
-use Rattle.cell_units.specs.Text.{IsBoundary, IsText, carriage_return, clean, line_feed}
+use Rattle.cell_units.specs.declared.limits.TheConstants.{BLOCK_LINE_LIMIT, BLOCK_LINES_LIMIT, ENTRY_LIMIT, INLAY_LIMIT, LEAST_WIDTH, TAB_LIMIT, WIDTH_LIMIT}
+use Rattle.cell_units.specs.Text.{IsBoundary, IsText, carriage_return, line_feed}
 use Rattle.cell_units.specs.Sorting.{sort_by}
-use Rattle.cell_units.specs.Record.{Block, Fold, Inlay, Mark, Record, block_le, fold_le, inlay_le, line_count}
+use Rattle.cell_units.specs.Record.{Block, Fold, Inlay, Record, block_le, fold_le, inlay_le, line_count}
 use Rattle.cell_units.specs.Folded.{display_lines}
 use Rattle.cell_units.specs.Layers.{Source}
 use Rattle.cell_units.specs.Operation.{Operation, Replace, AddInlay, RemoveInlay, AddFold, RemoveFold, AddBlock, RemoveBlock, SetTab, SetWidth}

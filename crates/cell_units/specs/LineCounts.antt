@@ -1,13 +1,11 @@
 -- How the display lines before and after an operation go together.
-use Rattle.std.specs.Prelude.{ℕ, ◌≡◌, ◌+◌, ◌-◌, ◌≤◌, ◌<◌, ◌==◌, List, length, map, count_by}
-use Rattle.std.specs.List.{All}
+use Rattle.std.specs.Prelude.{ℕ, ◌≡◌, ◌+◌, ◌-◌, ◌≤◌, ◌<◌, List, length, map}
 use Rattle.cell_units.specs.declared.place.Bias.TheVariants.{Left, Right}
 use Rattle.cell_units.specs.declared.piece.Piece.{Piece}
 use Rattle.cell_units.specs.Text.{clean, row_start, row_end}
 use Rattle.cell_units.specs.Anchor.{move}
-use Rattle.cell_units.specs.Sorting.{sort_by}
-use Rattle.cell_units.specs.Record.{Record, inlay_le}
-use Rattle.cell_units.specs.Operation.{Operation, Replace, AddInlay, AddFold}
+use Rattle.cell_units.specs.Record.{Record}
+use Rattle.cell_units.specs.Operation.{Operation, Replace}
 use Rattle.cell_units.specs.Folded.{line_of}
 use Rattle.cell_units.specs.Pieces.{folded_lines}
 use Rattle.cell_units.specs.Touched.{Touched, row_range, touched_lines, touched_before, touched_after, untouched, one_run}

@@ -1,7 +1,8 @@
 -- Records and lines that are known, for worked rows.
-use Rattle.std.specs.Prelude.{ℕ, List, [], length, map, filter, flat_map, not}
+use Rattle.std.specs.Prelude.{ℕ, List, [], ◌∷◌, codes, length, map, filter, flat_map, not}
 use Rattle.std.specs.List.{range_with_len}
 use Rattle.cell_units.specs.declared.place.Bias.{Bias}
+use Rattle.cell_units.specs.declared.place.Bias.TheVariants.{Right}
 use Rattle.cell_units.specs.declared.place.Point.{Point}
 use Rattle.cell_units.specs.declared.place.Side.{Side}
 use Rattle.cell_units.specs.declared.piece.Piece.{Piece}
@@ -10,6 +11,7 @@ use Rattle.cell_units.specs.Record as records
 use Rattle.cell_units.specs.Record.{Block, Fold, Mark, Record, opening_tab, opening_width}
 use Rattle.cell_units.specs.Inlaid.{bytes_of, is_break, placeholder}
 use Rattle.cell_units.specs.Folded.{display_lines}
+use Rattle.cell_units.specs.Layers.{Source}
 
 abbrev pub inlay : ℕ → Bias → ℕ → List ℕ → records.Inlay
 inlay offset bias id text = record { offset = offset; bias = bias; id = id; text = text }
@@ -61,3 +63,7 @@ placeholder_piece start end = record { kind = Placeholder; text = placeholder; s
 
 abbrev pub point : ℕ → ℕ → Point
 point row column = record { row = row; column = column }
+
+-- of the text "ab\ncd\nef", the inlay "x\ny" in a fold that hides "b", the feed and "c"
+abbrev pub hidden_inlay : Source
+hidden_inlay = record { text = codes "ab\ncd\nef"; inlays = inlay 3 Right 1 (codes "x\ny") ∷ []; folds = fold 1 4 1 ∷ [] }
