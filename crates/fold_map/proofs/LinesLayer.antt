@@ -2,6 +2,7 @@
 use Rattle.std.proofs.Common.{◌≡◌, ℕ, suc, zero, ◌+◌, ◌-◌, ◌<◌, ◌≤◌, ◌^◌, List, [], ◌∷◌, length, take, refl, sym, ap, ◌∙◌, subst, arith, take_all}
 use Rattle.std.specs.List.{count_by}
 use Rattle.std.proofs.lemmas.List.{drop_all}
+use Rattle.std.proofs.lemmas.Option.{slice_get_past}
 use Rattle.cell_units.specs.Folded.{span_end}
 use Rattle.cell_units.specs.Inlaid.{is_break}
 use Rattle.cell_units.specs.Layers.{Source, line_tokens, shown_lines, shown_text, unfolded}
@@ -18,10 +19,11 @@ use Rattle.fold_map.specs.declared.amount.Amount.{Amount}
 use Rattle.fold_map.specs.declared.lines.LineStart.{LineStart}
 use Rattle.fold_map.specs.Lines.{CoverLines, IsLineStart, LineFits, lines_of}
 use Rattle.fold_map.specs.Splices.{AreSplices, splices_from}
+use Rattle.fold_map.specs.Spots.{CoverBytes, shown_bytes}
 use Rattle.fold_map.proofs.LinesFound.{StartsAt, breaks-above, breaks-below, last-row, last-rows, starts-at}
 use Rattle.fold_map.proofs.ShownSplices.{AreSpliced, in-splices, sums}
 use Rattle.fold_map.proofs.Sums.{breaks-append}
-use Rattle.fold_map.proofs.SpotsShown.{all-spliced, out-at_end, tokens}
+use Rattle.fold_map.proofs.SpotsShown.{all-spliced, in-spot, long-above, long-below, out-at_end, tokens}
 
 -- where a seek by line feeds finds a line
 pub start-is : (ps : List (Piece Amount NoLoad)) (line : ℕ) (at : LineStart) → IsFirstUpper nothing together feeds_of ps line Left at.index → at.before ≡ covered nothing together (take at.index ps)
@@ -92,6 +94,33 @@ module _ (s : Source) (ps : List (Piece Amount NoLoad)) (are : AreSplices s ps) 
 
   pub lines-fewer : length (shown_lines s) ≤ length (shown_lines (unfolded s))
   lines-fewer = let l = cover-lines in omega (arith, l.order, l.same)
+
+  -- How many bytes splices cover, on either side.
+  pub record CoveredBytes : Type 0 where
+    pub below : (sums ps).lower.bytes ≤ length (shown_text (unfolded s))
+    pub same : length (shown_text s) + (sums ps).lower.bytes ≡ length (shown_text (unfolded s)) + (sums ps).upper.bytes
+
+  pub cover-bytes : CoveredBytes
+  cover-bytes =
+      let all = in-spot s ps are (length ps) in
+      let behind = all.none (slice_get_past ps (length ps) (omega arith)) in
+      let whole : take (length ps) ps ≡ ps = take_all (length ps) ps (omega arith) in
+      let lower : (sums (take (length ps) ps)).lower.bytes ≡ (sums ps).lower.bytes = ap (λ (qs : List (Piece Amount NoLoad)). (sums qs).lower.bytes) whole in
+      let upper : (sums (take (length ps) ps)).upper.bytes ≡ (sums ps).upper.bytes = ap (λ (qs : List (Piece Amount NoLoad)). (sums qs).upper.bytes) whole in
+      let below = long-below (shown_text (unfolded s)) (shown_text s) (sums (take (length ps) ps)) all.mid all.alike in
+      let above = long-above (shown_text (unfolded s)) (shown_text s) (sums (take (length ps) ps)) all.mid all.alike in
+      let none_below = ap (λ (l : List ℕ). length l) behind.0 in
+      let none_above = ap (λ (l : List ℕ). length l) behind.1 in
+      record {
+        below = omega (arith, below, lower);
+        same = omega (arith, below, above, none_below, none_above, lower, upper);
+      }
+
+  pub bytes-covered : length (shown_text s) < 2 ^ 32 → CoverBytes ps (length (shown_text (unfolded s)))
+  bytes-covered small = let b = cover-bytes in record { within = omega (arith, b.below); fits = omega (arith, b.below, b.same, small) }
+
+  pub bytes-are : shown_bytes ps (length (shown_text (unfolded s))) ≡ length (shown_text s)
+  bytes-are = let b = cover-bytes in omega (arith, b.below, b.same)
 
   -- ---- where one starts
 

@@ -1,4 +1,4 @@
--- A source with folds as a layer: from a place back to an offset, the point of a place, and the last place.
+-- A source with folds as a layer: from a place back to an offset, and the point of a place.
 use Rattle.std.proofs.Common.{◌≡◌, ℕ, ◌-◌, ◌<◌, ◌≤◌, ◌↔◌, ◌^◌, List, length, map, Option, Some, None, sym, ap, ◌∙◌, subst, arith, take_all}
 use Rattle.std.specs.Str.{IsUtf8}
 use Rattle.cell_units.specs.declared.place.Bias.{Bias}
@@ -48,10 +48,6 @@ pub back-same : (s u : Source) (p q : ℕ) (bias : Bias) (found : Option ℕ) �
 back-same s u p q bias None same none = λ o h. none o ((same o).0 h)
 back-same s u p q Left (Some o) same is = ((same o).1 is.0, λ k h. is.1 k ((same k).0 h))
 back-same s u p q Right (Some o) same is = ((same o).1 is.0, λ k h. is.1 k ((same k).0 h))
-
--- the last place goes to the last one
-pub last-is : (s : Source) (ps : List (Piece Amount NoLoad)) → AreSplices s ps → to_upper Right (map (measured bytes_of) ps) (length (shown_text (unfolded s))) ≡ length (shown_text s)
-last-is s ps are = sym (carried s ps are (length s.text) Right (omega arith))
 
 -- no offset has a place behind the last one
 pub back-past : (s : Source) (p : ℕ) (bias : Bias) → length (shown_text s) < p → IsBack s p bias None

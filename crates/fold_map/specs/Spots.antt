@@ -26,6 +26,15 @@ pub record IsSpotAt (ps : List (Piece Amount NoLoad)) (place : ℕ) (spot : Spot
 abbrev pub SpotFits : List (Piece Amount NoLoad) → ℕ → Type 0
 SpotFits ps place = (spot : Spot) → IsSpotAt ps place spot → spot.below < 2 ^ 32
 
+-- how many bytes are shown of so many
+abbrev pub shown_bytes : List (Piece Amount NoLoad) → ℕ → ℕ
+shown_bytes ps below = let sum = covered nothing together ps in below - sum.lower.bytes + sum.upper.bytes
+
+-- splices cover no more bytes, and what is shown is a u32
+pub record CoverBytes (ps : List (Piece Amount NoLoad)) (below : ℕ) : Type 0 where
+  pub within : (covered nothing together ps).lower.bytes ≤ below
+  pub fits : shown_bytes ps below < 2 ^ 32
+
 -- There are as many line feeds behind what splices cover as in the layer below. The offsets are those of the place below; one
 -- that is strictly inside a placeholder has none.
 pub record IsSpot (s : Source) (place : ℕ) (spot : Spot) : Type 0 where

@@ -3,7 +3,7 @@ use crate::amount::ByBytes;
 use crate::lines::{lines_shown, start_of};
 use crate::pieces::{LineBelow, hidden_piece};
 use crate::snapshot::FoldSnapshot;
-use crate::spots::spot_at;
+use crate::spots::{bytes_shown, spot_at};
 use cell_units::{Bias, Layer, NoMemory, Piece, Point, Steps};
 use std::alloc::Global;
 
@@ -28,9 +28,7 @@ impl<L: Layer> Layer for FoldSnapshot<L> {
     }
 
     fn length(&self) -> u32 {
-        let below = self.layer.length();
-        self.splices
-            .to_upper::<ByBytes>(below, Bias::Right, &mut Steps::new())
+        bytes_shown(&self.splices, self.layer.length())
     }
 
     fn lines(&self) -> u32 {
@@ -70,10 +68,7 @@ impl<L: Layer> Layer for FoldSnapshot<L> {
 
     fn back(&self, place: u32, bias: Bias) -> Option<u32> {
         let length = self.layer.length();
-        let last = self
-            .splices
-            .to_upper::<ByBytes>(length, Bias::Right, &mut Steps::new());
-        if place > last {
+        if place > bytes_shown(&self.splices, length) {
             return None;
         }
         let spot = spot_at(&self.splices, place, &mut Steps::new());

@@ -1,7 +1,7 @@
 //! Where a place of what is shown lies.
-ghost use Rattle.std.specs.Prelude.{◌≤◌, length};
+ghost use Rattle.std.specs.Prelude.{◌≡◌, ◌≤◌, length};
 ghost use Rattle.sum_tree.specs.Bounds.{TakesAtMost, way};
-ghost use Rattle.fold_map.specs.Spots.{IsSpotAt, SpotFits};
+ghost use Rattle.fold_map.specs.Spots.{CoverBytes, IsSpotAt, SpotFits, shown_bytes};
 
 use crate::amount::{Amount, ByBytes};
 use cell_units::{Bias, Steps};
@@ -37,4 +37,13 @@ pub(crate) fn spot_at(splices: &SpliceTree<Amount, NoLoad>, place: u32, steps: &
         before: found.before,
         is_hidden,
     }
+}
+
+/// How many bytes are shown, by how many the lower layer shows.
+pub(crate) fn bytes_shown(splices: &SpliceTree<Amount, NoLoad>, below: u32) -> u32
+    requires { CoverBytes splices.now below }
+    ensures { result ≡ shown_bytes splices.now below }
+{
+    let sum = splices.sum();
+    below - sum.lower.bytes + sum.upper.bytes
 }

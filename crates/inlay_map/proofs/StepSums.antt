@@ -16,35 +16,34 @@ use Rattle.inlay_map.specs.Bounds.{met}
 use Rattle.inlay_map.specs.Splices.{inlay_of}
 use Rattle.inlay_map.proofs.Spread.{IsSpread}
 
-pub respliced-steps : (k h a o b c d : ℕ) → o ≤ a + (h + 1) → b ≤ o + k * (5 * (h + 1)) → c ≤ b + 5 * (h + 1) → d ≤ c + (161 * h + (88 + 4 * (k + 2))) → d ≤ a + 180 * (k + 1) * (h + 1)
+pub respliced-steps : (k h a o b c d : ℕ) → o ≤ a + (h + 1) → b ≤ o + k * (2 * (h + 1)) → c ≤ b + 2 * (h + 1) → d ≤ c + (161 * h + (88 + 4 * (k + 2))) → d ≤ a + 164 * (k + 1) * (h + 1)
 respliced-steps k h a o b c d zeroth first second third =
     let x = h + 1 in
     let p = (k + 1) * x in
-    let whole : 180 * (k + 1) * x ≡ 180 * p = mul_assoc 180 (k + 1) x in
-    let fives : k * (5 * x) ≡ 5 * (k * x) = sym (mul_assoc k 5 x) ∙ ap (λ n. n * x) (omega arith) ∙ mul_assoc 5 k x in
+    let whole : 164 * (k + 1) * x ≡ 164 * p = mul_assoc 164 (k + 1) x in
+    let twos : k * (2 * x) ≡ 2 * (k * x) = sym (mul_assoc k 2 x) ∙ ap (λ n. n * x) (omega arith) ∙ mul_assoc 2 k x in
     let one : p ≡ k * x + x = add-mul k 1 x ∙ ap (λ n. k * x + n) (one-mul x) in
-    let high : 1 * x ≤ p = mul-le 1 x (k + 1) x (omega arith) (omega arith) in
-    let long : (k + 1) * 1 ≤ p = mul-le (k + 1) 1 (k + 1) x (omega arith) (omega arith) in
-    omega (arith, zeroth, first, second, third, whole, fives, one, high, long)
+    let long : k * 1 ≤ k * x = mul-le k 1 k x (omega arith) (omega arith) in
+    omega (arith, zeroth, first, second, third, whole, twos, one, long)
 
 -- the inlays that are met are found and moved, and their splices made anew
-pub moved-steps : (k h a b c d e : ℕ) → b ≤ a + (h + 1) → c ≤ b + (h + 1) → d ≤ c + 170 * (h + 1) * (k + 1) → e ≤ d + 180 * (k + 1) * (h + 1) → e ≤ a + 355 * (k + 1) * (h + 1)
+pub moved-steps : (k h a b c d e : ℕ) → b ≤ a + (h + 1) → c ≤ b + (h + 1) → d ≤ c + 170 * (h + 1) * (k + 1) → e ≤ d + 164 * (k + 1) * (h + 1) → e ≤ a + 336 * (k + 1) * (h + 1)
 moved-steps k h a b c d e first second third fourth =
     let x = h + 1 in
     let p = (k + 1) * x in
-    let whole : 355 * (k + 1) * x ≡ 355 * p = mul_assoc 355 (k + 1) x in
-    let splices : 180 * (k + 1) * x ≡ 180 * p = mul_assoc 180 (k + 1) x in
+    let whole : 336 * (k + 1) * x ≡ 336 * p = mul_assoc 336 (k + 1) x in
+    let splices : 164 * (k + 1) * x ≡ 164 * p = mul_assoc 164 (k + 1) x in
     let marks : 170 * x * (k + 1) ≡ 170 * p = mul_assoc 170 x (k + 1) ∙ ap (λ n. 170 * n) (mul_comm x (k + 1)) in
     let high : 1 * x ≤ p = mul-le 1 x (k + 1) x (omega arith) (omega arith) in
     omega (arith, first, second, third, fourth, whole, splices, marks, high)
 
 -- and then three places are looked up
-pub synced-steps : (k h a b c : ℕ) → b ≤ a + 355 * (k + 1) * (h + 1) → c ≤ b + 3 * (h + 1) → c ≤ a + 360 * (k + 1) * (h + 1)
+pub synced-steps : (k h a b c : ℕ) → b ≤ a + 336 * (k + 1) * (h + 1) → c ≤ b + 3 * (h + 1) → c ≤ a + 339 * (k + 1) * (h + 1)
 synced-steps k h a b c first second =
     let x = h + 1 in
     let p = (k + 1) * x in
-    let whole : 360 * (k + 1) * x ≡ 360 * p = mul_assoc 360 (k + 1) x in
-    let part : 355 * (k + 1) * x ≡ 355 * p = mul_assoc 355 (k + 1) x in
+    let whole : 339 * (k + 1) * x ≡ 339 * p = mul_assoc 339 (k + 1) x in
+    let part : 336 * (k + 1) * x ≡ 336 * p = mul_assoc 336 (k + 1) x in
     let high : 1 * x ≤ p = mul-le 1 x (k + 1) x (omega arith) (omega arith) in
     omega (arith, first, second, whole, part, high)
 

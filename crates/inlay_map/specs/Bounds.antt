@@ -28,19 +28,19 @@ Resplices cost m s old new = (h : ℕ) → IsHeight h s.text (length s.inlays) �
 
 -- a splice is measured behind the one before it: its inlay, and the row of that
 abbrev pub measuring : ℕ → ℕ
-measuring h = 5 * (h + 1)
+measuring h = 2 * (h + 1)
 
 -- k splices are measured and put in place, with the gap behind them
 abbrev pub resplicing : ℕ → ℕ → ℕ
-resplicing k h = 180 * (k + 1) * (h + 1)
+resplicing k h = 164 * (k + 1) * (h + 1)
 
 -- one inlay and its splice are put among the others, or taken from them
 abbrev pub putting : ℕ → ℕ
-putting h = 560 * (h + 1)
+putting h = 524 * (h + 1)
 
 -- and its id is judged before, and its places are looked up
 abbrev pub changing : ℕ → ℕ
-changing h = 600 * (h + 1)
+changing h = 529 * (h + 1)
 
 -- the inlays that a replacement meets: those at its ends and between them
 abbrev pub met : Reach → List Inlay → ℕ
@@ -53,8 +53,8 @@ met_by (Some s) inlays = met s inlays
 
 -- k inlays that a replacement of the text meets are moved one by one, and their splices made anew
 abbrev pub relaying : ℕ → ℕ → ℕ
-relaying k h = 355 * (k + 1) * (h + 1)
+relaying k h = 336 * (k + 1) * (h + 1)
 
 -- and what it replaces of what is shown is looked up
 abbrev pub syncing : ℕ → ℕ → ℕ
-syncing k h = 360 * (k + 1) * (h + 1)
+syncing k h = 339 * (k + 1) * (h + 1)

@@ -12,7 +12,7 @@ ghost use Rattle.inlay_map.specs.declared.amount.Amount.{Amount};
 ghost use Rattle.cell_units.specs.Text.{IsBoundary, clean, row_end, row_of, row_start};
 ghost use Rattle.cell_units.specs.declared.limits.TheConstants.{INLAY_LIMIT};
 ghost use Rattle.sum_tree.specs.Bounds.{Searches, TakesAtMost, way};
-ghost use Rattle.text_rope.specs.Bounds.{TakesOnText, ways};
+ghost use Rattle.text_rope.specs.Bounds.{TakesOnText};
 ghost use Rattle.mark_tree.specs.Bounds.{adding, moving, taking};
 ghost use Rattle.inlay_map.specs.Amounts.{amount_between, amount_of};
 ghost use Rattle.inlay_map.specs.Bounds.{Resplices, TakesInlaid, measuring, met, resplicing};
@@ -94,7 +94,7 @@ impl Inlaid {
         requires within { end ≤ length self.now.text }
         ensures amount { result ≡ amount_between self.now.text before.bytes end }
         ensures counted { steps.old ≤ steps.new }
-        ensures steps { TakesOnText (ways 4) self.now.text steps.old steps.new }
+        ensures steps { TakesOnText way self.now.text steps.old steps.new }
     {
         let row = self.rope.row_of(end, steps);
         Amount {
@@ -156,7 +156,7 @@ impl Inlaid {
     pub(crate) fn is_boundary(&self, offset: u32, steps: &mut Steps) -> bool
         ensures test { IsTrue result ↔ IsBoundary self.now.text offset }
         ensures counted { steps.old ≤ steps.new }
-        ensures steps { TakesOnText (ways 2) self.now.text steps.old steps.new }
+        ensures steps { TakesOnText way self.now.text steps.old steps.new }
     {
         self.rope.is_boundary(offset, steps)
     }

@@ -100,7 +100,7 @@ impl InlaySnapshot {
         ensures refusal { result ≡ add_refusal self.now id offset text.now }
         ensures counted { steps.old ≤ steps.new }
         ensures steps { let s = self.now in
-            SearchesOnce (ways 3) s.text (length s.inlays) steps.old steps.new }
+            SearchesOnce (ways 2) s.text (length s.inlays) steps.old steps.new }
     {
         // The text is UTF-8.
         let _len = self.inlaid.len();

@@ -1,7 +1,6 @@
 -- Sums of steps.
-use Rattle.std.proofs.Common.{◌≡◌, ℕ, ◌+◌, ◌-◌, ◌*◌, ◌/◌, ◌<◌, ◌≤◌, List, [], length, get_or, ap, ◌∙◌, inl, inr, arith}
+use Rattle.std.proofs.Common.{◌≡◌, ℕ, ◌+◌, ◌-◌, ◌*◌, ◌/◌, ◌<◌, ◌≤◌, List, [], length, get_or, ap, ◌∙◌, arith}
 use Rattle.std.proofs.Math.Nat.{add-mul, mul_assoc, one-mul}
-use Rattle.std.proofs.lemmas.Bool.{cases_lt}
 use Rattle.std.proofs.lemmas.List.Elements.{All-get_or}
 use Rattle.std.proofs.lemmas.Nat.{mul-le}
 use Rattle.text_rope.specs.Chunks.{AreFull, least}
@@ -15,27 +14,26 @@ one_turn at first x s0 s1 s2 order so_far more =
 pub turns_within : (n m x s0 s1 : ℕ) → n ≤ m → s1 ≤ s0 + n * x → s1 ≤ s0 + m * x
 turns_within n m x s0 s1 le so_far = omega (arith, so_far, mul-le n x m x le (omega arith))
 
--- a turn gathers the bytes of a chunk that isn't short, or of the only one
-pub turns_few : (chunks : List (List ℕ)) (at first n m : ℕ) → AreFull chunks → at < length chunks → first ≤ at → 60 * (at - first) ≤ n + 60 → m ≡ length (get_or chunks at []) → 60 * (at + 1 - first) ≤ n + m + 60
-turns_few chunks at first n m full within order few e = elim (cases_lt 1 (length chunks)) [
-  | inl more ↦ omega (arith, few, e, All-get_or (λ (c : List ℕ). least ≤ length c) chunks at [] within (full more))
-  | inr one ↦ omega (arith, few, within, one)
-]
+-- a turn gathers the bytes of a chunk behind another one, which isn't short
+pub turns_few : (chunks : List (List ℕ)) (at first k n m : ℕ) → AreFull chunks → at < length chunks → 0 < first → first ≤ at → 60 * (at - first) + k ≤ n → m ≡ length (get_or chunks at []) → 60 * (at + 1 - first) + k ≤ n + m
+turns_few chunks at first k n m full within some order few e =
+    let more : 1 < length chunks = omega (arith, within, some, order) in
+    omega (arith, few, order, e, All-get_or (λ (c : List ℕ). least ≤ length c) chunks at [] within (full more))
 
--- a turn for each 60 of the bytes of a slice and of its first chunk
-pub slice_steps : (n count h s0 s1 s2 : ℕ) → count ≤ n + 128 → s1 ≤ s0 + (h + 1) → s2 ≤ s1 + (count / 60 + 2) * (h + 1) → s2 ≤ s0 + 7 * (n / 64 + 1) * (h + 1)
-slice_steps n count h s0 s1 s2 le first then =
+-- a way to the first chunk of a slice, and one for each 60 of the bytes behind that and for what is left of them
+pub slice_steps : (n more h s0 s1 s2 : ℕ) → more ≤ n → s1 ≤ s0 + (h + 1) → s2 ≤ s1 + (more / 60 + 1) * (h + 1) → s2 ≤ s0 + 3 * (n / 64 + 1) * (h + 1)
+slice_steps n more h s0 s1 s2 le first then =
     let x = h + 1 in
-    let turns : count / 60 + 3 ≤ 7 * (n / 64 + 1) = omega (arith, le) in
-    let most : (count / 60 + 3) * x ≤ 7 * (n / 64 + 1) * x = mul-le (count / 60 + 3) x (7 * (n / 64 + 1)) x turns (omega arith) in
-    let split : (count / 60 + 3) * x ≡ (count / 60 + 2) * x + x = ap (λ (k : ℕ). k * x) (omega arith) ∙ add-mul (count / 60 + 2) 1 x ∙ ap (λ (k : ℕ). (count / 60 + 2) * x + k) (one-mul x) in
+    let turns : more / 60 + 2 ≤ 3 * (n / 64 + 1) = omega (arith, le) in
+    let most : (more / 60 + 2) * x ≤ 3 * (n / 64 + 1) * x = mul-le (more / 60 + 2) x (3 * (n / 64 + 1)) x turns (omega arith) in
+    let split : (more / 60 + 2) * x ≡ (more / 60 + 1) * x + x = ap (λ (k : ℕ). k * x) (omega arith) ∙ add-mul (more / 60 + 1) 1 x ∙ ap (λ (k : ℕ). (more / 60 + 1) * x + k) (one-mul x) in
     omega (arith, first, then, most, split)
 
 -- a turn for each chunk that is made, of which there are few
-pub replace_steps : (n k h s0 s1 s2 s3 : ℕ) → 60 * k ≤ n + 572 → s1 ≤ s0 + 4 * (h + 1) → s2 ≤ s1 + 6 * (h + 1) → s3 ≤ s2 + (160 * h + (87 + 4 * (k + 1))) → s3 ≤ s0 + 180 * (n / 64 + 1) * (h + 1)
-replace_steps n k h s0 s1 s2 s3 few first second third =
+pub replace_steps : (n k h s0 s1 s2 : ℕ) → 60 * k ≤ n + 572 → s1 ≤ s0 + 6 * (h + 1) → s2 ≤ s1 + (160 * h + (87 + 4 * (k + 1))) → s2 ≤ s0 + 166 * (n / 64 + 1) * (h + 1)
+replace_steps n k h s0 s1 s2 few first second =
     let p = (n / 64 + 1) * (h + 1) in
     let high : 1 * (h + 1) ≤ p = mul-le 1 (h + 1) (n / 64 + 1) (h + 1) (omega arith) (omega arith) in
     let long : (n / 64 + 1) * 1 ≤ p = mul-le (n / 64 + 1) 1 (n / 64 + 1) (h + 1) (omega arith) (omega arith) in
-    let whole : 180 * (n / 64 + 1) * (h + 1) ≡ 180 * p = mul_assoc 180 (n / 64 + 1) (h + 1) in
-    omega (arith, few, first, second, third, high, long, whole)
+    let whole : 166 * (n / 64 + 1) * (h + 1) ≡ 166 * p = mul_assoc 166 (n / 64 + 1) (h + 1) in
+    omega (arith, few, first, second, high, long, whole)

@@ -8,6 +8,7 @@ pub mod Cuts
 pub mod Fullness
 pub mod Places
 pub mod Renewals
+pub mod Replaced
 pub mod Nearest
 pub mod Bounds
 pub mod RowFinds

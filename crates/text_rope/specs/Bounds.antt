@@ -14,14 +14,14 @@ ChangesText cost before after old new = (h : ℕ) → HasHeight h before → Has
 abbrev pub ways : ℕ → ℕ → ℕ
 ways count h = count * (h + 1)
 
--- n bytes are read: one way to each of their chunks, of which all but the last have at least 60 bytes
+-- n bytes are read: one way to each of their chunks, of which all but the first and the last have at least 60 of them
 abbrev pub slicing : ℕ → ℕ → ℕ
-slicing n h = 7 * (n / 64 + 1) * (h + 1)
+slicing n h = 3 * (n / 64 + 1) * (h + 1)
 
 -- a row of n bytes is read: its two ends are found, and then it is a slice
 abbrev pub reading_row : ℕ → ℕ → ℕ
-reading_row n h = 11 * (n / 64 + 1) * (h + 1)
+reading_row n h = 5 * (n / 64 + 1) * (h + 1)
 
 -- n bytes take the place of a range: its ends are found and judged, and one run of chunks is made anew
 abbrev pub replacing : ℕ → ℕ → ℕ
-replacing n h = 180 * (n / 64 + 1) * (h + 1)
+replacing n h = 166 * (n / 64 + 1) * (h + 1)

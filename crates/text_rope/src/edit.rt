@@ -1,19 +1,22 @@
 //! How a range of a text is replaced: by making anew the one chunk in which it lies, where that chunk stays neither short
 //! nor too long, and else the chunks that it meets, with a neighbour on each side.
-ghost use Rattle.std.specs.Prelude.{◌≡◌, ◌+◌, ◌*◌, ◌≤◌, ◌<◌, ◌++◌, ◌^◌, ◌↔◌, [], ℕ, length, slice_index_or, string_bytes, IfOk, IfErr, IfNone, IfSome, IsTrue};
+ghost use Rattle.std.specs.Prelude.{◌≡◌, ◌+◌, ◌*◌, ◌≤◌, ◌<◌, ◌++◌, ◌^◌, ◌↔◌, [], ℕ, length, slice_index_or, string_bytes, IfOk, IfErr, IfNone, IfSome, IsTrue, OnOk};
 ghost use Rattle.std.specs.List.{concat};
-ghost use Rattle.cell_units.specs.Text.{IsBoundary};
+ghost use Rattle.cell_units.specs.Operation.{replaced_text};
+ghost use Rattle.cell_units.specs.Text.{IsBoundary, clean};
+ghost use Rattle.cell_units.specs.declared.limits.TheConstants.{TEXT_LIMIT};
 ghost use Rattle.edit_patch.specs.Fits.{replacement};
 ghost use Rattle.sum_tree.specs.Bounds.{way};
 ghost use Rattle.text_rope.specs.Bounds.{TakesOnText, ways};
 ghost use Rattle.text_rope.specs.Chunks.{IsChunk, IsNoChunk};
-ghost use Rattle.text_rope.specs.Edits.{IsNeighbourBefore, IsNeighbourBehind, IsPartBefore, IsPartBehind, IsRange, IsRenewed};
+ghost use Rattle.text_rope.specs.Edits.{IsNeighbourBefore, IsNeighbourBehind, IsPartBefore, IsPartBehind, IsRange, IsRenewed, IsReplaceFault};
 ghost use Rattle.text_rope.specs.Finds.{IsBefore};
 ghost use Rattle.text_rope.specs.Ropes.{IsRope};
 
 use crate::chunk::{CHUNK_BYTES, Chunk, LEAST_BYTES, chunks_of};
 use crate::find::{Found, found_at, is_boundary, text_at};
-use cell_units::{Fault, NoMemory, Steps};
+use cell_units::limits::TEXT_LIMIT;
+use cell_units::{Fault, NoMemory, Refusal, Steps, cleaned};
 use edit_patch::{Edit, Patch};
 use std::alloc::Global;
 use sum_tree::SumTree;
@@ -72,7 +75,7 @@ fn part_before(
     requires boundary { IsBoundary (concat chunks.now) offset }
     ensures part { IfOk result (λ p. IsPartBefore chunks.now offset p.at (string_bytes p.text)) }
     ensures counted { steps.old ≤ steps.new }
-    ensures steps { TakesOnText (ways 3) (concat chunks.now) steps.old steps.new }
+    ensures steps { TakesOnText (ways 2) (concat chunks.now) steps.old steps.new }
 {
     let found = found_at(chunks, offset, steps);
     let (at, neighbour) = neighbour_before(chunks, found.before.chunks, steps);
@@ -179,7 +182,7 @@ pub(crate) fn renewal_of(
     requires range { IsRange (concat chunks.now) start end }
     ensures renewed { IfOk result (λ r. IsRenewed chunks.now start end text.now r.from r.to r.chunks.items) }
     ensures counted { steps.old ≤ steps.new }
-    ensures steps { TakesOnText (ways 6) (concat chunks.now) steps.old steps.new }
+    ensures steps { TakesOnText (ways 4) (concat chunks.now) steps.old steps.new }
 {
     let found = found_at(chunks, end, steps);
     if let Some(renewal) = renewal_within(alloc, chunks, start, end, text, found)? {
@@ -202,7 +205,7 @@ pub(crate) fn is_range(chunks: &SumTree<Chunk>, start: u32, end: u32, steps: &mu
     requires { IsRope chunks.now }
     ensures test { IsTrue result ↔ IsRange (concat chunks.now) start end }
     ensures counted { steps.old ≤ steps.new }
-    ensures steps { TakesOnText (ways 4) (concat chunks.now) steps.old steps.new }
+    ensures steps { TakesOnText (ways 2) (concat chunks.now) steps.old steps.new }
 {
     if end < start {
         return false;
@@ -221,6 +224,43 @@ pub(crate) fn is_range(chunks: &SumTree<Chunk>, start: u32, end: u32, steps: &mu
     // Both lie in one chunk.
     let first = (start - found.before.bytes) as usize;
     found.text.is_char_boundary(first)
+}
+
+/// The chunks that hold the text, with its line breaks cleaned, in the place of the range, and the patch that tells of that.
+/// `BadRange` where that is no range of the text, and else `TooLong` where the new text would be too long.
+pub(crate) fn renewed(
+    alloc: Global,
+    chunks: &SumTree<Chunk>,
+    start: u32,
+    end: u32,
+    text: &str,
+    steps: &mut Steps,
+) -> Result<(Renewal, Patch), Fault>
+    requires { IsRope chunks.now }
+    ensures range { OnOk result (IsRange (concat chunks.now) start end) }
+    ensures small { let made = replaced_text (concat chunks.now) start end (clean text.now) in
+        OnOk result (length made ≤ TEXT_LIMIT) }
+    ensures renewed { let put = clean text.now in
+        IfOk result (λ r. let new = r.0 in
+        IsRenewed chunks.now start end put new.from new.to new.chunks.items) }
+    ensures patch { let count = length (clean text.now) in
+        IfOk result (λ r. r.1 ≡ replacement start end count) }
+    ensures refused { let put = clean text.now in
+        IfErr result (IsReplaceFault (concat chunks.now) start end put) }
+    ensures counted { steps.old ≤ steps.new }
+    ensures steps { TakesOnText (ways 6) (concat chunks.now) steps.old steps.new }
+{
+    if !is_range(chunks, start, end, steps) {
+        return Err(Fault::Refused(Refusal::BadRange));
+    }
+    let text = cleaned(alloc, text)?;
+    let kept = (chunks.sum().bytes - (end - start)) as usize;
+    if text.len() > TEXT_LIMIT - kept {
+        return Err(Fault::Refused(Refusal::TooLong));
+    }
+    let patch = patch_of(alloc, start, end, text.len() as u32)?;
+    let new = renewal_of(alloc, chunks, start, end, text.as_str(), steps)?;
+    Ok((new, patch))
 }
 
 /// The patch that puts `count` bytes in the place of the range; no edit where nothing replaces nothing.

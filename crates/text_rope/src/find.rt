@@ -1,5 +1,5 @@
 //! The chunk in which an offset lies, and what is found there.
-ghost use Rattle.std.specs.Prelude.{◌≡◌, ◌+◌, ◌*◌, ◌/◌, ◌≤◌, ◌↔◌, [], ℕ, length, drop, string_bytes, slice_index_or, count_by, unwrap_or, IfOk, IsTrue};
+ghost use Rattle.std.specs.Prelude.{◌≡◌, ◌+◌, ◌-◌, ◌*◌, ◌/◌, ◌≤◌, ◌↔◌, [], ℕ, length, drop, string_bytes, slice_index_or, count_by, unwrap_or, IfOk, IsTrue};
 ghost use Rattle.std.specs.List.{concat};
 ghost use Rattle.std.specs.Option.{option_copied};
 ghost use Rattle.cell_units.specs.Text.{IsBoundary, is_feed, row_of};
@@ -68,7 +68,7 @@ pub(crate) fn is_boundary(chunks: &SumTree<Chunk>, offset: u32, steps: &mut Step
     requires { IsRope chunks.now }
     ensures test { IsTrue result ↔ IsBoundary (concat chunks.now) offset }
     ensures counted { steps.old ≤ steps.new }
-    ensures steps { TakesOnText (ways 2) (concat chunks.now) steps.old steps.new }
+    ensures steps { TakesOnText way (concat chunks.now) steps.old steps.new }
 {
     if offset > chunks.sum().bytes {
         return false;
@@ -89,7 +89,7 @@ pub(crate) fn near_boundary(
     requires within { offset ≤ length (concat chunks.now) }
     ensures near { IsNearBoundary (concat chunks.now) offset bias result }
     ensures counted { steps.old ≤ steps.new }
-    ensures steps { TakesOnText (ways 2) (concat chunks.now) steps.old steps.new }
+    ensures steps { TakesOnText way (concat chunks.now) steps.old steps.new }
 {
     let found = found_at(chunks, offset, steps);
     let at = (offset - found.before.bytes) as usize;
@@ -106,30 +106,34 @@ pub(crate) fn row_at(chunks: &SumTree<Chunk>, offset: u32, steps: &mut Steps) ->
     requires within { offset ≤ length (concat chunks.now) }
     ensures row { result ≡ row_of (concat chunks.now) offset }
     ensures counted { steps.old ≤ steps.new }
-    ensures steps { TakesOnText (ways 2) (concat chunks.now) steps.old steps.new }
+    ensures steps { TakesOnText way (concat chunks.now) steps.old steps.new }
 {
     let found = found_at(chunks, offset, steps);
     let front = &found.text.as_bytes()[..(offset - found.before.bytes) as usize];
     found.before.feeds + count_feeds(front)
 }
 
-/// The text from the chunk at place `first` on, up to the end of the chunk with which it has `count` bytes.
+/// The text from the chunk that was found on, up to the end of the chunk with which it has `count` bytes.
 pub(crate) fn gather(
     alloc: Global,
     chunks: &SumTree<Chunk>,
-    first: u32,
+    found: Found,
     count: usize,
     steps: &mut Steps,
 ) -> Result<String, NoMemory>
     requires rope { IsRope chunks.now }
-    requires some { count ≤ length (concat (drop first chunks.now)) }
-    ensures front { IfOk result (λ s. IsFront (string_bytes s) (concat (drop first chunks.now))) }
+    requires within { found.before.chunks ≤ length chunks.now }
+    requires here { found.text.now ≡ slice_index_or chunks.now found.before.chunks [] }
+    requires some { count ≤ length (concat (drop found.before.chunks chunks.now)) }
+    ensures front { let rest = concat (drop found.entry.before.chunks chunks.now) in
+        IfOk result (λ s. IsFront (string_bytes s) rest) }
     ensures enough { IfOk result (λ s. count ≤ length (string_bytes s)) }
     ensures counted { steps.old ≤ steps.new }
-    ensures steps { TakesOnText (ways (count / 60 + 2)) (concat chunks.now) steps.old steps.new }
+    ensures steps { let more = count - length found.entry.text.now in
+        TakesOnText (ways (more / 60 + 1)) (concat chunks.now) steps.old steps.new }
 {
-    let mut text = String::new(alloc);
-    let mut at = first;
+    let mut text = String::from_str(alloc, found.text)?;
+    let mut at = found.before.chunks + 1;
     while text.len() < count {
         match chunks.get(at, steps) {
             None => return Ok(text),

@@ -6,19 +6,18 @@ ghost use Rattle.cell_units.specs.Layers.{point_of};
 ghost use Rattle.cell_units.specs.Operation.{replaced_text};
 ghost use Rattle.cell_units.specs.Record.{line_count};
 ghost use Rattle.cell_units.specs.Text.{IsBoundary, IsText, clean, row_of};
+ghost use Rattle.sum_tree.specs.Bounds.{way};
 ghost use Rattle.text_rope.specs.Bounds.{ChangesText, TakesOnText, reading_row, replacing, slicing, ways};
-ghost use Rattle.text_rope.specs.Edits.{IsReplaceFault, IsReplaced};
+ghost use Rattle.text_rope.specs.Edits.{IsRange, IsReplaceFault, IsReplaced};
 ghost use Rattle.cell_units.specs.Points.{offset_at};
 ghost use Rattle.cell_units.specs.Refusal.{IsAccepted, IsTextRefused};
 
 use crate::chunk::{Chunk, chunks_of};
-use crate::edit::{is_range, patch_of, renewal_of};
+use crate::edit::{is_range, renewed};
 use crate::find::{found_at, gather, is_boundary, near_boundary, row_at};
-use crate::rows::{end_of_row, point_at, range_of_row, start_of_row};
+use crate::rows::{point_at, range_of_row, start_of_row};
 use cell_units::limits::TEXT_LIMIT;
-use cell_units::{
-    Bias, Fault, NoMemory, Point, Refusal, Steps, Text, TextFault, cleaned, read_text,
-};
+use cell_units::{Bias, Fault, NoMemory, Point, Steps, Text, TextFault, cleaned, read_text};
 use edit_patch::Patch;
 use std::alloc::Global;
 use std::marker::Model;
@@ -100,28 +99,47 @@ impl Rope {
         ensures counted { steps.old ≤ steps.new }
         ensures steps { ChangesText (replacing (length (clean text.now))) self.old (replaced_text self.old start end (clean text.now)) steps.old steps.new }
     {
-        if !is_range(&self.chunks, start, end, steps) {
-            return Err(Fault::Refused(Refusal::BadRange));
-        }
-        let text = cleaned(alloc, text)?;
-        let kept = (self.chunks.sum().bytes - (end - start)) as usize;
-        if text.len() > TEXT_LIMIT - kept {
-            return Err(Fault::Refused(Refusal::TooLong));
-        }
-        let patch = patch_of(alloc, start, end, text.len() as u32)?;
-        let new = renewal_of(alloc, &self.chunks, start, end, text.as_str(), steps)?;
+        let (new, patch) = renewed(alloc, &self.chunks, start, end, text, steps)?;
         self.chunks
             .replace(alloc, new.from, new.to, new.chunks, steps)?;
         Ok(patch)
+    }
+
+    /// The text after such a replacement, and the patch that tells of it. This one stays as it is.
+    pub fn replaced(
+        &self,
+        alloc: Global,
+        start: u32,
+        end: u32,
+        text: &str,
+        steps: &mut Steps,
+    ) -> Result<(Rope, Patch), Fault>
+        ensures cases { MatchResult result (λ made. IsReplaced self.now start end (clean text.now) made.0 made.1) (IsReplaceFault self.now start end (clean text.now)) }
+        ensures counted { steps.old ≤ steps.new }
+        ensures steps { ChangesText (replacing (length (clean text.now))) self.now (replaced_text self.now start end (clean text.now)) steps.old steps.new }
+    {
+        let (new, patch) = renewed(alloc, &self.chunks, start, end, text, steps)?;
+        let mut chunks = self.chunks.share()?;
+        chunks.replace(alloc, new.from, new.to, new.chunks, steps)?;
+        Ok((Rope { chunks }, patch))
     }
 
     /// Whether the offset is a boundary: not past the text's end, and not inside a character.
     pub fn is_boundary(&self, offset: u32, steps: &mut Steps) -> bool
         ensures test { IsTrue result ↔ IsBoundary self.now offset }
         ensures counted { steps.old ≤ steps.new }
-        ensures steps { TakesOnText (ways 2) self.now steps.old steps.new }
+        ensures steps { TakesOnText way self.now steps.old steps.new }
     {
         is_boundary(&self.chunks, offset, steps)
+    }
+
+    /// Whether the range is one of boundaries, of which the first isn't past the second.
+    pub fn is_range(&self, start: u32, end: u32, steps: &mut Steps) -> bool
+        ensures test { IsTrue result ↔ IsRange self.now start end }
+        ensures counted { steps.old ≤ steps.new }
+        ensures steps { TakesOnText (ways 2) self.now steps.old steps.new }
+    {
+        is_range(&self.chunks, start, end, steps)
     }
 
     /// The first offset of a row.
@@ -129,7 +147,7 @@ impl Rope {
         requires { row < line_count self.now }
         ensures start { result ≡ line_start self.now row }
         ensures counted { steps.old ≤ steps.new }
-        ensures steps { TakesOnText (ways 2) self.now steps.old steps.new }
+        ensures steps { TakesOnText way self.now steps.old steps.new }
     {
         start_of_row(&self.chunks, row, steps)
     }
@@ -142,7 +160,7 @@ impl Rope {
         ensures end { IsBoundary self.now result.1 }
         ensures order { result.0 ≤ result.1 }
         ensures counted { steps.old ≤ steps.new }
-        ensures steps { TakesOnText (ways 4) self.now steps.old steps.new }
+        ensures steps { TakesOnText (ways 2) self.now steps.old steps.new }
     {
         range_of_row(&self.chunks, row, steps)
     }
@@ -152,7 +170,7 @@ impl Rope {
         requires { offset ≤ length self.now }
         ensures row { result ≡ row_of self.now offset }
         ensures counted { steps.old ≤ steps.new }
-        ensures steps { TakesOnText (ways 2) self.now steps.old steps.new }
+        ensures steps { TakesOnText way self.now steps.old steps.new }
     {
         row_at(&self.chunks, offset, steps)
     }
@@ -162,7 +180,7 @@ impl Rope {
         requires { offset ≤ length self.now }
         ensures point { result ≡ point_of self.now offset }
         ensures counted { steps.old ≤ steps.new }
-        ensures steps { TakesOnText (ways 4) self.now steps.old steps.new }
+        ensures steps { TakesOnText (ways 2) self.now steps.old steps.new }
     {
         point_at(&self.chunks, offset, steps)
     }
@@ -173,14 +191,13 @@ impl Rope {
         ensures offset { result ≡ offset_at self.now point bias }
         ensures boundary { IsBoundary self.now result }
         ensures counted { steps.old ≤ steps.new }
-        ensures steps { TakesOnText (ways 6) self.now steps.old steps.new }
+        ensures steps { TakesOnText (ways 3) self.now steps.old steps.new }
     {
         let sum = self.chunks.sum();
         if point.row > sum.feeds {
             return sum.bytes;
         }
-        let start = start_of_row(&self.chunks, point.row, steps);
-        let end = end_of_row(&self.chunks, point.row, steps);
+        let (start, end) = range_of_row(&self.chunks, point.row, steps);
         if point.column > end - start {
             return end;
         }
@@ -194,8 +211,7 @@ impl Rope {
         ensures counted { steps.old ≤ steps.new }
         ensures steps { TakesOnText (reading_row (line_end self.now row - line_start self.now row)) self.now steps.old steps.new }
     {
-        let start = start_of_row(&self.chunks, row, steps);
-        let end = end_of_row(&self.chunks, row, steps);
+        let (start, end) = range_of_row(&self.chunks, row, steps);
         self.slice(alloc, start, end, steps)
     }
 
@@ -220,7 +236,7 @@ impl Rope {
         if to <= found.text.len() {
             return Text::from_str(alloc, &found.text[from..to]);
         }
-        let text = gather(alloc, &self.chunks, found.before.chunks, to, steps)?;
+        let text = gather(alloc, &self.chunks, found, to, steps)?;
         Text::from_str(alloc, &text.as_str()[from..to])
     }
 }

@@ -106,7 +106,7 @@ pub(crate) fn start_of_row(chunks: &SumTree<Chunk>, row: u32, steps: &mut Steps)
     requires within { row ≤ count_by is_feed (concat chunks.now) }
     ensures start { result ≡ line_start (concat chunks.now) row }
     ensures counted { steps.old ≤ steps.new }
-    ensures steps { TakesOnText (ways 2) (concat chunks.now) steps.old steps.new }
+    ensures steps { TakesOnText way (concat chunks.now) steps.old steps.new }
 {
     if row == 0 {
         return 0;
@@ -121,7 +121,7 @@ pub(crate) fn point_at(chunks: &SumTree<Chunk>, offset: u32, steps: &mut Steps) 
     requires within { offset ≤ length (concat chunks.now) }
     ensures point { result ≡ point_of (concat chunks.now) offset }
     ensures counted { steps.old ≤ steps.new }
-    ensures steps { TakesOnText (ways 3) (concat chunks.now) steps.old steps.new }
+    ensures steps { TakesOnText (ways 2) (concat chunks.now) steps.old steps.new }
 {
     let found = found_at(chunks, offset, steps);
     let front = &found.text.as_bytes()[..(offset - found.before.bytes) as usize];
@@ -146,7 +146,7 @@ pub(crate) fn end_of_row(chunks: &SumTree<Chunk>, row: u32, steps: &mut Steps) -
     requires within { row ≤ count_by is_feed (concat chunks.now) }
     ensures end { result ≡ line_end (concat chunks.now) row }
     ensures counted { steps.old ≤ steps.new }
-    ensures steps { TakesOnText (ways 2) (concat chunks.now) steps.old steps.new }
+    ensures steps { TakesOnText way (concat chunks.now) steps.old steps.new }
 {
     let sum = chunks.sum();
     if row == sum.feeds {
@@ -163,7 +163,7 @@ pub(crate) fn range_of_row(chunks: &SumTree<Chunk>, row: u32, steps: &mut Steps)
     ensures start { result.0 ≡ line_start (concat chunks.now) row }
     ensures end { result.1 ≡ line_end (concat chunks.now) row }
     ensures counted { steps.old ≤ steps.new }
-    ensures steps { TakesOnText (ways 3) (concat chunks.now) steps.old steps.new }
+    ensures steps { TakesOnText (ways 2) (concat chunks.now) steps.old steps.new }
 {
     if row == 0 {
         return (0, end_of_row(chunks, row, steps));

@@ -74,15 +74,15 @@ returns-clause-ok c =
 
 -- ---- steps
 
-measured : (c : In_ok-fresh) (h : ℕ) → IsHeight h c.args.self.now.text (length c.args.self.now.inlays) → c.splices_in.new.steps ≤ c.find_at.new.steps + c.args.run.count * (5 * (h + 1))
+measured : (c : In_ok-fresh) (h : ℕ) → IsHeight h c.args.self.now.text (length c.args.self.now.inlays) → c.splices_in.new.steps ≤ c.find_at.new.steps + c.args.run.count * (2 * (h + 1))
 measured c h high =
     let size : c.args.run.start + c.args.run.count - c.args.run.start ≡ c.args.run.count = omega arith in
-    subst (λ (n : ℕ). c.splices_in.new.steps ≤ c.find_at.new.steps + n * (5 * (h + 1))) size (c.splices_in.ensures.steps h high)
+    subst (λ (n : ℕ). c.splices_in.new.steps ≤ c.find_at.new.steps + n * (2 * (h + 1))) size (c.splices_in.ensures.steps h high)
 
 pub returns-in_err-fresh-clause-steps : goal.returns-in_err-fresh-clause-steps
 returns-in_err-fresh-clause-steps c h high low =
     let size : c.args.run.start + c.args.run.count - c.args.run.start ≡ c.args.run.count = omega arith in
-    let first = subst (λ (n : ℕ). c.splices_in.new.steps ≤ c.find_at.new.steps + n * (5 * (h + 1))) size (c.splices_in.ensures.steps h high) in
+    let first = subst (λ (n : ℕ). c.splices_in.new.steps ≤ c.find_at.new.steps + n * (2 * (h + 1))) size (c.splices_in.ensures.steps h high) in
     respliced-steps c.args.run.count h c.args.steps.now c.find_at.new.steps c.splices_in.new.steps c.splices_in.new.steps c.splices_in.new.steps (c.find_at.ensures.steps h low) first (omega arith) (omega arith)
 
 pub returns-in_err-splices-clause-steps : goal.returns-in_err-splices-clause-steps

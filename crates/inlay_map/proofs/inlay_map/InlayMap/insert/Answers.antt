@@ -85,7 +85,7 @@ returns-clause-accepted c =
 -- ---- steps
 
 judged : (c : After-refusal_to_add) (h : ℕ) → IsHeight h c.args.self.now.current.text (length c.args.self.now.current.inlays + 1)
-    → 5 * c.refusal_to_add.new.steps ≤ 5 * c.args.steps.now + (length c.args.self.now.current.inlays + 5 * (3 * (h + 1)))
+    → 5 * c.refusal_to_add.new.steps ≤ 5 * c.args.steps.now + (length c.args.self.now.current.inlays + 5 * (2 * (h + 1)))
 judged c h high =
     let same : length c.self.inside.current.inlays ≡ length c.args.self.now.current.inlays = ap (λ (s : InlayState). length s.current.inlays) c.self.view_is in
     omega (
@@ -101,7 +101,7 @@ pub returns-in_err-new-clause-steps : goal.returns-in_err-new-clause-steps
 returns-in_err-new-clause-steps c h high = omega (arith, judged (goal.at.returns-in_err-new-clause-steps c).After-refusal_to_add h high)
 
 placed : (c : After-added) (h : ℕ) → IsHeight h c.args.self.now.current.text (length c.args.self.now.current.inlays + 1)
-    → c.added.new.steps ≤ c.refusal_to_add.new.steps + 560 * (h + 1)
+    → c.added.new.steps ≤ c.refusal_to_add.new.steps + 524 * (h + 1)
 placed c h high =
     let same : length c.self.inside.current.inlays ≡ length c.args.self.now.current.inlays = ap (λ (s : InlayState). length s.current.inlays) c.self.view_is in
     omega (

@@ -87,7 +87,7 @@ returns-in_err-next-clause-steps c h high =
     let k = met (reach_of c.args.shift) c.self.inside.current.inlays in
     let here : k ≡ met (reach_of c.args.shift) c.args.self.now.current.inlays = ap (λ (s : InlayState). met (reach_of c.args.shift) s.current.inlays) c.self.view_is in
     let first = c.moved.ensures.steps h (subst (λ (s : InlayState). IsHeight h c.args.rope (length s.current.inlays)) (sym c.self.view_is) high) in
-    subst (λ (n : ℕ). c.moved.new.steps ≤ c.args.steps.now + 360 * (n + 1) * (h + 1)) here
+    subst (λ (n : ℕ). c.moved.new.steps ≤ c.args.steps.now + 339 * (n + 1) * (h + 1)) here
     (synced-steps k h c.args.steps.now c.moved.new.steps c.moved.new.steps first (omega arith))
 
 pub returns-clause-steps : goal.returns-clause-steps
@@ -99,6 +99,6 @@ returns-clause-steps c h high =
     let high' = subst (λ (v : InlayState). IsHeight h c.args.rope (length v.current.inlays)) (sym c.self.view_is) high in
     let long : length c.in_ok-next.next.inlays ≡ length m.inlays =
     ap (λ (v : Source). length v.inlays) c.in_ok-next.ensures.ok ∙ sorting.length-sort inlay_le (map (move_inlay s.start s.end s.count) m.inlays) ∙ length-map m.inlays (move_inlay s.start s.end s.count) in
-    subst (λ (n : ℕ). c.shift_over-moved.new.steps ≤ c.args.steps.now + 360 * (n + 1) * (h + 1)) here
+    subst (λ (n : ℕ). c.shift_over-moved.new.steps ≤ c.args.steps.now + 339 * (n + 1) * (h + 1)) here
     (synced-steps k h c.args.steps.now c.moved.new.steps c.shift_over-moved.new.steps (c.moved.ensures.steps h high')
     (c.shift_over-moved.ensures.steps h high'.1 (subst (λ (n : ℕ). n < 2 * 6 ^ (h + 1)) (sym long) high'.1)))

@@ -86,7 +86,7 @@ whole c h high =
       ap (λ (s : Source). length s.inlays) c.self.view_is,
     ) in
     let spliced =
-    subst (λ (n : ℕ). c.respliced.new.steps ≤ c.add.new.steps + 180 * (n + 1) * (h + 1)) c.new.ensures.count
+    subst (λ (n : ℕ). c.respliced.new.steps ≤ c.add.new.steps + 164 * (n + 1) * (h + 1)) c.new.ensures.count
     (c.respliced.ensures.steps h (subst (HasHeight h) (sym text) high.0, subst (λ (n : ℕ). n < 2 * 6 ^ (h + 1)) (sym more) high.1) few) in
     omega (arith, c.add.ensures.steps h (omega (arith, high.1, same)), spliced, same)
 

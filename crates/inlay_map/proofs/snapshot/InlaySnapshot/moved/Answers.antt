@@ -119,12 +119,12 @@ returns-in_err-inlaid-clause-steps c h high =
     let b = (goal.at.returns-in_err-inlaid-clause-steps c).After-len-len in
     let a = (goal.at.returns-in_err-inlaid-clause-steps c).After-moved in
     let k = met (reach_of c.args.shift) c.self.inside.inlaid.inlays in
-    subst (λ (n : ℕ). c.moved.new.steps ≤ c.args.steps.now + 355 * (n + 1) * (h + 1)) (met-here b)
+    subst (λ (n : ℕ). c.moved.new.steps ≤ c.args.steps.now + 336 * (n + 1) * (h + 1)) (met-here b)
     (moved-steps k h c.args.steps.now c.index_from-first.new.steps c.index_from-last.new.steps c.moved.new.steps c.moved.new.steps
     (c.index_from-first.ensures.steps h (few b h high.1)) (c.index_from-last.ensures.steps h (few b h high.1)) (sought a h high.1) (omega arith))
 
 whole : (c : After-respliced) (h : ℕ) → IsRun c.args.shift c.self.inside.inlaid c.args.rope (first_from c.args.shift.start c.self.inside.inlaid.inlays) (first_from (c.args.shift.end + 1) c.self.inside.inlaid.inlays) (moved_inlays c.args.shift.start c.args.shift.end c.args.shift.count c.self.inside.inlaid.inlays)
-    → IsHeight h c.args.rope (length c.args.self.now.inlays) → c.respliced.new.steps ≤ c.args.steps.now + 355 * (met (reach_of c.args.shift) c.args.self.now.inlays + 1) * (h + 1)
+    → IsHeight h c.args.rope (length c.args.self.now.inlays) → c.respliced.new.steps ≤ c.args.steps.now + 336 * (met (reach_of c.args.shift) c.args.self.now.inlays + 1) * (h + 1)
 whole c h run high =
     let s = c.self.inside.inlaid in
     let k = met (reach_of c.args.shift) s.inlays in
@@ -135,8 +135,8 @@ whole c h run high =
     subst (λ (v : Source). IsHeight h v.text (length v.inlays)) (sym c.in_ok-inlaid.ensures.ok) (high.0, subst (λ (n : ℕ). n < 2 * 6 ^ (h + 1)) (sym run.long) lt) in
     let old : length c.self.inside.splices < 2 * 6 ^ (h + 1) =
     subst (λ (n : ℕ). n < 2 * 6 ^ (h + 1)) (sym (ap (λ (l : List (Piece Amount NoLoad)). length l) c.self.invariant ∙ length-splices s.text 0 s.inlays)) lt in
-    let spliced = subst (λ (n : ℕ). c.respliced.new.steps ≤ c.moved.new.steps + 180 * (n + 1) * (h + 1)) count (c.respliced.ensures.steps h new old) in
-    subst (λ (n : ℕ). c.respliced.new.steps ≤ c.args.steps.now + 355 * (n + 1) * (h + 1)) here
+    let spliced = subst (λ (n : ℕ). c.respliced.new.steps ≤ c.moved.new.steps + 164 * (n + 1) * (h + 1)) count (c.respliced.ensures.steps h new old) in
+    subst (λ (n : ℕ). c.respliced.new.steps ≤ c.args.steps.now + 336 * (n + 1) * (h + 1)) here
     (moved-steps k h c.args.steps.now c.index_from-first.new.steps c.index_from-last.new.steps c.moved.new.steps c.respliced.new.steps
     (c.index_from-first.ensures.steps h lt) (c.index_from-last.ensures.steps h lt) (c.moved.ensures.steps h lt) spliced)
 

@@ -5,7 +5,7 @@ use Rattle.std.proofs.lemmas.Result.{IfOk-weaker}
 use Rattle.text_rope.proofs.Parts.{IsPartAt, between_in, boundary_in, bytes_before, chunks_utf8, in_two, part_at}
 use Rattle.text_rope.specs.Ropes.{HasHeight}
 use Rattle.text_rope.proofs.Bounds.{slice_steps}
-use Rattle.text_rope.proofs.Places.{chunk_small, next_chunk, within_chunk}
+use Rattle.text_rope.proofs.Places.{next_chunk, within_chunk}
 use Rattle.text_rope.proofs.rope.Rope.slice.Goals as goal
 use Rattle.text_rope.proofs.rope.Rope.slice.Goals.{After-found_at-found, After-gather}
 
@@ -85,14 +85,16 @@ returns-clause-text c =
     ∙ between_in text m r.bytes c.args.start c.args.end part c.found_at-found.ensures.found.start c.requires.order c.in_ok-text.ensures.enough in
     IfOk-weaker c.from_str-2.result _ _ (λ t e. e ∙ between) c.from_str-2.ensures
 
--- what is gathered is little more than what is asked for
-steps : (c : After-gather) → (h : ℕ) → HasHeight h c.args.self.now → c.gather.new.steps ≤ c.args.steps.now + 7 * ((c.args.end - c.args.start) / 64 + 1) * (h + 1)
+-- what is gathered behind the first chunk is no more than what is asked for
+steps : (c : After-gather) → (h : ℕ) → HasHeight h c.args.self.now → c.gather.new.steps ≤ c.args.steps.now + 3 * ((c.args.end - c.args.start) / 64 + 1) * (h + 1)
 steps c h high =
     let chunks = c.self.inside.chunks in
     let r = c.found_at-found.result.before in
     let high' : HasHeight h (concat chunks) = subst (HasHeight h) (sym c.self.view_is) high in
-    let far : c.args.start - r.bytes ≤ 128 = omega (arith, within_chunk chunks c.args.start r c.found_at-found.ensures.found, chunk_small chunks r.chunks c.self.invariant.cut) in
-    slice_steps (c.args.end - c.args.start) (c.args.end - r.bytes) h c.args.steps.now c.found_at-found.new.steps c.gather.new.steps (omega (arith, far, c.requires.order)) (c.found_at-found.ensures.steps h high') (c.gather.ensures.steps h high')
+    let first = length c.found_at-found.result.text.now in
+    let far : c.args.start - r.bytes ≤ first = omega (arith, within_chunk chunks c.args.start r c.found_at-found.ensures.found, ap (λ (t : List ℕ). length t) c.found_at-found.ensures.here) in
+    let few : c.args.end - r.bytes - first ≤ c.args.end - c.args.start = omega (arith, far, c.requires.order) in
+    slice_steps (c.args.end - c.args.start) (c.args.end - r.bytes - first) h c.args.steps.now c.found_at-found.new.steps c.gather.new.steps few (c.found_at-found.ensures.steps h high') (c.gather.ensures.steps h high')
 
 pub returns-in_err-text-clause-steps : goal.returns-in_err-text-clause-steps
 returns-in_err-text-clause-steps c = steps (goal.at.returns-in_err-text-clause-steps c).After-gather
