@@ -1,8 +1,8 @@
 //! The stops of one side.
 ghost use Rattle.std.specs.Prelude.{ℕ, ◌↔◌, true, OnOk, OnErr, IfSome, ◌≡◌, ◌+◌, ◌<◌, ◌≤◌, ◌^◌, [], Some, length, map, slice_get, take, IfOk};
-ghost use Rattle.cell_units.specs.declared.place.Bias.TheVariants.{Left};
+ghost use Rattle.cell_units.specs.declared.place.Bias.TheVariants.{Left, Right};
 ghost use Rattle.sum_tree.specs.Bounds.{TakesAtMost, way};
-ghost use Rattle.block_map.specs.Bounds.{inserting, putting};
+ghost use Rattle.block_map.specs.Bounds.{both_ways, inserting, putting};
 ghost use Rattle.block_map.specs.RowCounts.{no_rows};
 ghost use Rattle.block_map.specs.Stops.{Stop, all_stop_rows, rows_upto, stands_before, texts_at};
 ghost use Rattle.block_map.specs.inside.RowMoves.{AreClear, moved_stop};
@@ -32,6 +32,13 @@ impl Model for Stops {
     ghost view = { λ s. stops_from 0 s.splices };
 
     ghost invariant = { λ s. AreStopPieces s.splices };
+}
+
+/// How many rows the stops before a place between rows of text have, and how many those at it.
+#[derive(Clone, Copy)]
+pub(crate) struct RowsAt {
+    pub(crate) before: u32,
+    pub(crate) count: u32,
 }
 
 impl Stops {
@@ -69,6 +76,44 @@ impl Stops {
         ensures steps { TakesAtMost way (length self.now) steps.old steps.new }
     {
         self.splices.to_upper::<ByRows>(row, bias, steps) - row
+    }
+
+    /// The rows of the stops behind so many rows of text.
+    pub(crate) fn rows_at(&self, row: u32, steps: &mut Steps) -> RowsAt
+        requires { row + rows_upto Right row self.now < 2 ^ 32 }
+        ensures before { result.before ≡ rows_upto Left row self.now }
+        ensures count { result.count ≡ length (texts_at row self.now) }
+        ensures counted { steps.old ≤ steps.new }
+        ensures steps { TakesAtMost both_ways (length self.now) steps.old steps.new }
+    {
+        let before = self.rows_upto(row, Bias::Left, steps);
+        let through = self.rows_upto(row, Bias::Right, steps);
+        RowsAt {
+            before,
+            count: through - before,
+        }
+    }
+
+    /// The end of the text rows behind one between which no stop stands: the row of the next stop, or `limit` where that is
+    /// before it.
+    pub(crate) fn clear_to(&self, row: u32, limit: u32, steps: &mut Steps) -> u32
+        requires { row < limit }
+        ensures some { row < result }
+        ensures within { result ≤ limit }
+        ensures clear { (t : ℕ) → row < t → t < result → texts_at t self.now ≡ [] }
+        ensures counted { steps.old ≤ steps.new }
+        ensures steps { TakesAtMost way (length self.now) steps.old steps.new }
+    {
+        let found = self
+            .splices
+            .find_lower::<ByRows>(row as u64, Bias::Right, steps);
+        match found.splice {
+            None => limit,
+            Some(splice) => {
+                let before = found.before.lower.rows;
+                limit.min(before.saturating_add(splice.gap().rows))
+            }
+        }
     }
 
     /// The text of a row of the stops behind so many rows of text. `before` is how many rows the stops before them have.
