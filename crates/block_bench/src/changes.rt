@@ -3,8 +3,9 @@
 use crate::looks::rows;
 use crate::text::{block_lines, scattered, side_of, start_of};
 use blocked_text::BlockedText;
-use cell_units::{Fault, NoMemory, Side, Steps, Text};
+use cell_units::{Bias, Fault, NoMemory, Point, Side, Steps, Text};
 use std::alloc::Global;
+use text_rope::Rope;
 use wrapped_text::WrappedText;
 
 /// The id of a block that is added and taken out again.
@@ -119,18 +120,72 @@ fn change_letters(
     let mut count = 0;
     for turn in 0..times {
         let at = start_of(scattered(turn, lines), group);
-        count = change_letter(alloc, text, at, steps)?;
+        count = put_letter(alloc, text, at, at.saturating_add(1), steps)?;
     }
     Ok(count)
 }
 
-/// Changes a letter. It gives how many rows come for those of its line.
-fn change_letter(
+/// Puts a letter in the place of a range. It gives how many rows come for those of its line.
+fn put_letter(
     alloc: Global,
     text: &mut WrappedText,
-    at: u32,
+    start: u32,
+    end: u32,
     steps: &mut Steps,
 ) -> Result<u64, Fault> {
-    let change = text.replace(alloc, at, at.saturating_add(1), "b", steps)?;
+    let change = text.replace(alloc, start, end, "b", steps)?;
     Ok(change.rows.map_or(0, |rows| rows.count as u64))
+}
+
+/// Types a letter at the starts of lines far from each other, each time with what is shown then: the text with its maps and its
+/// blocks. It gives the number of rows of the last snapshot.
+pub fn typed(
+    alloc: Global,
+    text: &mut BlockedText,
+    lines: u32,
+    times: u32,
+    steps: &mut Steps,
+) -> Result<u64, Fault> {
+    for turn in 0..times {
+        let at = start_in(&text.text.rope, scattered(turn, lines), steps);
+        text.replace(alloc, at, at, "b", steps)?;
+    }
+    Ok(rows(&text.shown))
+}
+
+/// The same without blocks: the text with its maps alone. It gives how many rows come for those of the last line.
+pub fn typed_below(
+    alloc: Global,
+    text: &BlockedText,
+    lines: u32,
+    times: u32,
+    steps: &mut Steps,
+) -> Result<u64, Fault> {
+    let mut changed = text.text.share()?;
+    type_letters(alloc, &mut changed, lines, times, steps)
+}
+
+/// The same in a text of its own.
+fn type_letters(
+    alloc: Global,
+    text: &mut WrappedText,
+    lines: u32,
+    times: u32,
+    steps: &mut Steps,
+) -> Result<u64, Fault> {
+    let mut count = 0;
+    for turn in 0..times {
+        let at = start_in(&text.rope, scattered(turn, lines), steps);
+        count = put_letter(alloc, text, at, at, steps)?;
+    }
+    Ok(count)
+}
+
+/// The offset at which a line begins among letters that were typed.
+fn start_in(rope: &Rope, line: u32, steps: &mut Steps) -> u32 {
+    let start = Point {
+        row: line,
+        column: 0,
+    };
+    rope.offset_of(start, Bias::Left, steps)
 }

@@ -3,7 +3,7 @@
 //!
 //! The words are what to do, the number of lines, how many blocks there are, how often, and of how many lines one is long
 //! (0: none is): `blocks 1000000 65535 1000 16`. `bench/blocks` times it. With no words it wraps a small text, puts blocks in it,
-//! changes a letter of it, and counts its rows.
+//! changes letters of it and types some, and counts its rows.
 #![tactic(auto)]
 
 mod changes;
@@ -33,6 +33,8 @@ enum Task {
     Shows,
     Letters,
     LettersBelow,
+    Typed,
+    TypedBelow,
     LineAt,
     TextRow,
     RowOf,
@@ -72,6 +74,8 @@ impl Task {
             "shows" => Task::Shows,
             "letters" => Task::Letters,
             "letters_below" => Task::LettersBelow,
+            "typed" => Task::Typed,
+            "typed_below" => Task::TypedBelow,
             "line_at" => Task::LineAt,
             "text_row" => Task::TextRow,
             "row_of" => Task::RowOf,
@@ -117,10 +121,12 @@ fn change(
         Task::Shows => Ok(changes::shows(alloc, text, times, steps)?),
         Task::Letters => changes::letters(alloc, text, lines, group, times, steps),
         Task::LettersBelow => changes::letters_below(alloc, text, lines, group, times, steps),
+        Task::Typed => changes::typed(alloc, text, lines, times, steps),
+        Task::TypedBelow => changes::typed_below(alloc, text, lines, times, steps),
         Task::Check => {
             changes::blocks(alloc, text, lines, group, times, steps)?;
             changes::letters(alloc, text, lines, group, times, steps)?;
-            Ok(looks::rows(&text.shown))
+            changes::typed(alloc, text, lines, times, steps)
         }
         _ => Ok(look(alloc, text, order, steps)?),
     }

@@ -15,7 +15,7 @@ use Rattle.mark_tree.proofs.Sorting.{contains-from_member}
 use Rattle.sum_core.specs.declared.load.NoLoad.{NoLoad}
 use Rattle.block_map.specs.Maps.{row_at_line}
 use Rattle.block_map.specs.Stops.{Stop, stands_before}
-use Rattle.block_map.specs.inside.Anew.{Grows, IsAnchoredAt, IsEditedAt, IsIn, IsOfLine, IsTouchedAt}
+use Rattle.block_map.specs.inside.Anew.{Grows, IsAnchoredAt, IsBeside, IsEditedAt, IsIn, IsOfLine, IsTouchedAt}
 use Rattle.block_map.specs.inside.Sides.{BlockMark}
 use Rattle.block_map.proofs.Gathered.{edited-between, replaced-between}
 use Rattle.block_map.proofs.LineStarts.{rows_before-next}
@@ -122,6 +122,15 @@ no-row n e lines side ss xs le = record {
   more = λ k at. let r = one-replaced e (rows_before lines at.line + at.row) at.replaced in absurd (omega (arith, r.0, r.1, le));
   within = λ w. w;
 }
+
+-- what stands beside the lines of its first and its last row stands in order
+pub rows-in_order : (lines : List (List (List ℕ))) (side : Side) (e : Edit) (low high : ℕ) → e.old_start < e.old_end → IsBeside lines side e.old_start low → IsBeside lines side (e.old_end - 1) high → low ≤ high
+rows-in_order lines side e low high some a b =
+    let last = b.of_line in
+    let next = rows_before-next lines b.line last.there in
+    let between = edited-between lines side e a.line b.line b.line (e.old_end - 1 - rows_before lines b.line) last.there (omega (arith, last.from, last.to)) (omega (arith, last.from, some)) (omega (arith, last.from, some))
+    a.of_line.from (omega (arith, last.to, next, some)) in
+    omega (arith, between.0, a.stands, b.stands)
 
 -- the stops from that of its first line to that of its last one
 pub edited-in : (e : Edit) (lines : List (List (List ℕ))) (side : Side) (ss : List Stop) (first last low high from to : ℕ) → e.old_start < e.old_end

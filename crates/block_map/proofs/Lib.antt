@@ -7,7 +7,6 @@ pub mod CountedPlaces
 pub mod CutWindows
 pub mod EditMoves
 pub mod EvenEdits
-pub mod FirstMarks
 pub mod FoundTexts
 pub mod Gathered
 pub mod GatheredSteps
@@ -34,6 +33,7 @@ pub mod StopLoops
 pub mod StopMoves
 pub mod StopPlaces
 pub mod StopRemovals
+pub mod StopRuns
 pub mod StopSizes
 pub mod SyncedMaps
 pub mod TakenOut

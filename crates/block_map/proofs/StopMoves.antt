@@ -226,7 +226,7 @@ rows-least base (p ∷ ps) zero s e = let f : the_stop (base + p.gap.rows) p.loa
   the_stop row lines = record { row = row; lines = lines }
 rows-least base (p ∷ ps) (suc k) s e = omega (arith, rows-least (base + p.gap.rows) ps k s e)
 
-pub rows-upto : (base : ℕ) (ps : List StopPiece) (k : ℕ) (s : Stop) → slice_get (stops_from base ps) k ≡ Some s → (n : ℕ) → k < n → s.row ≤ end_row base (take n ps)
+rows-upto : (base : ℕ) (ps : List StopPiece) (k : ℕ) (s : Stop) → slice_get (stops_from base ps) k ≡ Some s → (n : ℕ) → k < n → s.row ≤ end_row base (take n ps)
 rows-upto base [] zero s e n lt = absurd (cc)
 rows-upto base [] (suc k) s e n lt = absurd (cc)
 rows-upto base (p ∷ ps) k s e zero lt = absurd (omega (arith, lt))
@@ -237,7 +237,7 @@ rows-upto base (p ∷ ps) zero s e (suc n) lt =
       the_stop row lines = record { row = row; lines = lines }
 rows-upto base (p ∷ ps) (suc k) s e (suc n) lt = rows-upto (base + p.gap.rows) ps k s e n (omega (arith, lt))
 
-pub rows-from : (base : ℕ) (ps : List StopPiece) (k : ℕ) (s : Stop) → slice_get (stops_from base ps) k ≡ Some s → (n : ℕ) → n ≤ k → end_row base (take (suc n) ps) ≤ s.row
+rows-from : (base : ℕ) (ps : List StopPiece) (k : ℕ) (s : Stop) → slice_get (stops_from base ps) k ≡ Some s → (n : ℕ) → n ≤ k → end_row base (take (suc n) ps) ≤ s.row
 rows-from base [] zero s e n le = absurd (cc)
 rows-from base [] (suc k) s e n le = absurd (cc)
 rows-from base (p ∷ ps) k s e zero le = omega (arith, least k e, none ps) where

@@ -1,15 +1,14 @@
 //! Which stops a `sync` makes anew.
-ghost use Rattle.std.specs.Prelude.{◌≡◌, ℕ, ◌+◌, ◌*◌, ◌<◌, ◌≤◌, nat_le, Some, [], ◌∷◌, length, slice_get, IfOk, OnOk};
+ghost use Rattle.std.specs.Prelude.{◌≡◌, ℕ, ◌-◌, ◌*◌, ◌<◌, ◌≤◌, Some, [], ◌∷◌, length, slice_get, IfOk, OnOk};
 ghost use Rattle.std.specs.List.{All, Contains, position_or_len};
 ghost use Rattle.cell_units.specs.Rows.{all_rows};
 ghost use Rattle.cell_units.specs.declared.place.Bias.TheVariants.{Right};
 ghost use Rattle.mark_tree.specs.declared.mark.Mark.{Mark};
 ghost use Rattle.mark_tree.specs.Marks.{is_not_before};
 ghost use Rattle.sum_core.specs.declared.load.NoLoad.{NoLoad};
-ghost use Rattle.sum_tree.specs.Bounds.{ChangesAtMost, TakesAtMost, way};
+ghost use Rattle.sum_tree.specs.Bounds.{ChangesAtMost, TakesAtMost};
 ghost use Rattle.block_map.specs.Bounds.{both_ways, gathering, seeking};
-ghost use Rattle.block_map.specs.Maps.{row_at_line};
-ghost use Rattle.block_map.specs.inside.Anew.{Grows, IsAnchoredAt, IsAnewAt, IsEditedAt, IsIn, IsMetAt, IsOfLine, IsTouchedAt};
+ghost use Rattle.block_map.specs.inside.Anew.{Grows, IsAnchoredAt, IsAnewAt, IsBeside, IsEditedAt, IsIn, IsMetAt, IsTouchedAt};
 ghost use Rattle.block_map.specs.inside.SideMoves.{LeaveCarried};
 ghost use Rattle.block_map.specs.inside.Sides.{IsSide};
 ghost use Rattle.block_map.specs.inside.Without.{IsRising};
@@ -70,33 +69,6 @@ fn push_range(places: &mut Vec<u32>, from: u32, to: u32) -> Result<(), NoMemory>
     Ok(())
 }
 
-/// The place of the first mark from an offset on, or the number of marks.
-fn first_from(marks: &MarkTree<BlockLines>, offset: u32, steps: &mut Steps) -> u32
-    ensures place { result ≡ position_or_len (λ m. nat_le offset m.offset) marks.now }
-    ensures within { result ≤ length marks.now }
-    ensures counted { steps.old ≤ steps.new }
-    ensures steps { TakesAtMost way (length marks.now) steps.old steps.new }
-{
-    match marks.at_or_after(offset, steps) {
-        None => marks.len(),
-        Some(at) => at,
-    }
-}
-
-/// The same of those behind an offset.
-fn first_past(marks: &MarkTree<BlockLines>, offset: u32, steps: &mut Steps) -> u32
-    ensures place { result ≡ position_or_len (λ m. nat_le (offset + 1) m.offset) marks.now }
-    ensures within { result ≤ length marks.now }
-    ensures counted { steps.old ≤ steps.new }
-    ensures steps { TakesAtMost way (length marks.now) steps.old steps.new }
-{
-    match offset.checked_add(1) {
-        // Each offset is a u32.
-        None => marks.len(),
-        Some(next) => first_from(marks, next, steps),
-    }
-}
-
 /// Adds the places of the marks that a replacement meets, if there was one.
 fn push_met(
     places: &mut Vec<u32>,
@@ -114,9 +86,8 @@ fn push_met(
     match shift {
         None => Ok(()),
         Some(shift) => {
-            let from = first_from(marks, shift.start, steps);
-            let to = first_past(marks, shift.end, steps);
-            push_range(places, from, to)
+            let met = marks.places_met(shift, steps);
+            push_range(places, met.from, met.to)
         }
     }
 }
@@ -163,30 +134,34 @@ fn push_anchored(
     Ok(())
 }
 
-/// The line of a row.
-fn line_of_row<R: Rows>(rows: &R, row: u32) -> u32
+/// How many rows stand before what stands on a side of the line of a row.
+fn row_beside<R: Rows>(rows: &R, side: Side, row: u32) -> u32
     requires { row < length (all_rows (R.shown rows.now)) }
-    ensures { IsOfLine (R.shown rows.now) result row }
+    ensures { IsBeside (R.shown rows.now) side row result }
 {
+    // The number of lines is a u32.
+    let _lines = rows.lines();
     match rows.line_at(row) {
         None => unreachable!(),
-        Some((line, at)) => {
-            let _at = at;
-            line
-        }
+        Some((line, at)) => match side {
+            Side::Above => row - at,
+            Side::Below => rows.rows_before(line + 1),
+        },
     }
 }
 
-/// How many rows stand before what stands on a side of a line.
-fn row_of_line<R: Rows>(rows: &R, side: Side, line: u32) -> u32
-    requires { line < length (R.shown rows.now) }
-    ensures { result ≡ row_at_line (R.shown rows.now) side line }
+/// The same of the last row that an edit replaces, where `low` is that of the first one.
+fn last_beside<R: Rows>(rows: &R, side: Side, edit: Edit, low: u32) -> u32
+    requires some { edit.old_start < edit.old_end }
+    requires within { edit.old_end ≤ length (all_rows (R.shown rows.now)) }
+    requires first { IsBeside (R.shown rows.now) side edit.old_start low }
+    ensures { IsBeside (R.shown rows.now) side (edit.old_end - 1) result }
 {
-    let _lines = rows.lines();
-    match side {
-        Side::Above => rows.rows_before(line),
-        Side::Below => rows.rows_before(line + 1),
+    let last = edit.old_end - 1;
+    if last == edit.old_start {
+        return low;
     }
+    row_beside(rows, side, last)
 }
 
 /// Adds the places of the stops at lines of which edits replace a row.
@@ -235,13 +210,10 @@ fn push_lines_of<R: Rows>(
     if edit.old_end <= edit.old_start {
         return Ok(());
     }
-    let first = line_of_row(rows, edit.old_start);
-    let last = line_of_row(rows, edit.old_end - 1);
-    let low = row_of_line(rows, side, first);
-    let high = row_of_line(rows, side, last);
-    let from = stops.first_behind(low, Bias::Left, steps);
-    let to = stops.first_behind(high, Bias::Right, steps);
-    push_range(places, from, to)
+    let low = row_beside(rows, side, edit.old_start);
+    let high = last_beside(rows, side, edit, low);
+    let touched = stops.places_through(low, high, steps);
+    push_range(places, touched.from, touched.to)
 }
 
 /// Puts places in order, each once.

@@ -17,6 +17,10 @@ use cell_units::{Bias, NoMemory, Rows, Steps, Text};
 use std::alloc::Global;
 use std::marker::Model;
 
+/// How many times as many text rows as there are may be open at first, where each look halves that: 2^4, so there is room for four
+/// looks that tell little.
+const SPARE_ROOM: u32 = 16;
+
 /// Rows of lines with blocks between them. Contracts see the lines, and the stops of the blocks above and below them.
 #[derive(Drop)]
 pub struct BlockSnapshot<R: Rows> {
@@ -100,8 +104,8 @@ impl<R: Rows> BlockSnapshot<R> {
             high: self.text_rows(),
             end: self.row_count(),
         };
-        // Each look halves it. Beside those that halving takes there is room for four looks that tell little.
-        let mut room = window.high.saturating_mul(16);
+        // Each look halves it. Beside those that halving takes there is room for some that tell little.
+        let mut room = window.high.saturating_mul(SPARE_ROOM);
         'seek: while window.next < window.high {
             room /= 2;
             let guess = window.guess(row, room);

@@ -1,5 +1,5 @@
 //! The stops of one side.
-ghost use Rattle.std.specs.Prelude.{ℕ, ◌↔◌, true, OnOk, OnErr, IfSome, ◌≡◌, ◌+◌, ◌<◌, ◌≤◌, ◌^◌, [], Some, length, map, slice_get, take, IfOk};
+ghost use Rattle.std.specs.Prelude.{ℕ, ◌↔◌, true, OnOk, OnErr, IfSome, MatchOption, ◌≡◌, ◌+◌, ◌<◌, ◌≤◌, ◌^◌, [], None, Some, length, map, slice_get, slice_index_or, take, IfOk};
 ghost use Rattle.cell_units.specs.declared.place.Bias.TheVariants.{Left, Right};
 ghost use Rattle.sum_tree.specs.Bounds.{TakesAtMost, way};
 ghost use Rattle.block_map.specs.Bounds.{both_ways, inserting, putting};
@@ -11,6 +11,7 @@ ghost use Rattle.block_map.specs.inside.StopLists.{AreRising, MayBePut, StopsFit
 use crate::block_lines::BlockLines;
 use crate::row_count::{ByRows, RowCount};
 use cell_units::{Bias, NoMemory, Shift, Steps, Text};
+use mark_tree::Places;
 use splice_tree::{Splice, SpliceTree};
 use std::alloc::Global;
 use std::marker::Model;
@@ -104,15 +105,11 @@ impl Stops {
         ensures counted { steps.old ≤ steps.new }
         ensures steps { TakesAtMost way (length self.now) steps.old steps.new }
     {
-        let found = self
-            .splices
-            .find_lower::<ByRows>(row as u64, Bias::Right, steps);
-        match found.splice {
+        // Rows don't fall.
+        let _count = self.len();
+        match self.first_behind(row, Bias::Right, steps).row {
             None => limit,
-            Some(splice) => {
-                let before = found.before.lower.rows;
-                limit.min(before.saturating_add(splice.gap().rows))
-            }
+            Some(next) => next.min(limit as u64) as u32,
         }
     }
 
@@ -248,17 +245,47 @@ impl Stops {
 }
 
 impl Stops {
-    /// The index of the first stop that doesn't stand before a place between rows of text, or their number.
-    pub(crate) fn first_behind(&self, row: u32, bias: Bias, steps: &mut Steps) -> u32
-        ensures within { result ≤ length self.now }
+    /// The first stop that doesn't stand before a place between rows of text, or the end of all.
+    fn first_behind(&self, row: u32, bias: Bias, steps: &mut Steps) -> FirstStop
+        ensures within { result.index ≤ length self.now }
         ensures place { (k : ℕ) (s : Stop) → slice_get self.now k ≡ Some s →
-            (k < result) ↔ (stands_before bias row s ≡ true) }
+            (k < result.index) ↔ (stands_before bias row s ≡ true) }
+        ensures row { (d : Stop) →
+            MatchOption result.row (length self.now ≤ result.index)
+            (λ r. (slice_index_or self.now result.index d).row ≡ r) }
         ensures counted { steps.old ≤ steps.new }
         ensures steps { TakesAtMost way (length self.now) steps.old steps.new }
     {
-        self.splices
-            .find_lower::<ByRows>(row as u64, bias, steps)
-            .index
+        let found = self.splices.find_lower::<ByRows>(row as u64, bias, steps);
+        FirstStop {
+            index: found.index,
+            row: row_in(found.splice, found.before.lower.rows),
+        }
+    }
+
+    /// The places of the stops from a row through another one, which isn't before it. Where there is none, one look tells.
+    pub(crate) fn places_through(&self, first: u32, last: u32, steps: &mut Steps) -> Places
+        requires { first ≤ last }
+        ensures within { result.to ≤ length self.now }
+        ensures from { (k : ℕ) (s : Stop) → slice_get self.now k ≡ Some s →
+            (k < result.from) ↔ (stands_before Left first s ≡ true) }
+        ensures to { (k : ℕ) (s : Stop) → slice_get self.now k ≡ Some s →
+            (k < result.to) ↔ (stands_before Right last s ≡ true) }
+        ensures counted { steps.old ≤ steps.new }
+        ensures steps { TakesAtMost both_ways (length self.now) steps.old steps.new }
+    {
+        // Rows don't fall.
+        let _count = self.len();
+        let found = self.first_behind(first, Bias::Left, steps);
+        let from = found.index;
+        let Some(row) = found.row else {
+            return Places { from, to: from };
+        };
+        if row > last as u64 {
+            return Places { from, to: from };
+        }
+        let to = self.first_behind(last, Bias::Right, steps).index;
+        Places { from, to }
     }
 
     /// Moves the stops that don't stand before the end of replaced rows of text, as the replacement moves the rows there. At
@@ -293,6 +320,24 @@ impl Stops {
                     .replace(alloc, at, at, Vec::new(alloc), gap, steps)
             }
         }
+    }
+}
+
+/// A place among stops, and how many rows of text stand before the stop there, if there is one.
+#[derive(Clone, Copy)]
+struct FirstStop {
+    index: u32,
+    row: Option<u64>,
+}
+
+/// How many rows of text stand before the stop of a splice, if there is one: it has `before` and its gap.
+fn row_in(splice: Option<&Splice<RowCount, BlockLines>>, before: u32) -> Option<u64>
+    ensures { MatchOption splice.entry (result ≡ None) (λ p.
+        result ≡ Some (before + p.now.gap.rows)) }
+{
+    match splice {
+        None => None,
+        Some(splice) => Some(before as u64 + splice.gap().rows as u64),
     }
 }
 

@@ -135,6 +135,28 @@ module _ {P : Type 0} where
         here (q ∷ qs) (suc n) l a d = here qs n (omega arith) a d
 
   -- the place of a key in order, among marks
+  -- the first place from an offset on, which may be that past the last
+  pub place-from : (offset : ℕ) (ps : List (Placed P)) (at : ℕ) → at ≤ length ps → All (λ p. p.offset < offset) (take at ps) → All (λ p. offset ≤ p.offset) (drop at ps)
+      → at ≡ position_or_len (λ (m : Mark P). nat_le offset m.offset) (map mark_of ps)
+  place-from offset [] at le before from = omega arith
+  place-from offset (p ∷ ps) zero le before from =
+      here (nat_le offset p.offset) (position_or_len (λ (m : Mark P). nat_le offset m.offset) (map mark_of ps)) (is_le offset p.offset (All-head (λ q. offset ≤ q.offset) p ps from)) where
+        is_le : (m n : ℕ) → m ≤ n → nat_le m n ≡ true
+        is_le m n a = grind (arith, nat_tests)
+
+        here : (b : Bool) (n : ℕ) → b ≡ true → zero ≡ cond (not b) (1 + n) 0
+        here true n e = refl
+        here false n e = absurd (cc)
+  place-from offset (p ∷ ps) (suc at) le before from =
+      further (nat_le offset p.offset) (not_le offset p.offset (All-head (λ q. q.offset < offset) p (take at ps) before))
+      (place-from offset ps at (omega arith) (All-tail (λ q. q.offset < offset) p (take at ps) before) from) where
+        not_le : (m n : ℕ) → n < m → nat_le m n ≡ false
+        not_le m n a = grind (arith, nat_tests)
+
+        further : (b : Bool) → b ≡ false → at ≡ position_or_len (λ (m : Mark P). nat_le offset m.offset) (map mark_of ps) → suc at ≡ cond (not b) (1 + position_or_len (λ (m : Mark P). nat_le offset m.offset) (map mark_of ps)) 0
+        further true e is = absurd (cc)
+        further false e is = omega (arith, is)
+
   pub place-of : (offset : ℕ) (bias : Bias) (id : ℕ) (ps : List (Placed P)) (at : ℕ) → All IsFlat ps → IsPlaceFor (record { offset = offset; bias = bias_rank bias; length = 0; id = id }) ps at
       → at ≡ position_or_len (is_not_before offset bias id) (map mark_of ps)
   place-of offset bias id [] at flat w = omega (arith, w.within)

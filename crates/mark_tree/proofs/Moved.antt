@@ -213,5 +213,5 @@ module _ {P : Type 0} where
         met [] x y = tt
         met (q ∷ qs) x y = (both s.start q.offset s.end x.0 y.0, met qs x.1 y.1)
 
-pub move-steps : (h k m s₀ s₁ s₂ s₃ s₄ : ℕ) → k ≤ m → s₁ ≤ s₀ + (h + 1) → s₂ ≤ s₁ + (h + 1) → s₃ ≤ s₂ + (h + 1) * k → s₄ ≤ s₃ + (162 * h + (89 + 4 * (k + 2))) → s₄ ≤ s₀ + 170 * (h + 1) * (m + 1)
-move-steps h k m s₀ s₁ s₂ s₃ s₄ le a b c d = omega (arith, mul-le-mul_left (h + 1) le)
+pub move-steps : (h k m s₀ s₁ s₂ s₃ : ℕ) → k ≤ m → s₁ ≤ s₀ + 2 * (h + 1) → s₂ ≤ s₁ + (h + 1) * k → s₃ ≤ s₂ + (162 * h + (89 + 4 * (k + 2))) → s₃ ≤ s₀ + 170 * (h + 1) * (m + 1)
+move-steps h k m s₀ s₁ s₂ s₃ le a b c = omega (arith, mul-le-mul_left (h + 1) le)

@@ -1,5 +1,5 @@
 -- Where a cursor stands that sought by number, by offset or by end.
-use Rattle.std.proofs.Common.{◌≡◌, ℕ, zero, suc, ◌+◌, ◌-◌, ◌<◌, ◌≤◌, min, true, false, List, [], ◌∷◌, length, take, drop, get_or, Option, Some, None, sym, ap, subst, ◌∙◌, arith, add-one, add-zero}
+use Rattle.std.proofs.Common.{◌≡◌, ℕ, zero, suc, ◌+◌, ◌-◌, ◌<◌, ◌≤◌, min, true, false, List, [], ◌∷◌, length, take, drop, get_or, Option, Some, None, refl, sym, ap, subst, ◌∙◌, arith, add-one, add-zero}
 use Rattle.std.specs.List.{All, slice_get}
 use Rattle.std.specs.Option.{MatchOption}
 use Rattle.std.specs.Ordering.{is_lt, is_le, nat_cmp}
@@ -28,6 +28,11 @@ below-from_le m n e = grind (arith, nat_tests)
 
 sought-number : (at place n : ℕ) → 1 ≤ place → place ≤ n + 1 → (1 ≤ place - 1 → place - 1 < place → min (place - 1) n ≤ at) → (place ≤ n → at < min place n) → place ≡ min at n + 1
 sought-number at place n some few low high = grind arith
+
+-- what a clause says of no value holds where it is not that there is one
+pub match-none : {X : Type 0} (r : Option X) (A : Type 0) (B : X → Type 0) → ((x : X) → r ≡ Some x → ⊥) → MatchOption r A B → A
+match-none None A B not m = m
+match-none (Some x) A B not m = absurd (not x refl)
 
 module _ {P : Type 0} where
   pub items-taken : (k : ℕ) (es : List (Entry P)) → (extent_over (take k es)).items ≡ min k (length es)
@@ -111,6 +116,24 @@ module _ {P : Type 0} where
       let turn : suc (place - 1) ≡ place = omega arith in
       let here : (get_or (placed_from 0 es) (place - 1) d).offset ≡ 0 + (extent_over (take place es)).span = subst (λ n. (get_or (placed_from 0 es) (place - 1) d).offset ≡ 0 + (extent_over (take n es)).span) turn (offset-at (place - 1) 0 es d (omega arith)) in
       subst (λ (p : Placed P). offset ≤ p.offset) (sym (get_or-drop (place - 1) (placed_from 0 es) 0 d ∙ ap (λ n. get_or (placed_from 0 es) n d) (add-zero (place - 1)))) (omega arith)))
+
+  -- where the thing at a place lies behind an offset, so does all from there on
+  pub behind-here : (offset : ℕ) (ps : List (Placed P)) (at o : ℕ) → IsSpaced 0 ps → ((d : Placed P) → (get_or ps at d).offset ≡ o) → offset ≤ o → All (λ p. offset ≤ p.offset) (drop at ps)
+  behind-here offset ps at o s here le =
+      all-from offset (drop at ps)
+      (spaced-from_head offset (last_offset 0 (take at ps)) (drop at ps) (spaced-dropped at 0 ps s)
+      (λ d more. subst (λ (p : Placed P). offset ≤ p.offset) (sym (get_or-drop at ps 0 d ∙ ap (λ n. get_or ps n d) (add-zero at))) (omega (arith, here d)))) where
+        spaced-dropped : (k b : ℕ) (qs : List (Placed P)) → IsSpaced b qs → IsSpaced (last_offset b (take k qs)) (drop k qs)
+        spaced-dropped zero b qs t = t
+        spaced-dropped (suc k) b [] t = tt
+        spaced-dropped (suc k) b (q ∷ qs) t = spaced-dropped k q.offset qs t.1
+
+  pub none-behind : (offset : ℕ) (ps : List (Placed P)) (at : ℕ) → length ps ≤ at → All (λ p. offset ≤ p.offset) (drop at ps)
+  none-behind offset ps at past k d lt = absurd (omega (arith, length-drop at ps))
+
+  -- what lies before an offset lies before one that isn't less
+  pub before-more : (a b : ℕ) (ps : List (Placed P)) → a ≤ b → All (λ p. p.offset < a) ps → All (λ p. p.offset < b) ps
+  before-more a b ps le all k d lt = omega (arith, all k d lt)
 
   -- what a cursor is on that stands at a number
   item-on : (es : List (Entry P)) (at place : ℕ) → place ≡ min at (length es) + 1 → last_of es place ≡ slice_get es (min at (length es))

@@ -6,6 +6,10 @@ use Rattle.std.specs.Prelude.{ℕ, ◌+◌, ◌*◌, ◌^◌, ◌<◌, ◌≤◌
 abbrev pub SearchesAndTakes : (ℕ → ℕ) → ℕ → ℕ → ℕ → Type 0
 SearchesAndTakes cost n old new = (h : ℕ) → n < 2 * 6 ^ (h + 1) → 5 * new ≤ 5 * old + (n + 5 * cost h)
 
+-- The places of those that a replacement meets are found by a way down to the first, and mostly one to those behind.
+abbrev pub both_ends : ℕ → ℕ
+both_ends h = 2 * (h + 1)
+
 -- A place in order is found by two ways down to those at its offset, and by halving among these: at most 34 ways.
 abbrev pub halving : ℕ → ℕ
 halving h = 34 * (h + 1)

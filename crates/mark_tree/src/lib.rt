@@ -23,7 +23,7 @@ mod reaching;
 mod shrinking;
 mod spaced;
 
-pub use mark::{Mark, RangeMark};
+pub use mark::{Mark, Places, RangeMark};
 pub use mark_tree::MarkTree;
 pub use range_tree::RangeTree;
 pub use sum_core::Load;

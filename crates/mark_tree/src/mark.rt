@@ -1,4 +1,4 @@
-//! Marks and ranges.
+//! Marks and ranges, and where they stand in a list.
 use cell_units::Bias;
 
 /// A mark at an offset of a text. At an insertion at its offset it stays (Left) or goes behind what is inserted (Right).
@@ -16,4 +16,11 @@ pub struct RangeMark {
     pub start: u32,
     pub end: u32,
     pub id: u32,
+}
+
+/// Places of a list, counted from 0: those from `from` on before `to`.
+#[derive(Clone, Copy, Debug, PartialEq, Eq)]
+pub struct Places {
+    pub from: u32,
+    pub to: u32,
 }

@@ -3,12 +3,12 @@ ghost use Rattle.std.specs.Prelude.{◌≡◌, ℕ, ◌+◌, ◌*◌, ◌^◌, �
 ghost use Rattle.std.specs.List.{list_any, position_or_len};
 ghost use Rattle.cell_units.specs.Sorting.{insert_by};
 ghost use Rattle.sum_tree.specs.Bounds.{Searches, TakesAtMost, way};
-ghost use Rattle.mark_tree.specs.Bounds.{SearchesAndTakes, adding, changing, halving, moving, taking};
+ghost use Rattle.mark_tree.specs.Bounds.{SearchesAndTakes, adding, both_ends, changing, halving, moving, taking};
 ghost use Rattle.mark_tree.specs.Marks.{IsMarkList, IsRefusedFor, has_id, is_met, is_not_before, lacks_id, mark_le, mark_with, move_mark, moved_marks};
 
 use crate::entry::Placed;
 use crate::key::Key;
-use crate::mark::Mark;
+use crate::mark::{Mark, Places};
 use crate::spaced::Spaced;
 use cell_units::{Bias, Fault, NoMemory, Refusal, Shift, Steps};
 use std::alloc::Global;
@@ -92,6 +92,19 @@ impl<P: Load> MarkTree<P> {
         } else {
             None
         }
+    }
+
+    /// The places of the marks that a replacement meets: from that of the first one at or behind its start, before that of
+    /// the first one behind its end.
+    pub fn places_met(&self, shift: Shift, steps: &mut Steps) -> Places
+        ensures from { result.from ≡ position_or_len (λ m. nat_le shift.start m.offset) self.now }
+        ensures to { result.to ≡ position_or_len (λ m. nat_le (shift.end + 1) m.offset) self.now }
+        ensures order { result.from ≤ result.to }
+        ensures within { result.to ≤ length self.now }
+        ensures counted { steps.old ≤ steps.new }
+        ensures steps { TakesAtMost both_ends (length self.now) steps.old steps.new }
+    {
+        self.marks.places_met(&shift, steps)
     }
 
     /// The place, counted from 0, of the mark of this id. `None` exactly where there is none.

@@ -1,13 +1,14 @@
 //! How a replacement moves things of no length.
-ghost use Rattle.std.specs.Prelude.{◌≡◌, ℕ, ◌+◌, ◌*◌, ◌^◌, ◌<◌, ◌≤◌, length, map, count_by, All, IfOk, OnOk, OnErr};
+ghost use Rattle.std.specs.Prelude.{◌≡◌, ℕ, ◌+◌, ◌*◌, ◌^◌, ◌<◌, ◌≤◌, length, map, take, drop, count_by, All, IfOk, OnOk, OnErr};
 ghost use Rattle.cell_units.specs.Anchor.{move};
 ghost use Rattle.sum_tree.specs.Bounds.{TakesAtMost};
-ghost use Rattle.mark_tree.specs.Bounds.{moving};
+ghost use Rattle.mark_tree.specs.Bounds.{both_ends, moving};
 ghost use Rattle.mark_tree.specs.Entries.{end_at};
 ghost use Rattle.mark_tree.specs.Order.{IsOrdered, meets_offset, move_placed, moved_placed};
 
 use crate::entry::Placed;
 use crate::key::sort_placed;
+use crate::mark::Places;
 use crate::spaced::Spaced;
 use cell_units::{Bias, NoMemory, Shift, Steps};
 use std::alloc::Global;
@@ -54,6 +55,20 @@ fn moved_all<P: Load>(
 }
 
 impl<P: Load> Spaced<P> {
+    /// The places of the things that the replacement meets.
+    pub(crate) fn places_met(&self, shift: &Shift, steps: &mut Steps) -> Places
+        ensures order { result.from ≤ result.to }
+        ensures within { result.to ≤ length self.now }
+        ensures before { All (λ p. p.offset < shift.now.start) (take result.from self.now) }
+        ensures from { All (λ p. shift.now.start ≤ p.offset) (drop result.from self.now) }
+        ensures upto { All (λ p. p.offset < shift.now.end + 1) (take result.to self.now) }
+        ensures behind { All (λ p. shift.now.end + 1 ≤ p.offset) (drop result.to self.now) }
+        ensures counted { steps.old ≤ steps.new }
+        ensures steps { TakesAtMost both_ends (length self.now) steps.old steps.new }
+    {
+        self.places_between(shift.start as u64, shift.end as u64 + 1, steps)
+    }
+
     /// Moves all things as the replacement does, and sorts them again.
     pub(crate) fn move_marks(
         &mut self,
@@ -72,11 +87,10 @@ impl<P: Load> Spaced<P> {
     {
         // The number of things is a u32.
         let _count = self.len();
-        let first = self.first_at(shift.start as u64, steps);
-        let last = self.first_at(shift.end as u64 + 1, steps);
-        let copies = self.copied(alloc, first, last, steps)?;
+        let met = self.places_met(shift, steps);
+        let copies = self.copied(alloc, met.from, met.to, steps)?;
         let mut moved = moved_all(alloc, copies, shift)?;
         sort_placed(&mut moved)?;
-        self.splice(alloc, first, last, moved, shift, steps)
+        self.splice(alloc, met.from, met.to, moved, shift, steps)
     }
 }

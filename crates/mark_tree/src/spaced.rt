@@ -2,7 +2,7 @@
 ghost use Rattle.std.specs.Prelude.{◌≡◌, ℕ, ◌+◌, ◌-◌, ◌*◌, ◌^◌, ◌<◌, ◌≤◌, [], length, map, take, drop, min, All, slice_get, slice_index_or, position, is_some, IfOk, IfSome, OnOk, OnErr, MatchOption};
 ghost use Rattle.std.specs.List.{list_any};
 ghost use Rattle.sum_tree.specs.Bounds.{ChangesAtMost, Searches, TakesAtMost, way};
-ghost use Rattle.mark_tree.specs.Bounds.{splicing};
+ghost use Rattle.mark_tree.specs.Bounds.{both_ends, splicing};
 ghost use Rattle.mark_tree.specs.declared.entry.Placed.{Placed};
 ghost use Rattle.mark_tree.specs.Extents.{end_of};
 ghost use Rattle.mark_tree.specs.Entries.{IsCodable, IsRefill, IsSpaced, coded, end_at, extent_over, last_offset, placed_at, placed_from, shifted, spliced};
@@ -10,6 +10,7 @@ ghost use Rattle.mark_tree.specs.Order.{has_placed_id};
 
 use crate::entry::{Entry, HasId, Placed};
 use crate::extent::{ByItems, ByOffset};
+use crate::mark::Places;
 use cell_units::{Bias, NoMemory, Shift, Steps};
 use std::alloc::Global;
 use std::marker::Model;
@@ -149,6 +150,32 @@ impl<P: Load> Spaced<P> {
         let place = cursor.start().items as u32;
         let offset = offset_on(&cursor);
         Next { place, offset }
+    }
+
+    /// The places of the things from one offset on that lie before another one. Where there is none, one look tells.
+    pub(crate) fn places_between(&self, start: u64, end: u64, steps: &mut Steps) -> Places
+        requires { start ≤ end }
+        ensures order { result.from ≤ result.to }
+        ensures within { result.to ≤ length self.now }
+        ensures before { All (λ p. p.offset < start) (take result.from self.now) }
+        ensures from { All (λ p. start ≤ p.offset) (drop result.from self.now) }
+        ensures upto { All (λ p. p.offset < end) (take result.to self.now) }
+        ensures behind { All (λ p. end ≤ p.offset) (drop result.to self.now) }
+        ensures counted { steps.old ≤ steps.new }
+        ensures steps { TakesAtMost both_ends (length self.now) steps.old steps.new }
+    {
+        // Offsets don't fall.
+        let _count = self.len();
+        let first = self.next_at(start, steps);
+        let from = first.place;
+        let Some(offset) = first.offset else {
+            return Places { from, to: from };
+        };
+        if end <= offset as u64 {
+            return Places { from, to: from };
+        }
+        let to = self.first_at(end, steps);
+        Places { from, to }
     }
 
     /// The place of the first thing with this id, and `None` exactly where there is none.

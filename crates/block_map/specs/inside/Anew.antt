@@ -70,3 +70,9 @@ pub record IsOfLine (lines : List (List (List ℕ))) (line row : ℕ) : Type 0 w
   pub there : line < length lines
   pub from : rows_before lines line ≤ row
   pub to : row < rows_before lines line + length (line_rows lines line)
+
+-- so many rows stand before what stands on a side of the row's line
+pub record IsBeside (lines : List (List (List ℕ))) (side : Side) (row before : ℕ) : Type 0 where
+  pub line : ℕ
+  pub of_line : IsOfLine lines line row
+  pub stands : before ≡ row_at_line lines side line
