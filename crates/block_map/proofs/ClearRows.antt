@@ -2,6 +2,7 @@
 use Rattle.std.proofs.Common.{◌≡◌, ℕ, ◌+◌, ◌<◌, ◌≤◌, ◌↔◌, true, List, [], Some, length, get_or, sym, ap, ◌∙◌, inl, inr, ◌⊎◌, arith}
 use Rattle.std.specs.List.{slice_get}
 use Rattle.std.proofs.lemmas.Bool.{cases_lt, le-leb, leb-true}
+use Rattle.std.proofs.lemmas.List.{get_or_past}
 use Rattle.std.proofs.lemmas.Option.{get_or_from_slice_get, slice_get-get_or, slice_get_within}
 use Rattle.cell_units.specs.declared.place.Bias.TheVariants.{Right}
 use Rattle.block_map.specs.Stops.{Stop, stands_before, texts_at}
@@ -24,8 +25,13 @@ module _ (ss : List Stop) (row at : ℕ) (place : (k : ℕ) (s : Stop) → slice
 
   -- the next stop
   module _ (next : ℕ) (here : (d : Stop) → (get_or ss at d).row ≡ next) where
-    pub next-behind : at < length ss → row < next
-    next-behind few = behind (get_or ss at (stop_with 0 [])) (slice_get-get_or ss at (stop_with 0 []) few) (here (stop_with 0 [])) where
+    pub next-behind : row < next
+    next-behind = elim (cases_lt at (length ss)) [
+      | inl few ↦ behind (get_or ss at (stop_with 0 [])) (slice_get-get_or ss at (stop_with 0 []) few) (here (stop_with 0 []))
+      | inr past ↦
+          let d = stop_with (row + 1) [] in
+          omega (arith, here d, ap (λ (s : Stop). s.row) (get_or_past ss at d past))
+    ] where
       behind : (s : Stop) → slice_get ss at ≡ Some s → s.row ≡ next → row < next
       behind s seen e = elim (cases_lt row s.row) [
         | inl lt ↦ omega (arith, lt, e)

@@ -68,7 +68,16 @@ impl<R: Rows> BlockSnapshot<R> {
         if place.at < above.count {
             let to = above.count.min(place.at + (end - row));
             let text_row = place.text_row;
-            push_blocks(alloc, shown, &self.above, text_row, above.before, place.at, to, steps)?;
+            push_blocks(
+                alloc,
+                shown,
+                &self.above,
+                text_row,
+                above.before,
+                place.at,
+                to,
+                steps,
+            )?;
             return Ok(row + (to - place.at));
         }
         if place.at > above.count {
@@ -76,7 +85,16 @@ impl<R: Rows> BlockSnapshot<R> {
             let from = place.at - above.count - 1;
             let to = below.count.min(from + (end - row));
             let text_row = place.text_row + 1;
-            push_blocks(alloc, shown, &self.below, text_row, below.before, from, to, steps)?;
+            push_blocks(
+                alloc,
+                shown,
+                &self.below,
+                text_row,
+                below.before,
+                from,
+                to,
+                steps,
+            )?;
             return Ok(row + (to - from));
         }
         let clear = self.clear_to(place.text_row, end - row, steps);

@@ -12,11 +12,11 @@ use Rattle.block_map.proofs.snapshot.BlockSnapshot.push_run.Goals as goal
 pub returns-in_err-push_blocks-clause-steps_err : goal.returns-in_err-push_blocks-clause-steps_err
 returns-in_err-push_blocks-clause-steps_err g c =
     on-err c.from_residual.result _ (λ h few.
-        let n = c.min-to.result - c.place_of-place.result.at in
-        let few' : length c.self.inside.above < 2 * 6 ^ (h + 1) = omega (arith, few.0, ap (λ (b : Between). length b.above) c.self.view_is) in
-        run-steps h n (c.args.end - c.args.row) c.args.steps.now c.place_of-place.new.steps c.rows_above-above.new.steps c.push_blocks.new.steps
-        (omega (arith, c.min-to.ensures, c.if-place-above.true, c.requires.some)) (omega (arith, c.min-to.ensures))
-        (c.place_of-place.ensures.steps h few) (c.rows_above-above.ensures.steps h few) (omega (arith, c.push_blocks.ensures.steps h few')))
+    let n = c.min-to.result - c.place_of-place.result.at in
+    let few' : length c.self.inside.above < 2 * 6 ^ (h + 1) = omega (arith, few.0, ap (λ (b : Between). length b.above) c.self.view_is) in
+    run-steps h n (c.args.end - c.args.row) c.args.steps.now c.place_of-place.new.steps c.rows_above-above.new.steps c.push_blocks.new.steps
+    (omega (arith, c.min-to.ensures, c.if-place-above.true, c.requires.some)) (omega (arith, c.min-to.ensures))
+    (c.place_of-place.ensures.steps h few) (c.rows_above-above.ensures.steps h few) (omega (arith, c.push_blocks.ensures.steps h few')))
 
 pub returns-then-place-above-clause-rows : goal.returns-then-place-above-clause-rows
 returns-then-place-above-clause-rows g c =
@@ -46,15 +46,15 @@ push_blocks-requires-then-place-above-2-clause-order g c =
 pub returns-in_err-push_blocks-2-clause-steps_err : goal.returns-in_err-push_blocks-2-clause-steps_err
 returns-in_err-push_blocks-2-clause-steps_err g c =
     on-err c.from_residual-in_err-push_blocks-2.result _ (λ h few.
-        let from = c.place_of-place.result.at - c.rows_above-above.result.count - 1 in
-        let n = c.min-to-then-place-above-2.result - from in
-        let few' : length c.self.inside.below < 2 * 6 ^ (h + 1) = omega (arith, few.1, ap (λ (b : Between). length b.below) c.self.view_is) in
-        let within = in-zone c.args.self.now c.text_rows-count.ensures.lawful c.args.row c.place_of-place.result.text_row c.place_of-place.result.at c.place_of-place.ensures.place in
-        let size = length-zone c.args.self.now c.place_of-place.result.text_row in
-        run-steps h n (c.args.end - c.args.row) c.args.steps.now c.place_of-place.new.steps c.rows_above-above.new.steps c.push_blocks-then-place-above-2.new.steps
-        (omega (arith, c.min-to-then-place-above-2.ensures, c.if-place-above-2.true, c.requires.some, within, size, c.rows_above-above.ensures.count, c.rows_below-below.ensures.count)) (omega (arith, c.min-to-then-place-above-2.ensures))
-        (c.place_of-place.ensures.steps h few) (c.rows_above-above.ensures.steps h few)
-        (omega (arith, c.rows_below-below.ensures.steps h few, c.push_blocks-then-place-above-2.ensures.steps h few')))
+    let from = c.place_of-place.result.at - c.rows_above-above.result.count - 1 in
+    let n = c.min-to-then-place-above-2.result - from in
+    let few' : length c.self.inside.below < 2 * 6 ^ (h + 1) = omega (arith, few.1, ap (λ (b : Between). length b.below) c.self.view_is) in
+    let within = in-zone c.args.self.now c.text_rows-count.ensures.lawful c.args.row c.place_of-place.result.text_row c.place_of-place.result.at c.place_of-place.ensures.place in
+    let size = length-zone c.args.self.now c.place_of-place.result.text_row in
+    run-steps h n (c.args.end - c.args.row) c.args.steps.now c.place_of-place.new.steps c.rows_above-above.new.steps c.push_blocks-then-place-above-2.new.steps
+    (omega (arith, c.min-to-then-place-above-2.ensures, c.if-place-above-2.true, c.requires.some, within, size, c.rows_above-above.ensures.count, c.rows_below-below.ensures.count)) (omega (arith, c.min-to-then-place-above-2.ensures))
+    (c.place_of-place.ensures.steps h few) (c.rows_above-above.ensures.steps h few)
+    (omega (arith, c.rows_below-below.ensures.steps h few, c.push_blocks-then-place-above-2.ensures.steps h few')))
 
 pub overflow_sub-result-then-place-above-2 : goal.overflow_sub-result-then-place-above-2
 overflow_sub-result-then-place-above-2 g c =
@@ -109,6 +109,6 @@ returns-then-place-above-2-clause-steps g c h few =
 pub returns-in_err-push_lines-clause-steps_err : goal.returns-in_err-push_lines-clause-steps_err
 returns-in_err-push_lines-clause-steps_err g c =
     on-err c.from_residual-in_err-push_lines.result _ (λ h few.
-        run-steps h 1 (c.args.end - c.args.row) c.args.steps.now c.place_of-place.new.steps c.rows_above-above.new.steps c.clear_to-clear.new.steps
-        (omega arith) (omega (arith, c.requires.some))
-        (c.place_of-place.ensures.steps h few) (c.rows_above-above.ensures.steps h few) (omega (arith, c.clear_to-clear.ensures.steps h few)))
+    run-steps h 1 (c.args.end - c.args.row) c.args.steps.now c.place_of-place.new.steps c.rows_above-above.new.steps c.clear_to-clear.new.steps
+    (omega arith) (omega (arith, c.requires.some))
+    (c.place_of-place.ensures.steps h few) (c.rows_above-above.ensures.steps h few) (omega (arith, c.clear_to-clear.ensures.steps h few)))
