@@ -2,6 +2,7 @@ pub mod AlteredSides
 pub mod AnewPlaces
 pub mod BlockRefusals
 pub mod BlockRows
+pub mod ClearRows
 pub mod CountedPlaces
 pub mod CutWindows
 pub mod EditMoves
@@ -17,6 +18,7 @@ pub mod MovedMarks
 pub mod PairedSides
 pub mod RisingStops
 pub mod RowBounds
+pub mod RowRuns
 pub mod RowsInZones
 pub mod RowsOfBlocks
 pub mod ShownAnew

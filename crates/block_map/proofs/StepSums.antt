@@ -1,10 +1,18 @@
 -- Sums of steps.
 use Rattle.std.proofs.Common.{ℕ, ◌+◌, ◌*◌, ◌≤◌, arith, mul-le-mul_right}
-use Rattle.std.proofs.Math.Nat.{add-mul, one-mul}
+use Rattle.std.proofs.Math.Nat.{add-mul, mul-add, mul_comm, one-mul}
 
 -- a turn more
 pub turn-steps : (k x a b c : ℕ) → b ≤ a + k * x → c ≤ b + x → c ≤ a + (k + 1) * x
 turn-steps k x a b c first second = omega (arith, first, second, add-mul k 1 x, one-mul x)
+
+-- so many turns more
+pub more-turns : (x k m a b c : ℕ) → b ≤ a + x * k → c ≤ b + m * x → c ≤ a + x * (k + m)
+more-turns x k m a b c first second = omega (arith, first, second, mul-add x k m, mul_comm m x)
+
+-- the place of a row is found, and a run of n rows from it on is read
+pub run-steps : (h n m a b c d : ℕ) → 1 ≤ n → n ≤ m → b ≤ a + 64 * (h + 1) → c ≤ b + 2 * (h + 1) → d ≤ c + (2 * (h + 1) + n * (h + 1)) → d ≤ a + m * (70 * (h + 1))
+run-steps h n m a b c d some le first second third = omega (arith, first, second, third, mul-le-mul_right (h + 1) some, mul-le-mul_right (h + 1) le)
 
 -- so many turns of n
 pub turns-within : (k n x a b : ℕ) → k ≤ n → b ≤ a + k * x → b ≤ a + n * x

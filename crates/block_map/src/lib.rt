@@ -16,6 +16,7 @@ mod side_sync;
 mod snapshot;
 mod stop_moves;
 mod stops;
+mod walking;
 mod window;
 mod worked;
 

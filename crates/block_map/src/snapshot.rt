@@ -1,16 +1,17 @@
 //! What a block map shows at one moment.
-ghost use Rattle.std.specs.Prelude.{◌≡◌, ◌==◌, ◌+◌, ◌-◌, ◌*◌, ◌^◌, ◌<◌, ◌≤◌, ◌++◌, if◌then◌else◌, IfOk, OnOk, Some, drop, length, max, slice_get, take};
+ghost use Rattle.std.specs.Prelude.{◌≡◌, ◌==◌, ◌+◌, ◌-◌, ◌*◌, ◌^◌, ◌<◌, ◌≤◌, if◌then◌else◌, IfOk, Some, length, max, slice_get};
+ghost use Rattle.cell_units.specs.declared.place.Bias.TheVariants.{Left};
 ghost use Rattle.cell_units.specs.Rows.{all_rows, line_rows};
 ghost use Rattle.plain_rows.specs.Rows.{head_kind, more_kind};
 ghost use Rattle.block_map.specs.Between.{IsTextAt, block_row, place_of_row, rows_between};
 ghost use Rattle.block_map.specs.Bounds.{TakesBetween, both_ways, finding, reading, zoning};
-ghost use Rattle.block_map.specs.ShownRows.{letter_of, row_of_shown, shown_row, shown_rows};
-ghost use Rattle.block_map.specs.Stops.{texts_at};
+ghost use Rattle.block_map.specs.ShownRows.{letter_of, row_of_shown, shown_row};
+ghost use Rattle.block_map.specs.Stops.{rows_upto, texts_at};
 ghost use Rattle.block_map.specs.inside.Seekings.{IsWindow};
-ghost use Rattle.block_map.specs.inside.Zones.{IsBetween, IsInZone, text_row, texts_of_kinds, zone, zone_start};
+ghost use Rattle.block_map.specs.inside.Zones.{IsBetween, IsInZone, text_row, zone, zone_start};
 
 use crate::shown::{Kind, Shown};
-use crate::stops::Stops;
+use crate::stops::{RowsAt, Stops};
 use crate::window::Window;
 use cell_units::{Bias, NoMemory, Rows, Steps, Text};
 use std::alloc::Global;
@@ -42,9 +43,9 @@ impl<R: Rows> Model for BlockSnapshot<R> {
 
 /// Where a row lies: in the zone of which text row, and how far in it.
 #[derive(Clone, Copy)]
-struct Place {
-    text_row: u32,
-    at: u32,
+pub(crate) struct Place {
+    pub(crate) text_row: u32,
+    pub(crate) at: u32,
 }
 
 impl<R: Rows> BlockSnapshot<R> {
@@ -60,7 +61,7 @@ impl<R: Rows> BlockSnapshot<R> {
     }
 
     /// The number of text rows.
-    fn text_rows(&self) -> u32
+    pub(crate) fn text_rows(&self) -> u32
         ensures count { result ≡ length (all_rows self.now.lines) }
         ensures lawful { IsBetween self.now }
     {
@@ -90,7 +91,7 @@ impl<R: Rows> BlockSnapshot<R> {
     }
 
     /// The zone in which a row lies.
-    fn place_of(&self, row: u32, steps: &mut Steps) -> Place
+    pub(crate) fn place_of(&self, row: u32, steps: &mut Steps) -> Place
         requires { row < length (rows_between self.now) }
         ensures place { IsInZone self.now row result.text_row result.at }
         ensures counted { steps.old ≤ steps.new }
@@ -183,22 +184,22 @@ impl<R: Rows> BlockSnapshot<R> {
         ensures counted { steps.old ≤ steps.new }
         ensures steps { TakesBetween finding self.now steps.old steps.new }
     {
-        // All rows together are a u32.
+        // Each text row is a u32.
         let _count = self.text_rows();
-        let before = self.above.rows_upto(place.text_row, Bias::Left, steps);
-        let above = self.above.rows_upto(place.text_row, Bias::Right, steps) - before;
-        if place.at < above {
-            let text = self.above.text_at(place.text_row, before, place.at, steps);
+        let above = self.rows_above(place.text_row, steps);
+        if place.at < above.count {
+            let text = self
+                .above
+                .text_at(place.text_row, above.before, place.at, steps);
             return block_row(alloc, text);
         }
-        if place.at == above {
+        if place.at == above.count {
             return self.text_row(alloc, place.text_row);
         }
         let next = place.text_row + 1;
         let before = self.below.rows_upto(next, Bias::Left, steps);
-        let text = self
-            .below
-            .text_at(next, before, place.at - above - 1, steps);
+        let at = place.at - above.count - 1;
+        let text = self.below.text_at(next, before, at, steps);
         block_row(alloc, text)
     }
 
@@ -245,137 +246,48 @@ impl<R: Rows> BlockSnapshot<R> {
             return None;
         }
         let place = self.place_of(row, steps);
-        if place.at != self.rows_above(place.text_row, steps) {
+        if place.at != self.rows_above(place.text_row, steps).count {
             return None;
         }
         self.rows.line_at(place.text_row)
     }
 
-    /// How many rows of blocks stand above a text row's line, before that row.
-    fn rows_above(&self, text_row: u32, steps: &mut Steps) -> u32
+    /// The rows of blocks that stand above a text row's line, before that row.
+    pub(crate) fn rows_above(&self, text_row: u32, steps: &mut Steps) -> RowsAt
         requires { text_row < length (all_rows self.now.lines) }
-        ensures count { result ≡ length (texts_at text_row self.now.above) }
+        ensures before { result.before ≡ rows_upto Left text_row self.now.above }
+        ensures count { result.count ≡ length (texts_at text_row self.now.above) }
         ensures counted { steps.old ≤ steps.new }
         ensures steps { TakesBetween both_ways self.now steps.old steps.new }
     {
         // All rows together are a u32.
         let _count = self.text_rows();
-        let before = self.above.rows_upto(text_row, Bias::Left, steps);
-        self.above.rows_upto(text_row, Bias::Right, steps) - before
+        self.above.rows_at(text_row, steps)
     }
-}
 
-impl<R: Rows> BlockSnapshot<R> {
-    /// The rows from `first` on, as many as there are up to `count`. Each line is walked once.
-    pub fn rows(
-        &self,
-        alloc: Global,
-        first: u32,
-        count: u32,
-        steps: &mut Steps,
-    ) -> Result<Vec<Shown>, NoMemory>
-        ensures rows { IfOk result (λ shown.
-            shown_rows shown.items ≡ take count (drop first (rows_between self.now))) }
+    /// The rows of blocks that stand below a text row's line, behind that row.
+    pub(crate) fn rows_below(&self, text_row: u32, steps: &mut Steps) -> RowsAt
+        requires { text_row < length (all_rows self.now.lines) }
+        ensures before { result.before ≡ rows_upto Left (text_row + 1) self.now.below }
+        ensures count { result.count ≡ length (texts_at (text_row + 1) self.now.below) }
         ensures counted { steps.old ≤ steps.new }
-        ensures steps { TakesBetween (λ h. count * reading h) self.now steps.old steps.new }
+        ensures steps { TakesBetween both_ways self.now steps.old steps.new }
     {
-        let all = self.row_count();
-        let end = first + count.min(all.saturating_sub(first));
-        let mut shown = Vec::new(alloc);
-        let mut next = first;
-        'walk: while next < end {
-            next = self.push_at(alloc, &mut shown, next, end, steps)?;
-        }
-        Ok(shown)
-    }
-
-    /// Appends a row, and where it is a text row those of its line behind it, up to the row `end`. It answers the row behind
-    /// them.
-    fn push_at(
-        &self,
-        alloc: Global,
-        shown: &mut Vec<Shown>,
-        row: u32,
-        end: u32,
-        steps: &mut Steps,
-    ) -> Result<u32, NoMemory>
-        requires some { row < end }
-        requires within { end ≤ length (rows_between self.now) }
-        ensures some { IfOk result (λ next. (row < next) × (next ≤ end)) }
-        ensures rows { IfOk result (λ next. shown_rows shown.new.items
-            ≡ shown_rows shown.old.items ++ take (next - row) (drop row (rows_between self.now))) }
-        ensures counted { steps.old ≤ steps.new }
-        ensures steps { TakesBetween reading self.now steps.old steps.new }
-    {
-        // Stops stand between lines.
+        // All rows together are a u32.
         let _count = self.text_rows();
-        let place = self.place_of(row, steps);
-        if place.at == self.rows_above(place.text_row, steps) {
-            return self.push_line(alloc, shown, place.text_row, row, end);
-        }
-        shown.push(self.row_at(alloc, place, steps)?)?;
-        Ok(row + 1)
+        self.below.rows_at(text_row + 1, steps)
     }
-
-    /// Appends a text row, which stands at `row`, and those of its line behind it, up to the row `end`. It answers the row
-    /// behind them.
-    fn push_line(
-        &self,
-        alloc: Global,
-        shown: &mut Vec<Shown>,
-        text_row: u32,
-        row: u32,
-        end: u32,
-    ) -> Result<u32, NoMemory>
-        requires some { row < end }
-        requires within { end ≤ length (rows_between self.now) }
-        requires zone { let above = length (texts_at text_row self.now.above) in
-            IsInZone self.now row text_row above }
-        ensures some { IfOk result (λ next. (row < next) × (next ≤ end)) }
-        ensures rows { IfOk result (λ next. shown_rows shown.new.items
-            ≡ shown_rows shown.old.items ++ take (next - row) (drop row (rows_between self.now))) }
-    {
-        // Each line has a row.
-        let _count = self.text_rows();
-        match self.rows.line_at(text_row) {
-            None => unreachable!(),
-            Some((line, first)) => {
-                let texts = self.rows.row_texts(alloc, line, first, end - row)?;
-                let count = texts.len() as u32;
-                push_texts(shown, texts, first)?;
-                Ok(row + count)
-            }
-        }
-    }
-}
-
-/// Appends text rows of a line, of which the first is the line's row `first`.
-fn push_texts(shown: &mut Vec<Shown>, texts: Vec<Text>, first: u32) -> Result<(), NoMemory>
-    requires { first + length texts.items < 2 ^ 32 }
-    ensures { OnOk result
-        (shown_rows shown.new.items
-        ≡ shown_rows shown.old.items ++ texts_of_kinds first texts.items) }
-{
-    let mut row = first;
-    for text in texts {
-        shown.push(Shown {
-            kind: kind_of(row),
-            text,
-        })?;
-        row += 1;
-    }
-    Ok(())
 }
 
 /// The kind of a line's text row.
-fn kind_of(row: u32) -> Kind
+pub(crate) fn kind_of(row: u32) -> Kind
     ensures { letter_of result ≡ (if row == 0 then head_kind else more_kind) }
 {
     if row == 0 { Kind::Head } else { Kind::More }
 }
 
 /// A row of a block.
-fn block_row(alloc: Global, text: &Text) -> Result<Shown, NoMemory>
+pub(crate) fn block_row(alloc: Global, text: &Text) -> Result<Shown, NoMemory>
     ensures { IfOk result (λ shown. row_of_shown shown ≡ block_row text.now) }
 {
     Ok(Shown {

@@ -35,6 +35,13 @@ impl Model for Stops {
     ghost invariant = { λ s. AreStopPieces s.splices };
 }
 
+/// How many rows the stops before a place between rows of text have, and how many those at it.
+#[derive(Clone, Copy)]
+pub(crate) struct RowsAt {
+    pub(crate) before: u32,
+    pub(crate) count: u32,
+}
+
 impl Stops {
     /// No stop. It takes no memory.
     pub(crate) fn new(alloc: Global) -> Stops
@@ -70,6 +77,40 @@ impl Stops {
         ensures steps { TakesAtMost way (length self.now) steps.old steps.new }
     {
         self.splices.to_upper::<ByRows>(row, bias, steps) - row
+    }
+
+    /// The rows of the stops behind so many rows of text.
+    pub(crate) fn rows_at(&self, row: u32, steps: &mut Steps) -> RowsAt
+        requires { row + rows_upto Right row self.now < 2 ^ 32 }
+        ensures before { result.before ≡ rows_upto Left row self.now }
+        ensures count { result.count ≡ length (texts_at row self.now) }
+        ensures counted { steps.old ≤ steps.new }
+        ensures steps { TakesAtMost both_ways (length self.now) steps.old steps.new }
+    {
+        let before = self.rows_upto(row, Bias::Left, steps);
+        let through = self.rows_upto(row, Bias::Right, steps);
+        RowsAt {
+            before,
+            count: through - before,
+        }
+    }
+
+    /// The end of the text rows behind one between which no stop stands: the row of the next stop, or `limit` where that is
+    /// before it.
+    pub(crate) fn clear_to(&self, row: u32, limit: u32, steps: &mut Steps) -> u32
+        requires { row < limit }
+        ensures some { row < result }
+        ensures within { result ≤ limit }
+        ensures clear { (t : ℕ) → row < t → t < result → texts_at t self.now ≡ [] }
+        ensures counted { steps.old ≤ steps.new }
+        ensures steps { TakesAtMost way (length self.now) steps.old steps.new }
+    {
+        // Rows don't fall.
+        let _count = self.len();
+        match self.first_behind(row, Bias::Right, steps).row {
+            None => limit,
+            Some(next) => next.min(limit as u64) as u32,
+        }
     }
 
     /// The text of a row of the stops behind so many rows of text. `before` is how many rows the stops before them have.

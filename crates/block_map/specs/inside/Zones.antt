@@ -38,6 +38,11 @@ pub record IsInZone (b : Between) (row t at : ℕ) : Type 0 where
   pub start : zone_start b t + at ≡ row
   pub end : row < zone_start b (t + 1)
 
+-- no stop stands between the text rows from one up to another
+abbrev pub IsClear : Between → ℕ → ℕ → Type 0
+IsClear b from to =
+    (t : ℕ) → from < t → t < to → (texts_at t b.above ≡ []) × (texts_at t b.below ≡ [])
+
 -- a stop stands before the first row of a line
 abbrev pub IsAboveLine : List (List (List ℕ)) → Stop → Type 0
 IsAboveLine lines s = (line : ℕ) × (line < length lines) × (s.row ≡ rows_before lines line)

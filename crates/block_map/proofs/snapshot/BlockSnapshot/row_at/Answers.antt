@@ -12,25 +12,15 @@ use Rattle.block_map.proofs.RowsInZones.{above-part, below-part, sums-fit, text-
 use Rattle.block_map.proofs.ZoneStarts.{length-zone, upto-through}
 use Rattle.block_map.proofs.snapshot.BlockSnapshot.row_at.Goals as goal
 
-pub rows_upto-before-requires : goal.rows_upto-before-requires
-rows_upto-before-requires g c =
-    let t = c.args.place.text_row in
-    let le : t ≤ length (all_rows c.args.self.now.lines) = omega (arith, c.requires.zone) in
-    omega (arith, sums-fit c.args.self.now c.text_rows-count.ensures.lawful Left Right t le, ap (λ (b : Between). rows_upto Left t b.above) c.self.view_is)
-
-pub rows_upto-requires : goal.rows_upto-requires
-rows_upto-requires g c =
-    let t = c.args.place.text_row in
-    let le : t ≤ length (all_rows c.args.self.now.lines) = omega (arith, c.requires.zone) in
-    omega (arith, sums-fit c.args.self.now c.text_rows-count.ensures.lawful Right Right t le, ap (λ (b : Between). rows_upto Right t b.above) c.self.view_is)
-
-pub overflow_sub-above : goal.overflow_sub-above
-overflow_sub-above g c =
-    omega (arith, upto-through c.args.place.text_row c.self.inside.above, c.rows_upto.ensures.rows, c.rows_upto-before.ensures.rows)
-
 pub text_at-text-requires-clause-there : goal.text_at-text-requires-clause-there
 text_at-text-requires-clause-there g c =
-    omega (arith, upto-through c.args.place.text_row c.self.inside.above, c.rows_upto.ensures.rows, c.rows_upto-before.ensures.rows, c.if-place-above.true)
+    let t = c.args.place.text_row in
+    omega (arith, c.rows_above-above.ensures.count, c.if-place-above.true, ap (λ (b : Between). length (texts_at t b.above)) c.self.view_is)
+
+pub text_at-text-requires-clause-before : goal.text_at-text-requires-clause-before
+text_at-text-requires-clause-before g c =
+    let t = c.args.place.text_row in
+    c.rows_above-above.ensures.before ∙ sym (ap (λ (b : Between). rows_upto Left t b.above) c.self.view_is)
 
 pub returns-then-place-above-clause-row : goal.returns-then-place-above-clause-row
 returns-then-place-above-clause-row g c =
@@ -46,12 +36,12 @@ returns-then-place-above-2-clause-row g c =
     let b = c.args.self.now in
     let t = c.args.place.text_row in
     let at = c.args.place.at in
-    let above : at ≡ length (texts_at t b.above) = omega (arith, upto-through t c.self.inside.above, c.rows_upto.ensures.rows, c.rows_upto-before.ensures.rows, c.if-place-above-2.true, ap (λ (b : Between). length (texts_at t b.above)) c.self.view_is) in
+    let above : at ≡ length (texts_at t b.above) = omega (arith, c.rows_above-above.ensures.count, c.if-place-above-2.true) in
     IfOk-weaker c.text_row.result (λ (s : Shown). row_of_shown s ≡ text_row b t) (λ (s : Shown). slice_get (zone b t) at ≡ Some (row_of_shown s))
     (λ s e. text-part b t at above ∙ ap Some (sym e)) c.text_row.ensures
 
-pub rows_upto-before-requires-2 : goal.rows_upto-before-requires-2
-rows_upto-before-requires-2 g c =
+pub rows_upto-before-requires : goal.rows_upto-before-requires
+rows_upto-before-requires g c =
     let t = c.args.place.text_row + 1 in
     let le : t ≤ length (all_rows c.args.self.now.lines) = omega (arith, c.requires.zone) in
     omega (arith, sums-fit c.args.self.now c.text_rows-count.ensures.lawful Left Left t le, ap (λ (b : Between). rows_upto Left t b.below) c.self.view_is)
@@ -61,14 +51,11 @@ text_at-text-requires-2-clause-there g c =
     let t = c.args.place.text_row in
     omega (
       arith,
-      upto-through t c.self.inside.above,
-      c.rows_upto.ensures.rows,
-      c.rows_upto-before.ensures.rows,
+      c.rows_above-above.ensures.count,
       c.if-place-above.false,
       c.if-place-above-2.false,
       c.requires.there,
       length-zone c.args.self.now t,
-      ap (λ (b : Between). length (texts_at t b.above)) c.self.view_is,
       ap (λ (b : Between). length (texts_at (t + 1) b.below)) c.self.view_is,
     )
 
@@ -77,8 +64,8 @@ returns-clause-row g c =
     let b = c.args.self.now in
     let t = c.args.place.text_row in
     let at = c.args.place.at in
-    let j = at - (c.rows_upto.result - c.rows_upto-before.result) - 1 in
-    let index : at ≡ length (texts_at t b.above) + suc j = omega (arith, upto-through t c.self.inside.above, c.rows_upto.ensures.rows, c.rows_upto-before.ensures.rows, c.if-place-above.false, c.if-place-above-2.false, ap (λ (b : Between). length (texts_at t b.above)) c.self.view_is) in
+    let j = at - c.rows_above-above.result.count - 1 in
+    let index : at ≡ length (texts_at t b.above) + suc j = omega (arith, c.rows_above-above.ensures.count, c.if-place-above.false, c.if-place-above-2.false) in
     let text = sym (ap (λ (b : Between). slice_get (texts_at (t + 1) b.below) j) c.self.view_is) ∙ c.text_at-text-2.ensures.text in
     IfOk-weaker c.block_row-2.result (λ (s : Shown). row_of_shown s ≡ block_row c.text_at-text-2.result.now) (λ (s : Shown). slice_get (zone b t) at ≡ Some (row_of_shown s))
     (λ s e. below-part b t at j c.text_at-text-2.result.now index text ∙ ap Some (sym e)) c.block_row-2.ensures

@@ -1,7 +1,7 @@
 use Rattle.std.proofs.Common.{◌≡◌, ◌+◌, ◌++◌, length}
 use Rattle.block_map.specs.ShownRows.{shown_rows}
 use Rattle.block_map.specs.inside.Zones.{texts_of_kinds}
-use Rattle.block_map.proofs.snapshot.push_texts.Given as goal
+use Rattle.block_map.proofs.walking.push_texts.Given as goal
 
 abbrev pub invariant-loop-text : goal.invariant-loop-text
 invariant-loop-text l = record {

@@ -1,7 +1,7 @@
 use Rattle.std.proofs.Common.{arith}
 use Rattle.std.proofs.lemmas.List.{length_push}
 use Rattle.block_map.proofs.ShownTexts.{push-kind}
-use Rattle.block_map.proofs.snapshot.push_texts.Goals as goal
+use Rattle.block_map.proofs.walking.push_texts.Goals as goal
 
 pub loop-text-preserved : goal.loop-text-preserved
 loop-text-preserved c = record {
