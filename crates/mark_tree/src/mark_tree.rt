@@ -164,10 +164,13 @@ impl<P: Load> MarkTree<P> {
     pub fn put(&mut self, alloc: Global, mark: Mark<P>, steps: &mut Steps) -> Result<u32, NoMemory>
         requires small { length self.old + 1 < 2 ^ 32 }
         requires fresh { list_any (has_id mark.id) self.old ≡ false }
+        // The list after it, and where the mark stands in it.
         ensures ok { OnOk result (self.new ≡ insert_by mark_le mark self.old) }
         ensures place { IfOk result (λ at.
             self.new ≡ take at self.old ++ mark ∷ drop at self.old) }
         ensures within { IfOk result (λ at. at ≤ length self.old) }
+
+        // What stays, and the work.
         ensures err { OnErr result (self.new ≡ self.old) }
         ensures counted { steps.old ≤ steps.new }
         ensures steps { TakesAtMost adding (length self.old + 1) steps.old steps.new }

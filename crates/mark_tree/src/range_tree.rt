@@ -82,8 +82,11 @@ impl RangeTree {
     ) -> Result<(), Fault>
         requires some { range.start < range.end }
         requires small { length self.old + 1 < 2 ^ 32 }
+        // The list after it.
         ensures ok { OnOk result (self.new ≡ insert_by range_le range self.old) }
         ensures fresh { OnOk result (list_any (has_range_id range.id) self.old ≡ false) }
+
+        // The refusal is judged before any memory is taken.
         ensures refused { let is_there = list_any (has_range_id range.id) self.old in
             IfErr result (IsRefusedFor Refusal.IdInUse is_there) }
         ensures err { OnErr result (self.new ≡ self.old) }
@@ -105,9 +108,12 @@ impl RangeTree {
 
     /// Takes the range of this id off the tree. `UnknownId` exactly where there is none.
     pub fn remove(&mut self, alloc: Global, id: u32, steps: &mut Steps) -> Result<RangeMark, Fault>
+        // The list after it, and the range that it had.
         ensures ok { OnOk result (self.new ≡ filter (lacks_range_id id) self.old) }
         ensures range { IfOk result (λ r. Contains self.old r) }
         ensures id { IfOk result (λ r. r.id ≡ id) }
+
+        // The refusal is judged before any memory is taken.
         ensures refused { let is_there = list_any (has_range_id id) self.old in
             IfErr result (IsRefusedFor Refusal.UnknownId (not is_there)) }
         ensures err { OnErr result (self.new ≡ self.old) }
