@@ -13,17 +13,6 @@ module _ {T S : Type 0} (empty : S) (joined : S → S → S) (summary : T → S)
       let b = lawful_below empty joined summary h e cs l is in
       record { shows = is; children = b.1; room = b.0 }
 
-  pub packed-one : (h n least : ℕ) (a : S × ℕ × Entries T S) (all : List T) (cs : List (S × ℕ × Entries T S)) → cs ≡ a ∷ [] → IsChild empty joined summary (IsLawful empty joined summary h) n a → least ≤ n → items_in a.2 ≡ all → IsPacked empty joined summary h least all cs
-  packed-one h n least a all cs is k le ia =
-      subst (IsPacked empty joined summary h least all) (sym is)
-      (record {
-        children = children-one empty joined summary (IsLawful empty joined summary h) least a (child-weaker empty joined summary (IsLawful empty joined summary h) least n a le k);
-        both = λ two. absurd (omega arith);
-        some = omega arith;
-        few = omega arith;
-        items_is = append-nil (items_in a.2) ∙ ia;
-      })
-
   pub packed-two : (h n m least : ℕ) (a b : S × ℕ × Entries T S) (xs ys all : List T) (cs : List (S × ℕ × Entries T S)) → cs ≡ a ∷ b ∷ [] → IsChild empty joined summary (IsLawful empty joined summary h) n a → IsChild empty joined summary (IsLawful empty joined summary h) m b → 6 ≤ n → 6 ≤ m → least ≤ 6 → items_in a.2 ≡ xs → items_in b.2 ≡ ys → all ≡ xs ++ ys → IsPacked empty joined summary h least all cs
   packed-two h n m least a b xs ys all cs is k l le mle small ia ib e =
       let P : Entries T S → Type 0 = IsLawful empty joined summary h in

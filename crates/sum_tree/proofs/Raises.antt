@@ -3,11 +3,11 @@ use Rattle.std.proofs.Common.{◌≡◌, ℕ, zero, suc, ◌+◌, ◌<◌, ◌�
 use Rattle.std.proofs.lemmas.List.{append-nil, nil_from_length}
 use Rattle.sum_core.specs.Nodes.{IsLawful, IsChildList, IsChild, IsRoot, entries_of, items_in, items_under, width, contents}
 use Rattle.sum_core.specs.declared.node.Entries.{Entries}
-use Rattle.sum_tree.specs.inside.Parts.{IsMelded, IsPacked, IsRaisable}
+use Rattle.sum_tree.specs.inside.Parts.{IsMelded, IsRaisable}
 use Rattle.sum_tree.specs.inside.Trees.{IsTreeOf}
 use Rattle.sum_tree.specs.declared.trees.Tree.{Tree}
 use Rattle.sum_core.specs.Sums.{total}
-use Rattle.sum_core.proofs.Children.{children-head, children-weaker}
+use Rattle.sum_core.proofs.Children.{children-head}
 
 module _ {T S : Type 0} (empty : S) (joined : S → S → S) (summary : T → S) where
   pub raisable : (lh rh : ℕ) (le re : Entries T S) (pieces : List (S × ℕ × Entries T S)) → IsRoot empty joined summary lh le → IsRoot empty joined summary rh re → IsMelded empty joined summary lh le rh re pieces → IsRaisable empty joined summary (max lh rh) pieces
@@ -36,10 +36,6 @@ module _ {T S : Type 0} (empty : S) (joined : S → S → S) (summary : T → S)
         items_is = ap items_in e;
       }
 
-  -- a tree over a child that is wide enough for a root
-  pub tree-over : (h n : ℕ) (c : S × ℕ × Entries T S) (t : Tree T S) → (t.sum, t.count, entries_of t.node) ≡ c → t.height ≡ h → IsChild empty joined summary (IsLawful empty joined summary h) n c → (0 < h → 2 ≤ n) → IsTreeOf empty joined summary t (items_in c.2)
-  tree-over h n c t is same k two = rooted h n c t is same (record { lawful = k.below; two = λ lt. omega (arith, two lt, k.wide) }) k
-
   -- a tree over the one piece that there is
   pub raised-one : (h : ℕ) (rest pieces : List (S × ℕ × Entries T S)) (c : S × ℕ × Entries T S) (t : Tree T S) → (t.sum, t.count, entries_of t.node) ≡ c → t.height ≡ h → length pieces ≡ 1 → pieces ≡ c ∷ rest → IsRaisable empty joined summary h pieces → IsTreeOf empty joined summary t (items_under pieces)
   raised-one h rest pieces c t is same one e r =
@@ -49,21 +45,3 @@ module _ {T S : Type 0} (empty : S) (joined : S → S → S) (summary : T → S)
       let k = child 0 (omega arith) (λ _. refl) in
       subst (IsTreeOf empty joined summary t) (sym all)
       (rooted h 0 c t is same (record { lawful = k.below; two = λ lt. (child 2 (omega arith) (λ z. absurd (omega arith))).wide }) k)
-
-  pub children-raisable : (h : ℕ) (pieces : List (S × ℕ × Entries T S)) → 1 ≤ length pieces → length pieces ≤ 12 → IsChildList empty joined summary (IsLawful empty joined summary h) 6 pieces → IsRaisable empty joined summary h pieces
-  children-raisable h pieces some few r =
-      record {
-        children = λ least two low. children-weaker empty joined summary (IsLawful empty joined summary h) least 6 pieces (omega arith) r;
-        both = λ _. r;
-        some = some;
-        few = few;
-      }
-
-  pub leaf-raisable : (n : ℕ) (all : List T) (pieces : List (S × ℕ × Entries T S)) → IsPacked empty joined summary 0 n all pieces → IsRaisable empty joined summary 0 pieces
-  leaf-raisable n all pieces p =
-      record {
-        children = λ least two low. children-weaker empty joined summary (IsLawful empty joined summary 0) least n pieces (omega (arith, low refl)) p.children;
-        both = p.both;
-        some = p.some;
-        few = omega (arith, p.few);
-      }

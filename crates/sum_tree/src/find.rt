@@ -9,13 +9,18 @@ use sum_core::{Child, Entries, Item, Node};
 
 /// The child that the place `at` lies in or at the end of, as its index and the number of items before it.
 pub fn find_child<T: Item>(children: &[Child<T>], below: usize, at: usize) -> (usize, usize)
+    // The place is one of the items below the children, or their end.
     requires some { 1 ≤ length children.now }
     requires children { AreChildren T.Item T.Sum.Summary below children.now }
     requires within { at ≤ length (items_below children.now) }
     requires small { length (items_below children.now) < 2 ^ 32 }
+
+    // The child, and how many items stand before it.
     ensures index { result.0 < length children.now }
     ensures offset { result.1 ≡
         length (items_under (take result.0 (map child_value children.now))) }
+
+    // The place is behind the start of the child, or at it where that is 0, and no further than its end.
     ensures low { result.1 ≤ at }
     ensures not_at_start { 0 < at → result.1 < at }
     ensures high { at ≤ length (items_under (take (result.0 + 1) (map child_value children.now))) }
@@ -33,10 +38,15 @@ pub fn find_child<T: Item>(children: &[Child<T>], below: usize, at: usize) -> (u
 
 /// The item at place `at`.
 pub fn item_at<'a, T: Item>(node: &'a Node<T>, height: usize, at: usize, steps: &mut Steps) -> &'a T
+    // There is an item at the place.
     requires lawful { IsLawfulNode T.Item T.Sum.Summary height node.now }
     requires within { at < length (items_of node.now) }
     requires small { length (items_of node.now) < 2 ^ 32 }
+
+    // The item.
     ensures item { slice_get (items_of node.now) at ≡ Some result.now }
+
+    // One node a level is opened at most.
     ensures counted { steps.old ≤ steps.new }
     ensures steps { steps.new ≤ steps.old + height + 1 }
     ensures opened { OpensAtLeast (height + 1) steps.old steps.new }

@@ -28,11 +28,16 @@ pub fn put_in_tree<T: Item>(
     items: Vec<T>,
     steps: &mut Steps,
 ) -> Result<(), Vec<T>>
+    // The span lies in the tree, and the items may stand in its place.
     requires tree { IsLawfulTree T.Item T.Sum.Summary tree.old }
     requires can { CanRefill T.Item T.Sum.Summary (items_of tree.old.node) span items.items }
+
+    // The tree with the items, or as it was.
     ensures tree { IsLawfulTree T.Item T.Sum.Summary tree.new }
     ensures put { let held = items_of tree.old.node in
         IsRefilledAlone T.Item T.Sum.Summary held span items.items items (items_of tree.new.node) result }
+
+    // One node a level is opened at most.
     ensures counted { steps.old ≤ steps.new }
     ensures steps { steps.new ≤ steps.old + tree.old.height + 1 }
 {

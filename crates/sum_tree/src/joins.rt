@@ -17,13 +17,18 @@ pub fn meld_level<T: Item>(
     height: usize,
     steps: &mut Steps,
 ) -> Result<Vec<Child<T>>, NoMemory>
+    // Two roots, of which the items together may stand in one tree.
     requires left { IsLawfulNode T.Item T.Sum.Summary height left.now }
     requires right { IsLawfulNode T.Item T.Sum.Summary height right.now }
     requires fits { SumFits T.Item T.Sum.Summary (items_of left.now ++ items_of right.now) }
     requires small { length (items_of left.now ++ items_of right.now) < 2 ^ 32 }
+
+    // The items of the one and then of the other.
     ensures packed { IfOk result
         (λ v. ArePacked T.Item T.Sum.Summary height (entry_count left.now + entry_count right.now)
         (items_of left.now ++ items_of right.now) v.items) }
+
+    // Both are opened, and two are made at most.
     ensures counted { steps.old ≤ steps.new }
     ensures steps { steps.new ≤ steps.old + 4 }
 {
@@ -48,12 +53,17 @@ pub fn meld<T: Item>(
     right_height: usize,
     steps: &mut Steps,
 ) -> Result<Vec<Child<T>>, NoMemory>
+    // Two roots, of which the items together may stand in one tree.
     requires left { IsLawfulRoot T.Item T.Sum.Summary left_height left.now }
     requires right { IsLawfulRoot T.Item T.Sum.Summary right_height right.now }
     requires fits { SumFits T.Item T.Sum.Summary (items_of left.now ++ items_of right.now) }
     requires small { length (items_of left.now ++ items_of right.now) < 2 ^ 32 }
+
+    // The items of the one and then of the other.
     ensures melded { IfOk result
         (λ v. AreMelded T.Item T.Sum.Summary left_height left.now right_height right.now v.items) }
+
+    // Three nodes for each level that the one is higher, and four.
     ensures counted { steps.old ≤ steps.new }
     ensures steps { steps.new + 3 * min left_height right_height ≤ steps.old +
         3 * max left_height right_height + 4 }

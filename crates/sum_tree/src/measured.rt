@@ -44,13 +44,18 @@ impl<'a, T: Item> Path<'a, T> {
         bias: Bias,
         steps: &mut Steps,
     ) -> Found<'a, T>
+        // The path leads through its tree.
         requires path { IsWay T.Item T.Sum.Summary self }
+
+        // Where the item stands, and the sum of what is before it.
         ensures first { IsFirst T.Sum.empty T.Sum.joined T.summary M.number
             (items_seen self.entry.root) target bias result.index }
         ensures before { result.before ≡
             sum_of T.Item T.Sum.Summary (take result.index (items_seen self.entry.root)) }
         ensures item { option_copied result.item ≡
             slice_get (items_seen self.entry.root) result.index }
+
+        // One node a level is opened at most.
         ensures counted { steps.old ≤ steps.new }
         ensures steps { steps.new ≤ steps.old + height_seen self.entry.root + 1 }
     {
@@ -74,12 +79,17 @@ impl<'a, T: Item> Path<'a, T> {
 impl<'a, T: Item> Path<'a, T> {
     /// The item of this index, or the end.
     pub fn find_at(self, index: u32, steps: &mut Steps) -> Found<'a, T>
+        // The path leads through its tree.
         requires path { IsWay T.Item T.Sum.Summary self }
+
+        // Where the item stands, and the sum of what is before it.
         ensures index { result.index ≡ min index (length (items_seen self.entry.root)) }
         ensures before { result.before ≡
             sum_of T.Item T.Sum.Summary (take result.index (items_seen self.entry.root)) }
         ensures item { option_copied result.item ≡
             slice_get (items_seen self.entry.root) result.index }
+
+        // One node a level is opened at most.
         ensures counted { steps.old ≤ steps.new }
         ensures steps { steps.new ≤ steps.old + height_seen self.entry.root + 1 }
     {

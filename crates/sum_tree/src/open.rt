@@ -57,12 +57,17 @@ pub fn take_last<T: Item>(
     height: usize,
     steps: &mut Steps,
 ) -> Result<Parted<T>, NoMemory>
+    // An inner node with a child.
     requires lawful { IsLawfulNode T.Item T.Sum.Summary height node.now }
     requires is_inner { 1 ≤ height }
     requires some { 1 ≤ width (contents (entries_of node.now)) }
+
+    // The last child, and the others in their order.
     ensures parted { IfOk result
         (λ p. IsPartedNode T.Item T.Sum.Summary height node.now
         (items_below p.rest.items ++ items_of p.node) p) }
+
+    // The node is opened.
     ensures counted { steps.old ≤ steps.new }
     ensures steps { steps.new ≤ steps.old + 1 }
 {
@@ -83,12 +88,17 @@ pub fn take_first<T: Item>(
     height: usize,
     steps: &mut Steps,
 ) -> Result<Parted<T>, NoMemory>
+    // An inner node with a child.
     requires lawful { IsLawfulNode T.Item T.Sum.Summary height node.now }
     requires is_inner { 1 ≤ height }
     requires some { 1 ≤ width (contents (entries_of node.now)) }
+
+    // The first child, and the others in their order.
     ensures parted { IfOk result
         (λ p. IsPartedNode T.Item T.Sum.Summary height node.now
         (items_of p.node ++ items_below p.rest.items) p) }
+
+    // The node is opened.
     ensures counted { steps.old ≤ steps.new }
     ensures steps { steps.new ≤ steps.old + 1 }
 {

@@ -48,10 +48,15 @@ pub fn make_leaf<T: Item>(
     items: Vec<T>,
     steps: &mut Steps,
 ) -> Result<Child<T>, NoMemory>
+    // No more items than one node holds.
     requires room { vec_len items ≤ 12 }
     requires fits { SumFits T.Item T.Sum.Summary items.items }
+
+    // A leaf of just these.
     ensures kept { IfOk result (λ c. IsWideChild T.Item T.Sum.Summary 0 (vec_len items) c) }
     ensures items { IfOk result (λ c. items_in (child_value c).2 ≡ items.items) }
+
+    // One node is made.
     ensures counted { steps.old ≤ steps.new }
     ensures steps { steps.new ≤ steps.old + 1 }
 {
@@ -70,13 +75,18 @@ pub fn make_inner<T: Item>(
     height: usize,
     steps: &mut Steps,
 ) -> Result<Child<T>, NoMemory>
+    // Children of the height below, no more than one node holds, of which the items may stand in one tree.
     requires is_inner { 1 ≤ height }
     requires children { AreChildren T.Item T.Sum.Summary (height - 1) children.items }
     requires room { vec_len children ≤ 12 }
     requires fits { SumFits T.Item T.Sum.Summary (items_below children.items) }
     requires small { length (items_below children.items) < 2 ^ 32 }
+
+    // A node of just these.
     ensures kept { IfOk result (λ c. IsWideChild T.Item T.Sum.Summary height (vec_len children) c) }
     ensures items { IfOk result (λ c. items_in (child_value c).2 ≡ items_below children.items) }
+
+    // One node is made.
     ensures counted { steps.old ≤ steps.new }
     ensures steps { steps.new ≤ steps.old + 1 }
 {
@@ -152,14 +162,19 @@ pub fn pack_children<T: Item>(
     height: usize,
     steps: &mut Steps,
 ) -> Result<Vec<Child<T>>, NoMemory>
+    // Children of the height below, no more than two nodes hold, of which the items may stand in one tree.
     requires is_inner { 1 ≤ height }
     requires children { AreChildren T.Item T.Sum.Summary (height - 1) children.items }
     requires room { vec_len children ≤ 24 }
     requires fits { SumFits T.Item T.Sum.Summary (items_below children.items) }
     requires small { length (items_below children.items) < 2 ^ 32 }
+
+    // All items, in their order.
     ensures packed { IfOk result
         (λ v. ArePacked T.Item T.Sum.Summary height (vec_len children) (items_below children.items)
         v.items) }
+
+    // Two nodes are made at most.
     ensures counted { steps.old ≤ steps.new }
     ensures steps { steps.new ≤ steps.old + 2 }
 {
@@ -182,6 +197,7 @@ pub fn pack_joined<T: Item>(
     height: usize,
     steps: &mut Steps,
 ) -> Result<Vec<Child<T>>, NoMemory>
+    // Children of the height below, no more than two nodes hold, of which the items may stand in one tree.
     requires is_inner { 1 ≤ height }
     requires front { AreChildren T.Item T.Sum.Summary (height - 1) front.items }
     requires back { AreChildren T.Item T.Sum.Summary (height - 1) back.items }
@@ -189,9 +205,13 @@ pub fn pack_joined<T: Item>(
     requires fits { SumFits T.Item T.Sum.Summary (items_below front.items ++
         items_below back.items) }
     requires small { length (items_below front.items ++ items_below back.items) < 2 ^ 32 }
+
+    // All items, in their order.
     ensures packed { IfOk result
         (λ v. ArePacked T.Item T.Sum.Summary height (vec_len front + vec_len back)
         (items_below front.items ++ items_below back.items) v.items) }
+
+    // Two nodes are made at most.
     ensures counted { steps.old ≤ steps.new }
     ensures steps { steps.new ≤ steps.old + 2 }
 {

@@ -384,11 +384,18 @@ impl<'a, T: Item> Path<'a, T> {
 
     /// The item of this index, from where the path ends, or else from the root.
     pub fn go_to(&mut self, index: usize, steps: &mut Steps) -> &'a T
+        // The path leads through its tree, and there is an item at the index.
         requires path { IsWay T.Item T.Sum.Summary self.old }
         requires within { index < length (items_seen self.old.root) }
+
+        // It leads through the same tree then.
         ensures path { IsWay T.Item T.Sum.Summary self.new }
         ensures root { self.new.root ≡ self.old.root }
+
+        // The item.
         ensures item { slice_get (items_seen self.old.root) index ≡ Some result.now }
+
+        // One node a level is opened at most.
         ensures counted { steps.old ≤ steps.new }
         ensures steps { steps.new ≤ steps.old + height_seen self.old.root + 1 }
     {
@@ -408,11 +415,18 @@ impl<'a, T: Item> Path<'a, T> {
         aim: &Aim<D>,
         steps: &mut Steps,
     ) -> Option<Found<'a, T, D>>
+        // The path leads through its tree.
         requires path { IsWay T.Item T.Sum.Summary self.old }
+
+        // It leads through the same tree then.
         ensures path { IsWay T.Item T.Sum.Summary self.new }
         ensures root { self.new.root ≡ self.old.root }
+
+        // The item, or `None` where the aim is met with none.
         ensures found { FindsItem T.Item T.Sum.Summary D.measure D.cmp (items_seen self.old.root)
             aim.now (length (items_seen self.old.root)) result }
+
+        // One node a level is opened at most.
         ensures counted { steps.old ≤ steps.new }
         ensures steps { steps.new ≤ steps.old + height_seen self.old.root + 1 }
     {

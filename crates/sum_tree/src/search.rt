@@ -101,9 +101,14 @@ pub fn before_below<T: Item, Q: Probe<T>>(
     probe: &Q,
     steps: &mut Steps,
 ) -> usize
+    // The node is lawful, and its items can be counted.
     requires lawful { IsLawful T.Sum.empty T.Sum.joined T.summary height (entries_of node.now) }
     requires small { length (items_of node.now) < 2 ^ 32 }
+
+    // The items before the first that passes, or all.
     ensures place { result ≡ position_or_len (Q.is_passed probe.now) (items_of node.now) }
+
+    // Where the node is at least half full, fewer nodes are opened than a fifth of its items.
     ensures counted { steps.old ≤ steps.new }
     ensures steps { Searches (length (items_of node.now)) steps.old steps.new }
     ensures wide { let n = length (items_of node.now) in

@@ -28,11 +28,16 @@ pub fn cut_children<T: Item>(
     at: usize,
     steps: &mut Steps,
 ) -> Result<Cut<T>, NoMemory>
+    // An inner root, and a place in it or at its end.
     requires tree { IsLawfulRoot T.Item T.Sum.Summary height node.now }
     requires is_inner { 1 ≤ height }
     requires within { at ≤ length (items_of node.now) }
     requires small { length (items_of node.now) < 2 ^ 32 }
+
+    // The child, and those on both sides of it.
     ensures cut { IfOk result (λ u. IsCutNode T.Item T.Sum.Summary height node.now at u) }
+
+    // The node is opened.
     ensures counted { steps.old ≤ steps.new }
     ensures steps { steps.new ≤ steps.old + 1 }
 {
@@ -56,16 +61,23 @@ pub fn join_before<T: Item>(
     tree: Tree<T>,
     steps: &mut Steps,
 ) -> Result<Tree<T>, NoMemory>
+    // Children that fit one node, and a tree.
     requires children { AreChildren T.Item T.Sum.Summary below children.items }
     requires room { vec_len children ≤ 12 }
     requires low { below < 2 ^ 32 }
     requires tree { IsLawfulTree T.Item T.Sum.Summary tree }
+
+    // Their items together may stand in one tree.
     requires fits { SumFits T.Item T.Sum.Summary (items_below children.items ++
         items_of tree.node) }
     requires small { length (items_below children.items ++ items_of tree.node) < 2 ^ 32 }
+
+    // The items in that order.
     ensures put { IfOk result
         (λ t. IsTreeHolding T.Item T.Sum.Summary t
         (items_below children.items ++ items_of tree.node)) }
+
+    // One node is made at most, and one join done.
     ensures counted { steps.old ≤ steps.new }
     ensures steps { steps.new ≤ steps.old + 39 }
 {
@@ -85,16 +97,23 @@ pub fn join_after<T: Item>(
     below: usize,
     steps: &mut Steps,
 ) -> Result<Tree<T>, NoMemory>
+    // Children that fit one node, and a tree.
     requires children { AreChildren T.Item T.Sum.Summary below children.items }
     requires room { vec_len children ≤ 12 }
     requires low { below < 2 ^ 32 }
     requires tree { IsLawfulTree T.Item T.Sum.Summary tree }
+
+    // Their items together may stand in one tree.
     requires fits { SumFits T.Item T.Sum.Summary (items_of tree.node ++
         items_below children.items) }
     requires small { length (items_of tree.node ++ items_below children.items) < 2 ^ 32 }
+
+    // The items in that order.
     ensures put { IfOk result
         (λ t. IsTreeHolding T.Item T.Sum.Summary t
         (items_of tree.node ++ items_below children.items)) }
+
+    // One node is made at most, and one join done.
     ensures counted { steps.old ≤ steps.new }
     ensures steps { steps.new ≤ steps.old + 39 }
 {
@@ -121,14 +140,19 @@ pub fn split_at<T: Item>(
     at: usize,
     steps: &mut Steps,
 ) -> Result<Halves<T>, NoMemory>
+    // A place in the tree or at its end.
     requires tree { IsLawfulRoot T.Item T.Sum.Summary height node.now }
     requires within { at ≤ length (items_of node.now) }
     requires fits { SumFits T.Item T.Sum.Summary (items_of node.now) }
     requires small { length (items_of node.now) < 2 ^ 32 }
+
+    // The two halves.
     ensures left { IfOk result
         (λ p. IsTreeHolding T.Item T.Sum.Summary p.left (take at (items_of node.now))) }
     ensures right { IfOk result
         (λ p. IsTreeHolding T.Item T.Sum.Summary p.right (drop at (items_of node.now))) }
+
+    // A level opens one node and joins twice, at 39 nodes at most; a leaf costs three.
     ensures counted { steps.old ≤ steps.new }
     ensures steps { steps.new ≤ steps.old + 79 * height + 3 }
 {

@@ -176,11 +176,16 @@ impl<T: Item> SumTree<T> {
 
     /// Adds an item at the end: in place where the last leaf has room, and else by a join.
     pub fn push(&mut self, alloc: Global, item: T, steps: &mut Steps) -> Result<(), NoMemory>
+        // The sum and the length of the list after it fit.
         requires fits { T.Sum.fits
             (total T.Sum.empty T.Sum.joined T.summary (self.old ++ item ∷ [])) }
         requires small { length (self.old ++ item ∷ []) < 2 ^ 32 }
+
+        // What is there after it.
         ensures ok { OnOk result (self.new ≡ self.old ++ item ∷ []) }
         ensures err { OnErr result (self.new ≡ self.old) }
+
+        // The work.
         ensures counted { steps.old ≤ steps.new }
         ensures steps { steps.new ≤ steps.old + pushing }
     {
@@ -203,10 +208,15 @@ impl<T: Item> SumTree<T> {
         other: SumTree<T>,
         steps: &mut Steps,
     ) -> Result<(), NoMemory>
+        // The sum and the length of the list after it fit.
         requires fits { T.Sum.fits (total T.Sum.empty T.Sum.joined T.summary (self.old ++ other)) }
         requires small { length (self.old ++ other) < 2 ^ 32 }
+
+        // What is there after it.
         ensures ok { OnOk result (self.new ≡ self.old ++ other) }
         ensures err { OnErr result (self.new ≡ self.old) }
+
+        // The work.
         ensures counted { steps.old ≤ steps.new }
         ensures steps { steps.new ≤ steps.old + joining }
     {
@@ -233,9 +243,13 @@ impl<T: Item> SumTree<T> {
         steps: &mut Steps,
     ) -> Result<SumTree<T>, NoMemory>
         requires { at ≤ length self.old }
+
+        // What stays, and what is answered.
         ensures ok { OnOk result (self.new ≡ take at self.old) }
         ensures tail { IfOk result (λ t. t ≡ drop at self.old) }
         ensures err { OnErr result (self.new ≡ self.old) }
+
+        // The work.
         ensures counted { steps.old ≤ steps.new }
         ensures steps { TakesAtMost cutting (length self.old) steps.old steps.new }
     {
@@ -259,15 +273,20 @@ impl<T: Item> SumTree<T> {
         items: Vec<T>,
         steps: &mut Steps,
     ) -> Result<(), NoMemory>
+        // The places stand in the list, and its sum and length after it fit.
         requires order { from ≤ to }
         requires within { to ≤ length self.old }
         requires fits { T.Sum.fits
             (total T.Sum.empty T.Sum.joined T.summary
             (take from self.old ++ items.items ++ drop to self.old)) }
         requires small { length (take from self.old ++ items.items ++ drop to self.old) < 2 ^ 32 }
+
+        // What is there after it.
         ensures ok { OnOk result
             (self.new ≡ take from self.old ++ items.items ++ drop to self.old) }
         ensures err { OnErr result (self.new ≡ self.old) }
+
+        // The work.
         ensures counted { steps.old ≤ steps.new }
         ensures steps { ChangesAtMost (replacing (length items.items)) (length self.old)
             (length (take from self.old ++ items.items ++ drop to self.old)) steps.old steps.new }

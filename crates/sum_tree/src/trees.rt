@@ -53,13 +53,18 @@ pub fn raise<T: Item>(
     height: usize,
     steps: &mut Steps,
 ) -> Result<Tree<T>, NoMemory>
+    // Pieces of one height, of which the items may stand in one tree.
     requires pieces { AreRaisable T.Item T.Sum.Summary height pieces.items }
     requires low { height < 2 ^ 32 }
     requires fits { SumFits T.Item T.Sum.Summary (items_below pieces.items) }
     requires small { length (items_below pieces.items) < 2 ^ 32 }
+
+    // A tree of them, as high or one level higher.
     ensures raised { IfOk result
         (λ t. IsTreeHolding T.Item T.Sum.Summary t (items_below pieces.items)) }
     ensures height { IfOk result (λ t. (height ≤ t.height) × (t.height ≤ height + 1)) }
+
+    // One node is made at most.
     ensures counted { steps.old ≤ steps.new }
     ensures steps { steps.new ≤ steps.old + 1 }
 {
@@ -80,17 +85,23 @@ pub fn join<T: Item>(
     right: &Tree<T>,
     steps: &mut Steps,
 ) -> Result<Tree<T>, NoMemory>
+    // Two trees, of which the items together may stand in one.
     requires left { IsLawfulTree T.Item T.Sum.Summary left.now }
     requires right { IsLawfulTree T.Item T.Sum.Summary right.now }
     requires fits { SumFits T.Item T.Sum.Summary (items_of left.now.node ++
         items_of right.now.node) }
     requires small { length (items_of left.now.node ++ items_of right.now.node) < 2 ^ 32 }
+
+    // A tree of them, as high as the higher or one level higher.
     ensures joined { IfOk result
         (λ t. IsTreeHolding T.Item T.Sum.Summary t
         (items_of left.now.node ++ items_of right.now.node)) }
     ensures height { IfOk result
         (λ t. (max left.now.height right.now.height ≤ t.height) ×
         (t.height ≤ max left.now.height right.now.height + 1)) }
+
+    // Three nodes for each level that the one is higher, and five.
+    // Whatever the heights are, no more than 38 are opened and made.
     ensures climb { steps.new + 3 * min left.now.height right.now.height ≤ steps.old +
         3 * max left.now.height right.now.height + 5 }
     ensures counted { steps.old ≤ steps.new }
@@ -114,12 +125,17 @@ pub fn build_last<T: Item>(
     count: usize,
     steps: &mut Steps,
 ) -> Result<Tree<T>, NoMemory>
+    // There are so many items, and they may stand in one tree.
     requires within { count ≤ vec_len items.old }
     requires fits { SumFits T.Item T.Sum.Summary items.old.items }
     requires small { vec_len items.old < 2 ^ 32 }
+
+    // A tree of those taken off; the others stay.
     ensures tree { IfOk result (λ t. IsLawfulTree T.Item T.Sum.Summary t) }
     ensures items { IfOk result (λ t. items.old.items ≡ items.new.items ++ items_of t.node) }
     ensures count { IfOk result (λ t. length (items_of t.node) ≡ count) }
+
+    // Four nodes an item and four, and for twelve items and more 42 less.
     ensures counted { steps.old ≤ steps.new }
     ensures steps { steps.new ≤ steps.old + 4 * (count + 1) }
     ensures many { 12 ≤ count → steps.new + 38 ≤ steps.old + 4 * count }
