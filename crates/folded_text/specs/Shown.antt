@@ -1,11 +1,9 @@
 -- A text with the maps of its inlays and folds, and what is shown of them.
 use Rattle.std.specs.Prelude.{ℕ, ◌≡◌, ◌≤◌, List, length, Option, Some, None}
 use Rattle.std.specs.Str.{IsUtf8}
-use Rattle.cell_units.specs.declared.fault.Fault.{Fault}
-use Rattle.cell_units.specs.declared.fault.Fault.TheVariants.{Refused, NoMemory}
 use Rattle.cell_units.specs.Layers.{Source, plain_source, unfolded}
 use Rattle.cell_units.specs.Operation.{replaced_text}
-use Rattle.text_rope.specs.Edits.{IsRange, IsReplaceFault}
+use Rattle.text_rope.specs.Edits.{IsRange}
 use Rattle.shifted_lists.specs.LayerLeads.{LayerLeads}
 use Rattle.shifted_lists.specs.Leads.{Reach}
 use Rattle.inlay_map.specs.Maps as inlaid
@@ -51,12 +49,6 @@ pub record IsReplaced (old new : List ℕ) (s : Reach) : Type 0 where
 abbrev pub IsReplacedIfAny : List ℕ → List ℕ → Option Reach → Type 0
 IsReplacedIfAny old new None = new ≡ old
 IsReplacedIfAny old new (Some s) = IsReplaced old new s
-
--- The fault tells why the clean text s doesn't come for the range. Want of memory tells nothing, since the text is copied before
--- the range is judged.
-abbrev pub IsReplaceRefusal : List ℕ → ℕ → ℕ → List ℕ → Fault → Type 0
-IsReplaceRefusal text start end s (Refused refusal) = IsReplaceFault text start end s (Refused refusal)
-IsReplaceRefusal text start end s NoMemory = Unit {0}
 
 -- ---- a snapshot
 

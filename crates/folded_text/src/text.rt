@@ -1,17 +1,18 @@
 //! A text with its inlays and folds.
-ghost use Rattle.std.specs.Prelude.{◌≡◌, ◌≤◌, None, Some, option_map, IfErr, IfOk, OnErr, OnOk};
+ghost use Rattle.std.specs.Prelude.{◌≡◌, ◌≤◌, None, Some, length, option_map, IfErr, IfOk, OnErr, OnOk};
 ghost use Rattle.std.specs.List.{Contains};
 ghost use Rattle.cell_units.specs.Operation.{replaced_text};
 ghost use Rattle.cell_units.specs.Record.{Fold, Inlay};
 ghost use Rattle.cell_units.specs.Text.{clean};
-ghost use Rattle.text_rope.specs.Edits.{IsRange};
+ghost use Rattle.cell_units.specs.declared.limits.TheConstants.{TEXT_LIMIT};
+ghost use Rattle.text_rope.specs.Edits.{IsRange, IsReplaceFault};
 ghost use Rattle.inlay_map.specs.Maps as inlaid;
 ghost use Rattle.inlay_map.specs.Maps.{add_refusal, added, inlay_with, remove_refusal, removed};
 ghost use Rattle.fold_map.specs.Maps as folded;
 ghost use Rattle.fold_map.specs.Maps.{fold_with, folded_up, opened_up};
 ghost use Rattle.fold_map.specs.Snapshots.{fold_refusal, unfold_refusal};
 ghost use Rattle.shifted_lists.specs.Leads.{reach_of};
-ghost use Rattle.folded_text.specs.Shown.{BelongTogether, IsReplaceRefusal, IsReplacedIfAny, IsShown, folds_shown, inlays_shown, no_folds, no_inlays, put_at};
+ghost use Rattle.folded_text.specs.Shown.{BelongTogether, IsReplacedIfAny, IsShown, folds_shown, inlays_shown, no_folds, no_inlays, put_at};
 
 use crate::callers::show;
 use cell_units::{Bias, Fault, NoMemory, Shift, Steps};
@@ -42,17 +43,17 @@ fn replaced(
     steps: &mut Steps,
 ) -> Result<(Rope, Shift), Fault>
     ensures range { OnOk result (IsRange rope.now start end) }
+    ensures small { IfOk result (λ new. length new.0 ≤ TEXT_LIMIT) }
     ensures text { let made = replaced_text rope.now start end (clean text.now) in
         IfOk result (λ new. new.0 ≡ made) }
     ensures shift { let put = put_at start end (clean text.now) in
         IfOk result (λ new. reach_of new.1 ≡ put) }
-    ensures refused { IfErr result (IsReplaceRefusal rope.now start end (clean text.now)) }
+    ensures refused { IfErr result (IsReplaceFault rope.now start end (clean text.now)) }
     ensures counted { steps.old ≤ steps.new }
 {
-    let bytes = rope.len();
-    let mut made = rope.share()?;
-    made.replace(alloc, start, end, text, steps)?;
-    let shift = Shift::new(start, end, made.len() - (bytes - (end - start)));
+    let (made, _) = rope.replaced(alloc, start, end, text, steps)?;
+    let kept = rope.len() - (end - start);
+    let shift = Shift::new(start, end, made.len() - kept);
     Ok((made, shift))
 }
 
@@ -192,6 +193,7 @@ impl FoldedText {
         steps: &mut Steps,
     ) -> Result<(Shown, Option<Shift>), Fault>
         ensures range { OnOk result (IsRange self.old.rope start end) }
+        ensures small { OnOk result (length self.new.rope ≤ TEXT_LIMIT) }
         ensures text { let made = replaced_text self.old.rope start end (clean text.now) in
             OnOk result (self.new.rope ≡ made) }
 
@@ -204,7 +206,7 @@ impl FoldedText {
         ensures shown { let put = put_at start end (clean text.now) in let was = self.old in
             IfOk result (λ made. let answer = option_map reach_of made.1 in
             IsShown self.new.rope (Some put) was.inlays was.folds made.0 answer) }
-        ensures refused { IfErr result (IsReplaceRefusal self.old.rope start end (clean text.now)) }
+        ensures refused { IfErr result (IsReplaceFault self.old.rope start end (clean text.now)) }
         ensures unchanged { OnErr result (self.new ≡ self.old) }
         ensures counted { steps.old ≤ steps.new }
     {

@@ -1,5 +1,5 @@
 -- The lines of a text, for the maps above it.
-use Rattle.std.proofs.Common.{◌≡◌, ℕ, ◌+◌, ◌-◌, ◌<◌, ◌≤◌, ◌^◌, List, length, Option, Some, None, inl, inr, arith, ap, sym, subst, ◌∙◌}
+use Rattle.std.proofs.Common.{◌≡◌, Result, Ok, Err, IfErr, IsErrAnd, ℕ, ◌+◌, ◌-◌, ◌<◌, ◌≤◌, ◌^◌, List, length, Option, Some, None, inl, inr, arith, ap, sym, subst, ◌∙◌}
 use Rattle.std.specs.Prelude.{unwrap_or}
 use Rattle.cell_units.specs.declared.limits.TheConstants.{TEXT_LIMIT}
 use Rattle.cell_units.specs.declared.place.Shift.{Shift}
@@ -12,7 +12,9 @@ use Rattle.cell_units.proofs.ReplacedRows.{length-replaced_text}
 use Rattle.shifted_lists.specs.Leads.{LeadsBy}
 use Rattle.tab_map.specs.TabLines.{AreMet, AreReplaced, IsShift, IsSynced, LinesFollow, Tabbed, last_lines, lines_at}
 use Rattle.tab_map.proofs.PlainTexts.{plain-few, plain-fits, plain-follow}
-use Rattle.text_rope.specs.Edits.{IsRange}
+use Rattle.text_rope.specs.Edits.{IsRange, IsReplaceFault}
+use Rattle.cell_units.specs.declared.fault.Fault.{Fault}
+use Rattle.cell_units.specs.declared.fault.Fault.TheVariants.{NoMemory}
 use Rattle.edit_patch.specs.declared.edit.Edit.{Edit}
 use Rattle.cell_line.specs.declared.lines.Run.{Run}
 use Rattle.cell_units.specs.Rows.{all_rows}
@@ -94,3 +96,8 @@ may-lawful width may = elim (cases_eq width 0) [
 pub lawful-may : (width : ℕ) → IsWidth width → MayStand width
 lawful-may width (inl none) some = absurd (some none)
 lawful-may width (inr within) some = within
+
+-- a replacement that finds no memory has that fault, since the range was judged
+pub memory-fault : {A : Type 0} (text : List ℕ) (start end : ℕ) (put : List ℕ) (r : Result A Fault) → IsRange text start end → IsErrAnd r (λ e. e ≡ NoMemory) → IfErr r (IsReplaceFault text start end put)
+memory-fault text start end put (Ok x) range h = tt
+memory-fault text start end put (Err e) range h = subst (IsReplaceFault text start end put) (sym h) range

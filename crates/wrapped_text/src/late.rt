@@ -1,8 +1,10 @@
 //! A text of which a run of lines is wrapped late.
-ghost use Rattle.std.specs.Prelude.{◌≡◌, ◌≢◌, ◌+◌, ◌≤◌, [], length, map, IfOk, IfSome, OnErr, OnOk};
+ghost use Rattle.std.specs.Prelude.{◌≡◌, ◌≢◌, ◌+◌, ◌≤◌, [], length, map, IfErr, IfOk, IfSome, OnErr, OnOk};
 ghost use Rattle.cell_units.specs.Operation.{replaced_text};
 ghost use Rattle.cell_units.specs.Text.{clean};
+ghost use Rattle.cell_units.specs.declared.limits.TheConstants.{TEXT_LIMIT};
 ghost use Rattle.edit_patch.specs.Fits.{Fits};
+ghost use Rattle.text_rope.specs.Edits.{IsRange, IsReplaceFault};
 ghost use Rattle.wrap_map.specs.Landing.{IsLanded, cuts_of_run};
 ghost use Rattle.wrap_map.specs.Standing.{IsSynced};
 ghost use Rattle.wrap_map.specs.Waiting.{IsNextIfAny};
@@ -96,7 +98,7 @@ impl LateText {
         )
     }
 
-    /// Puts a text in the place of a range, and shows the rows then.
+    /// Puts a text in the place of a range, and shows the rows then. It is refused as the rope refuses it.
     pub fn replace(
         &mut self,
         alloc: Global,
@@ -105,15 +107,18 @@ impl LateText {
         put: &str,
         steps: &mut Steps,
     ) -> Result<Change, Fault>
+        ensures range { OnOk result (IsRange self.old.text.rope start end) }
+        ensures small { OnOk result (length self.new.text.rope ≤ TEXT_LIMIT) }
         ensures text { let made = replaced_text self.old.text.rope start end (clean put.now) in
             OnOk result (self.new.text.rope ≡ made) }
         ensures shown { let old = self.old.text.map in let new = self.new.text in
             IfOk result (λ made. IsSynced old new.lines made.lines new.map made.shown made.rows) }
+        ensures refused { let text = self.old.text.rope in
+            IfErr result (IsReplaceFault text start end (clean put.now)) }
         ensures unchanged { OnErr result (self.new ≡ self.old) }
         ensures counted { steps.old ≤ steps.new }
     {
-        let mut text = self.text.share()?;
-        let change = text.replace(alloc, start, end, put, steps)?;
+        let (text, change) = self.text.replaced(alloc, start, end, put, steps)?;
         let since = followed(
             alloc,
             &self.since,

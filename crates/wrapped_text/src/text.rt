@@ -5,10 +5,11 @@ ghost use Rattle.cell_units.specs.Layers.{plain_source};
 ghost use Rattle.cell_units.specs.Lawful.{IsWidth};
 ghost use Rattle.cell_units.specs.Operation.{replaced_text};
 ghost use Rattle.cell_units.specs.Text.{clean};
+ghost use Rattle.cell_units.specs.declared.limits.TheConstants.{TEXT_LIMIT};
 ghost use Rattle.edit_patch.specs.Fits.{Fits};
 ghost use Rattle.shifted_lists.specs.Leads.{LeadsBy};
 ghost use Rattle.tab_map.specs.TabLines.{AreMet, LinesFollow, lines_at};
-ghost use Rattle.text_rope.specs.Edits.{IsRange};
+ghost use Rattle.text_rope.specs.Edits.{IsRange, IsReplaceFault};
 ghost use Rattle.wrap_map.specs.Landing.{IsLanded, cuts_of_run};
 ghost use Rattle.wrap_map.specs.Standing.{IsSynced};
 ghost use Rattle.wrap_map.specs.Waiting.{IsNextIfAny};
@@ -120,6 +121,7 @@ impl WrappedText {
     pub fn set_width(&mut self, width: u32) -> Result<(), Refusal>
         ensures set { OnOk result (self.new.map ≡ record self.old.map { width = width }) }
         ensures text { self.new.rope ≡ self.old.rope }
+        ensures accepted { OnOk result (IsWidth width) }
         ensures refused { IfErr result
             (λ refusal. (refusal ≡ Refusal.BadNumber) × (¬ IsWidth width)) }
         ensures unchanged { OnErr result (self.new ≡ self.old) }
@@ -129,7 +131,7 @@ impl WrappedText {
         Ok(())
     }
 
-    /// Puts a text in the place of a range, and shows the rows then.
+    /// Puts a text in the place of a range, and shows the rows then. It is refused as the rope refuses it.
     pub fn replace(
         &mut self,
         alloc: Global,
@@ -139,6 +141,7 @@ impl WrappedText {
         steps: &mut Steps,
     ) -> Result<Change, Fault>
         ensures range { OnOk result (IsRange self.old.rope start end) }
+        ensures small { OnOk result (length self.new.rope ≤ TEXT_LIMIT) }
         ensures text { let made = replaced_text self.old.rope start end (clean text.now) in
             OnOk result (self.new.rope ≡ made) }
         ensures leads { IfOk result (λ made. LeadsBy self.old.lines self.new.lines made.lines) }
@@ -147,24 +150,58 @@ impl WrappedText {
             IfOk result (λ made. AreLinesMet old self.new.rope start end count made.lines) }
         ensures shown { let old = self.old.map in let lines = self.new.lines in
             IfOk result (λ made. IsSynced old lines made.lines self.new.map made.shown made.rows) }
+        ensures refused { IfErr result (IsReplaceFault self.old.rope start end (clean text.now)) }
         ensures unchanged { OnErr result (self.new ≡ self.old) }
         ensures counted { steps.old ≤ steps.new }
     {
-        let bytes = self.rope.len();
-        let mut rope = self.rope.share()?;
-        rope.replace(alloc, start, end, text, steps)?;
-        let below = Shift::new(start, end, rope.len() - (bytes - (end - start)));
+        let (next, change) = self.replaced(alloc, start, end, text, steps)?;
+        *self = next;
+        Ok(change)
+    }
+
+    /// The text after such a replacement, with its maps, and what is shown then. This one stays as it is.
+    pub fn replaced(
+        &self,
+        alloc: Global,
+        start: u32,
+        end: u32,
+        text: &str,
+        steps: &mut Steps,
+    ) -> Result<(WrappedText, Change), Fault>
+        ensures range { OnOk result (IsRange self.now.rope start end) }
+        ensures small { IfOk result (λ made. length made.0.rope ≤ TEXT_LIMIT) }
+        ensures text { let new = replaced_text self.now.rope start end (clean text.now) in
+            IfOk result (λ made. made.0.rope ≡ new) }
+        ensures leads { IfOk result (λ made. LeadsBy self.now.lines made.0.lines made.1.lines) }
+        ensures met { let count = length (clean text.now) in
+            let old = self.now.rope in
+            IfOk result (λ made. AreLinesMet old made.0.rope start end count made.1.lines) }
+        ensures shown { let old = self.now.map in IfOk result (λ made.
+            let new = made.0 in let change = made.1 in
+            IsSynced old new.lines change.lines new.map change.shown change.rows) }
+        ensures refused { IfErr result (IsReplaceFault self.now.rope start end (clean text.now)) }
+        ensures counted { steps.old ≤ steps.new }
+    {
+        let (rope, _) = self.rope.replaced(alloc, start, end, text, steps)?;
+        let kept = self.rope.len() - (end - start);
+        let below = Shift::new(start, end, rope.len() - kept);
         let mut tabs = self.tabs.share()?;
         let (lines, replaced) = follow(alloc, &mut tabs, &rope, below)?;
-        let (shown, rows) = self.map.sync(alloc, lines.share()?, replaced, steps)?;
-        self.rope = rope;
-        self.tabs = tabs;
-        self.lines = lines;
-        Ok(Change {
+        let mut map = self.map.share()?;
+        let (shown, rows) = map.sync(alloc, lines.share()?, replaced, steps)?;
+        let made = WrappedText {
+            rope,
+            tabs,
+            lines,
+            map,
+            width: self.width,
+        };
+        let change = Change {
             shown,
             lines: replaced,
             rows,
-        })
+        };
+        Ok((made, change))
     }
 
     /// Where each line of a run is cut at the width.
