@@ -46,7 +46,7 @@ pub fn item_at<'a, T: Item>(node: &'a Node<T>, height: usize, at: usize, steps: 
     // The item.
     ensures item { slice_get (items_of node.now) at ≡ Some result.now }
 
-    // One node a level is opened at most.
+    // One node a level is opened.
     ensures counted { steps.old ≤ steps.new }
     ensures steps { steps.new ≤ steps.old + height + 1 }
     ensures opened { OpensAtLeast (height + 1) steps.old steps.new }
