@@ -1,5 +1,5 @@
 -- The elements of a line, one after another.
-use Rattle.std.proofs.Common.{◌≡◌, inl, inr, ℕ, ◌+◌, ◌-◌, ◌*◌, ◌/◌, ◌^◌, ◌<◌, ◌≤◌, Bool, true, false, not, ◌&&◌, ◌||◌, cond, zero, suc, nat_eq, nat_le, nat_lt, is_some, Option, Some, None, List, [], ◌∷◌, ◌++◌, length, take, drop, get_or, slice_index, slice_range, append_assoc, refl, ap, ap₂, sym, subst, ◌∙◌, arith}
+use Rattle.std.proofs.Common.{◌≡◌, inl, inr, ℕ, ◌+◌, ◌-◌, ◌^◌, ◌<◌, ◌≤◌, Bool, true, false, not, ◌&&◌, ◌||◌, cond, zero, suc, nat_eq, nat_le, is_some, Option, Some, None, List, [], ◌∷◌, ◌++◌, length, take, drop, get_or, slice_index, slice_range, append_assoc, refl, ap, ap₂, sym, subst, ◌∙◌, arith}
 use Rattle.std.specs.Int.{is_in_range}
 use Rattle.std.specs.List.{concat}
 use Rattle.std.specs.Str.{chars, IsCharBoundary, IsUtf8}
@@ -18,8 +18,7 @@ use Rattle.cell_line.specs.declared.element.Element.{Element}
 use Rattle.cell_line.specs.Elements.{cells_of, clusters, placed, tab_cells_of, total_cells}
 use Rattle.cell_line.specs.declared.mark.Lead.{Lead}
 use Rattle.cell_line.specs.declared.mark.Mark.{Mark}
-use Rattle.cell_line.specs.Lines.{LineFitsU32}
-use Rattle.cell_line.specs.Wrapping.{element_at, indent_of, is_blank, lead_of, nothing}
+use Rattle.cell_line.specs.Wrapping.{element_at, is_blank, lead_of, nothing}
 use Rattle.cell_line.specs.inside.Filling.{IsMarkAt}
 use Rattle.cell_line.specs.inside.Marks.{element_of, letter, mark_of, AreLetters, IsLead, IsMarked}
 use Rattle.cell_line.specs.inside.Parts.{clusters_in}
@@ -322,14 +321,8 @@ pub record IsLeading (es left : List Element) (count cells : ℕ) : Type 0 where
   pub length_is : count + length left ≡ length es
   pub sum_is : cells + total_cells left ≡ total_cells es
 
-pub leading-none : (es : List Element) → IsLeading es es 0 0
-leading-none es = record { count_is = omega arith; cells_are = omega arith; length_is = omega arith; sum_is = omega arith }
-
 lead-cons : (e : Element) (rest : List Element) → is_blank e ≡ true → lead_of (e ∷ rest) ≡ suc (lead_of rest)
 lead-cons e rest blank = ap (λ b. cond b (1 + lead_of rest) 0) blank ∙ (omega arith)
-
-lead-solid : (e : Element) (rest : List Element) → is_blank e ≡ false → lead_of (e ∷ rest) ≡ 0
-lead-solid e rest solid = ap (λ b. cond b (1 + lead_of rest) 0) solid
 
 pub leading_more : (es left rest : List Element) (count cells : ℕ) (mark : Mark) → IsLeading es left count cells → IsMarked left (Some mark) rest → mark.blank ≡ true →
     IsLeading es rest (count + 1) (cells + mark.cells)
@@ -349,33 +342,6 @@ leading_more es left rest count cells mark h marked blank =
       sum_is = omega (arith, h.sum_is, whole, size);
     }
 
-pub leading_fits : (es left rest : List Element) (count cells : ℕ) (mark : Mark) → IsLeading es left count cells → IsMarked left (Some mark) rest → LineFitsU32 es →
-    (count + 1 < 2 ^ 32) × (cells + mark.cells < 2 ^ 32)
-leading_fits es left rest count cells mark h marked fits =
-    let whole : total_cells left ≡ marked.0.cells + total_cells rest = ap total_cells marked.1 ∙ total_cells-cons marked.0 rest in
-    let size_of : length left ≡ suc (length rest) = ap length marked.1 in
-    (omega (arith, h.length_is, size_of, fits.0), omega (arith, h.sum_is, whole, ap (λ (m : Mark). m.cells) marked.2, fits.1))
-
-pub leading_end : (es left rest : List Element) (count cells : ℕ) (mark : Mark) → IsLeading es left count cells → IsMarked left (Some mark) rest → mark.blank ≡ false →
-    IsLead es (record { count = count; cells = cells; alone = false })
-leading_end es left rest count cells mark h marked solid =
-    let e = marked.0 in
-    let first : is_blank e ≡ false = sym (ap (λ (m : Mark). m.blank) marked.2) ∙ solid in
-    let lead : lead_of left ≡ 0 = ap lead_of marked.1 ∙ lead-solid e rest first in
-    let front : total_cells (take (lead_of left) left) ≡ 0 = ap (λ (n : ℕ). total_cells (take n left)) lead in
-    let size_of : length left ≡ suc (length rest) = ap length marked.1 in
-    let apart : nat_eq (lead_of es) (length es) ≡ false = let a = h.count_is in let b = h.length_is in grind (arith, nat_tests) in
-    record { count = omega (arith, h.count_is, lead); cells = omega (arith, h.cells_are, front); alone = sym apart }
-
-pub leading_all : (es left : List Element) (count cells : ℕ) → IsLeading es left count cells → left ≡ [] →
-    IsLead es (record { count = count; cells = cells; alone = true })
-leading_all es left count cells h none =
-    let lead : lead_of left ≡ 0 = ap lead_of none in
-    let front : total_cells (take (lead_of left) left) ≡ 0 = ap₂ (λ (n : ℕ) (xs : List Element). total_cells (take n xs)) lead none in
-    let size_of : length left ≡ 0 = ap length none in
-    let same : nat_eq (lead_of es) (length es) ≡ true = let a = h.count_is in let b = h.length_is in grind (arith, nat_tests) in
-    record { count = omega (arith, h.count_is, lead); cells = omega (arith, h.cells_are, front); alone = sym same }
-
 pub lead_alone : (es : List Element) (lead : Lead) → IsLead es lead → lead.alone ≡ true → lead_of es ≡ length es
 lead_alone es lead h is = elim (cases_eq (lead_of es) (length es)) [
   | inl e ↦ e
@@ -390,32 +356,3 @@ lead_some es lead h is = elim (cases_lt (lead_of es) (length es)) [
       let c : nat_eq (lead_of es) (length es) ≡ true = grind (arith, nat_tests) in
       let d : false ≡ true = sym is ∙ h.alone ∙ c in cc)
 ]
-
-indent_if : (es : List Element) (width : ℕ) (a b : Bool) → nat_le (2 * total_cells (take (lead_of es) es)) width ≡ a → nat_lt (lead_of es) (length es) ≡ b →
-    indent_of es width ≡ cond (a && b) (total_cells (take (lead_of es) es)) 0
-indent_if es width a b p q = ap₂ (λ x y. cond (x && y) (total_cells (take (lead_of es) es)) 0) p q
-
-and_false : (a : Bool) → (a && false) ≡ false
-and_false true = refl
-and_false false = refl
-
-pub indent_alone : (es : List Element) (lead : Lead) (width : ℕ) → IsLead es lead → lead.alone ≡ true → 0 ≡ indent_of es width
-indent_alone es lead width h is =
-    let e = lead_alone es lead h is in
-    let q : nat_lt (lead_of es) (length es) ≡ false = grind (arith, nat_tests) in
-    let a = nat_le (2 * total_cells (take (lead_of es) es)) width in
-    sym (indent_if es width a false refl q ∙ ap (λ v. cond v (total_cells (take (lead_of es) es)) 0) (and_false a))
-
-pub indent_small : (es : List Element) (lead : Lead) (width : ℕ) → IsLead es lead → lead.alone ≡ false → lead.cells ≤ width / 2 → lead.cells ≡ indent_of es width
-indent_small es lead width h is small =
-    let lt = lead_some es lead h is in
-    let double : 2 * total_cells (take (lead_of es) es) ≤ width = omega (arith, h.cells, small) in
-    let p : nat_le (2 * total_cells (take (lead_of es) es)) width ≡ true = grind (arith, nat_tests) in
-    let q : nat_lt (lead_of es) (length es) ≡ true = grind (arith, nat_tests) in
-    h.cells ∙ sym (indent_if es width true true p q)
-
-pub indent_large : (es : List Element) (lead : Lead) (width : ℕ) → IsLead es lead → width / 2 < lead.cells → 0 ≡ indent_of es width
-indent_large es lead width h large =
-    let double : width < 2 * total_cells (take (lead_of es) es) = omega (arith, h.cells, large) in
-    let p : nat_le (2 * total_cells (take (lead_of es) es)) width ≡ false = grind (arith, nat_tests) in
-    sym (indent_if es width false (nat_lt (lead_of es) (length es)) p refl)

@@ -11,7 +11,7 @@ use Rattle.edit_patch.specs.Patch.{IsPatch, IsComposed, AllFit}
 use Rattle.edit_patch.specs.Merge.{begun, reach_of, place_at, open_edit, opened_at, advanced, passed, with_first, with_second, IsBounded, IsClosable, CanAdvance}
 use Rattle.edit_patch.proofs.Answers.{Stands, Answers}
 use Rattle.edit_patch.proofs.Advance.{IsFirstLater, IsSecondLater, stands-opened, answers-opened, answers-end, stands-first, answers-first_taken, stands-second, answers-second_taken, rest}
-use Rattle.edit_patch.proofs.Composition.{composed, stands-begun}
+use Rattle.edit_patch.proofs.Composition.{composed}
 
 -- the merge of a and b has the edits `out` closed, and xs and ys left
 pub record Merging (a b : List Edit) (f : Front) (xs ys out : List Edit) : Type 0 where
@@ -19,14 +19,6 @@ pub record Merging (a b : List Edit) (f : Front) (xs ys out : List Edit) : Type 
   pub stands : Stands f xs ys
   pub bounded : IsBounded f
   pub answers : (r : List Edit) → Answers f xs ys r → Answers begun a b (out ++ r)
-
-pub merging-begun : (a b : List Edit) → IsPatch a → IsPatch b → Merging a b begun a b []
-merging-begun a b x y = record {
-  second = y;
-  stands = stands-begun a b x y;
-  bounded = record { first_old = omega arith; first_new = omega arith; second_old = omega arith; second_new = omega arith };
-  answers = λ r h. h;
-}
 
 pub merging-first : (a b : List Edit) (f : Front) (e : Edit) (xs ys out : List Edit) → Merging a b f (e ∷ xs) ys out → IsSecondLater e.new_start ys →
     IsBounded (with_first (advanced f e.new_start) e) →

@@ -187,14 +187,19 @@ impl<S: Summary, P: Load> SpliceTree<S, P> {
         gap: S,
         steps: &mut Steps,
     ) -> Result<(), NoMemory>
+        // The places stand in the list, and the gap and both sides of it have sums after it.
         requires order { from ≤ to }
         requires within { to ≤ length self.old }
         requires gap_fits { GapFits S.joined S.fits gap to self.old }
         requires fits { let after = replaced from to fresh.items gap self.old in
             BothFit S.fits (covered S.empty S.joined after) }
         requires small { length (replaced from to fresh.items gap self.old) < 2 ^ 32 }
+
+        // What is there after it.
         ensures ok { OnOk result (self.new ≡ replaced from to fresh.items gap self.old) }
         ensures err { OnErr result (self.new ≡ self.old) }
+
+        // The work.
         ensures counted { steps.old ≤ steps.new }
         ensures steps { let after = replaced from to fresh.items gap self.old in
             let cost = splicing (length fresh.items) in

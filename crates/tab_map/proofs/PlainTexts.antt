@@ -1,5 +1,5 @@
 -- The lines of a text by itself: how few and short they are, and what a replacement of the text owes to the map.
-use Rattle.std.proofs.Common.{◌≡◌, ℕ, ◌+◌, ◌-◌, ◌*◌, ◌≤◌, List, [], ◌∷◌, ◌++◌, All, length, map, take, drop, Some, refl, sym, ap, ◌∙◌, subst, append_assoc, arith}
+use Rattle.std.proofs.Common.{◌≡◌, ℕ, ◌+◌, ◌-◌, ◌≤◌, List, [], ◌∷◌, ◌++◌, All, length, map, take, drop, Some, refl, sym, ap, ◌∙◌, subst, append_assoc, arith}
 use Rattle.std.specs.List.{count_by, sum_by}
 use Rattle.std.proofs.lemmas.List.{drop_at, length-append, length-take-le, take_at}
 use Rattle.std.proofs.lemmas.List.Elements.{All-cons, All-nil}
@@ -14,7 +14,7 @@ use Rattle.cell_units.specs.Text.{is_feed, row_of}
 use Rattle.cell_units.proofs.BufferLines.{bytes_of_lines, length-buffer_lines}
 use Rattle.cell_units.proofs.PlainLayers.{text_of_plain}
 use Rattle.cell_units.proofs.ReplacedLines.{lines_above-replaced, lines_below-replaced}
-use Rattle.cell_units.proofs.ReplacedRows.{length-replaced_text, row_of-lt, row_of_end-replaced, take-replaced_text}
+use Rattle.cell_units.proofs.ReplacedRows.{length-replaced_text, row_of-lt, row_of_end-replaced}
 use Rattle.cell_units.proofs.Unfolded.{line_pieces, pieces_from, unfolded_lines}
 use Rattle.cell_line.specs.declared.element.Element.{Element}
 use Rattle.cell_line.specs.Elements.{bytes_in, elements_of}

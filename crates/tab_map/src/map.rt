@@ -51,6 +51,7 @@ fn met<L: Layer>(old: &L, new: &L, below: Shift) -> Shift
     ensures { AreMet (L.source old.now) (L.source new.now) (Some below) (Some result) }
 {
     let Shift { start, end, count } = below;
+    // The new text is short enough that the end of what was put into it is a u32.
     let _fits = new.length();
     let first = line_of(old, start);
     let last = line_of(old, end);
