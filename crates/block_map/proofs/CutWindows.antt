@@ -7,7 +7,7 @@ use Rattle.block_map.specs.Between.{Between, rows_between}
 use Rattle.block_map.specs.inside.Seekings.{IsWindow}
 use Rattle.block_map.specs.inside.Zones.{IsBetween, IsInZone, zone_start}
 use Rattle.block_map.proofs.RowsInZones.{all-zones, first-zone, some-zone}
-use Rattle.block_map.proofs.ZoneStarts.{length-zone, zone-next}
+use Rattle.block_map.proofs.ZoneStarts.{length-zone, upto-start, zone-next}
 
 -- half of what is below a power of 2 is below the power before it
 pub halved : (n k : ℕ) → 1 ≤ n → n < 2 ^ k → (1 ≤ k) × (n / 2 < 2 ^ (k - 1))
@@ -57,14 +57,15 @@ module _ (b : Between) where
         }
   ]
 
--- at first every zone is open
+-- at first every zone is open, and no stop stands before it
 pub whole-window : (b : Between) → IsBetween b → (row count all : ℕ) → row < length (rows_between b) → count ≡ length (all_rows b.lines) → all ≡ length (rows_between b)
-    → IsWindow b row (record { low = 0; start = 0; next = 1; high = count; end = all })
+    → IsWindow b row (record { low = 0; start = 0; above = 0; next = 1; high = count; end = all })
 whole-window b lawful row count all lt is these = record {
   order = omega arith;
   some = omega (arith, some-zone b lawful row lt, is);
   within = omega (arith, is);
   begins = first-zone b lawful;
+  above = sym (upto-start b.above);
   before = omega arith;
   behind = omega (arith, lt, these);
   ends = omega (arith, these, all-zones b lawful, ap (zone_start b) is);

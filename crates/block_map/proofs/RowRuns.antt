@@ -7,7 +7,7 @@ use Rattle.cell_units.specs.Rows.{all_rows}
 use Rattle.plain_rows.specs.Rows.{Row}
 use Rattle.block_map.specs.Between.{Between, block_row, rows_between}
 use Rattle.block_map.specs.Stops.{texts_at}
-use Rattle.block_map.specs.inside.Zones.{IsBetween, IsClear, IsInZone, zone, zone_start}
+use Rattle.block_map.specs.inside.Zones.{IsBetween, IsClear, IsInZone, zone_start}
 use Rattle.block_map.proofs.RowsInZones.{above-part, all-zones, below-part, zone-at}
 use Rattle.block_map.proofs.Windows.{window-cons}
 use Rattle.block_map.proofs.ZoneStarts.{length-zone, zone-next, zones-rise}

@@ -11,7 +11,7 @@ pub more-turns : (x k m a b c : ℕ) → b ≤ a + x * k → c ≤ b + m * x →
 more-turns x k m a b c first second = omega (arith, first, second, mul-add x k m, mul_comm m x)
 
 -- the place of a row is found, and a run of n rows from it on is read
-pub run-steps : (h n m a b c d : ℕ) → 1 ≤ n → n ≤ m → b ≤ a + 64 * (h + 1) → c ≤ b + 2 * (h + 1) → d ≤ c + (2 * (h + 1) + n * (h + 1)) → d ≤ a + m * (70 * (h + 1))
+pub run-steps : (h n m a b c d : ℕ) → 1 ≤ n → n ≤ m → b ≤ a + 64 * (h + 1) → c ≤ b + (h + 1) → d ≤ c + (h + 1 + n * (h + 1)) → d ≤ a + m * (67 * (h + 1))
 run-steps h n m a b c d some le first second third = omega (arith, first, second, third, mul-le-mul_right (h + 1) some, mul-le-mul_right (h + 1) le)
 
 -- so many turns of n

@@ -44,6 +44,9 @@ pub upto-through : (t : ℕ) (stops : List Stop) → rows_upto Right t stops ≡
 upto-through t [] = refl
 upto-through t (s ∷ ss) = omega (arith, upto-cons Right t s ss, upto-cons Left t s ss, count-cons t s ss, right_test s.row t (length s.lines), upto-through t ss)
 
+pub upto-before_next : (t : ℕ) (stops : List Stop) → rows_upto Left (t + 1) stops ≡ rows_upto Right t stops
+upto-before_next t stops = omega (arith, upto-next t stops, upto-through t stops)
+
 pub upto-right_next : (t : ℕ) (stops : List Stop) → rows_upto Right (t + 1) stops ≡ rows_upto Right t stops + length (texts_at (t + 1) stops)
 upto-right_next t stops = omega (arith, upto-through (t + 1) stops, upto-through t stops, upto-next t stops)
 

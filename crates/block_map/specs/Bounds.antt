@@ -21,11 +21,19 @@ zoning h = 64 * (h + 1)
 
 -- what stands at a place of a zone
 abbrev pub finding : ℕ → ℕ
-finding h = 4 * (h + 1)
+finding h = 2 * (h + 1)
 
 -- a row is sought and read
 abbrev pub reading : ℕ → ℕ
-reading h = 70 * (h + 1)
+reading h = 66 * (h + 1)
+
+-- a row is sought, and where in its zone the text row stands
+abbrev pub locating : ℕ → ℕ
+locating h = 65 * (h + 1)
+
+-- a row is sought, and one of a run of rows from it on is read
+abbrev pub walking : ℕ → ℕ
+walking h = 67 * (h + 1)
 
 -- a stop is put among others, or taken out: its neighbours are looked up, and one replacement is made
 abbrev pub putting : ℕ → ℕ

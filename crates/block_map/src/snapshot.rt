@@ -3,15 +3,16 @@ ghost use Rattle.std.specs.Prelude.{◌≡◌, ◌==◌, ◌+◌, ◌-◌, ◌*�
 ghost use Rattle.cell_units.specs.declared.place.Bias.TheVariants.{Left};
 ghost use Rattle.cell_units.specs.Rows.{all_rows, line_rows};
 ghost use Rattle.plain_rows.specs.Rows.{head_kind, more_kind};
+ghost use Rattle.sum_tree.specs.Bounds.{way};
 ghost use Rattle.block_map.specs.Between.{IsTextAt, block_row, place_of_row, rows_between};
-ghost use Rattle.block_map.specs.Bounds.{TakesBetween, both_ways, finding, reading, zoning};
+ghost use Rattle.block_map.specs.Bounds.{TakesBetween, both_ways, finding, locating, reading, zoning};
 ghost use Rattle.block_map.specs.ShownRows.{letter_of, row_of_shown, shown_row};
 ghost use Rattle.block_map.specs.Stops.{rows_upto, texts_at};
-ghost use Rattle.block_map.specs.inside.Seekings.{IsWindow};
+ghost use Rattle.block_map.specs.inside.Seekings.{IsPlace, IsWindow};
 ghost use Rattle.block_map.specs.inside.Zones.{IsBetween, IsInZone, text_row, zone, zone_start};
 
 use crate::shown::{Kind, Shown};
-use crate::stops::{RowsAt, Stops};
+use crate::stops::Stops;
 use crate::window::Window;
 use cell_units::{Bias, NoMemory, Rows, Steps, Text};
 use std::alloc::Global;
@@ -41,11 +42,21 @@ impl<R: Rows> Model for BlockSnapshot<R> {
         IsBetween (record { lines = R.shown s.rows; above = s.above; below = s.below }) };
 }
 
-/// Where a row lies: in the zone of which text row, and how far in it.
+/// Where a row lies: in the zone of which text row, and how far in it. Before that zone the stops above lines have `above` rows,
+/// and those below lines `below`.
 #[derive(Clone, Copy)]
 pub(crate) struct Place {
     pub(crate) text_row: u32,
     pub(crate) at: u32,
+    pub(crate) above: u32,
+    pub(crate) below: u32,
+}
+
+/// The row at which a zone begins, and how many rows the stops above lines have before it.
+#[derive(Clone, Copy)]
+struct ZoneStart {
+    row: u32,
+    above: u32,
 }
 
 impl<R: Rows> BlockSnapshot<R> {
@@ -76,10 +87,11 @@ impl<R: Rows> BlockSnapshot<R> {
         self.text_rows() + self.above.all_rows() + self.below.all_rows()
     }
 
-    /// The row at which a zone begins.
-    fn zone_start(&self, text_row: u32, steps: &mut Steps) -> u32
+    /// Where a zone begins.
+    fn zone_start(&self, text_row: u32, steps: &mut Steps) -> ZoneStart
         requires { text_row ≤ length (all_rows self.now.lines) }
-        ensures start { result ≡ zone_start self.now text_row }
+        ensures start { result.row ≡ zone_start self.now text_row }
+        ensures above { result.above ≡ rows_upto Left text_row self.now.above }
         ensures counted { steps.old ≤ steps.new }
         ensures steps { TakesBetween both_ways self.now steps.old steps.new }
     {
@@ -87,19 +99,24 @@ impl<R: Rows> BlockSnapshot<R> {
         let _count = self.text_rows();
         let above = self.above.rows_upto(text_row, Bias::Left, steps);
         let below = self.below.rows_upto(text_row, Bias::Right, steps);
-        text_row + above + below
+        ZoneStart {
+            row: text_row + above + below,
+            above,
+        }
     }
 
     /// The zone in which a row lies.
     pub(crate) fn place_of(&self, row: u32, steps: &mut Steps) -> Place
         requires { row < length (rows_between self.now) }
-        ensures place { IsInZone self.now row result.text_row result.at }
+        ensures zone { IsInZone self.now row result.text_row result.at }
+        ensures place { IsPlace self.now result }
         ensures counted { steps.old ≤ steps.new }
         ensures steps { TakesBetween zoning self.now steps.old steps.new }
     {
         let mut window = Window {
             low: 0,
             start: 0,
+            above: 0,
             next: 1,
             high: self.text_rows(),
             end: self.row_count(),
@@ -114,6 +131,8 @@ impl<R: Rows> BlockSnapshot<R> {
         Place {
             text_row: window.low,
             at: row - window.start,
+            above: window.above,
+            below: window.start - window.low - window.above,
         }
     }
 
@@ -133,30 +152,31 @@ impl<R: Rows> BlockSnapshot<R> {
         // Each zone has a row.
         let _count = self.text_rows();
         let start = self.zone_start(guess, steps);
-        if start > row {
-            let first = guess - (start - row).min(guess);
+        if start.row > row {
+            let first = guess - (start.row - row).min(guess);
             return Window {
                 next: window.next.max(first),
                 high: guess,
-                end: start,
+                end: start.row,
                 ..window
             };
         }
-        let above = Window {
+        let later = Window {
             low: guess,
-            start,
+            start: start.row,
+            above: start.above,
             next: guess + 1,
             ..window
         };
-        let behind = guess + (row - start) + 1;
+        let behind = guess + (row - start.row) + 1;
         if behind < window.high {
             return Window {
                 high: behind,
                 end: row + 1,
-                ..above
+                ..later
             };
         }
-        above
+        later
     }
 
     /// The row of this number, counted from 0. `None` exactly past the last row.
@@ -177,7 +197,7 @@ impl<R: Rows> BlockSnapshot<R> {
 
     /// The row at a place.
     fn row_at(&self, alloc: Global, place: Place, steps: &mut Steps) -> Result<Shown, NoMemory>
-        requires zone { place.text_row < length (all_rows self.now.lines) }
+        requires place { IsPlace self.now place }
         requires there { place.at < length (zone self.now place.text_row) }
         ensures row { IfOk result (λ shown.
             slice_get (zone self.now place.text_row) place.at ≡ Some (row_of_shown shown)) }
@@ -186,20 +206,20 @@ impl<R: Rows> BlockSnapshot<R> {
     {
         // Each text row is a u32.
         let _count = self.text_rows();
-        let above = self.rows_above(place.text_row, steps);
-        if place.at < above.count {
+        let above = self.rows_above(place, steps);
+        if place.at < above {
             let text = self
                 .above
-                .text_at(place.text_row, above.before, place.at, steps);
+                .text_at(place.text_row, place.above, place.at, steps);
             return block_row(alloc, text);
         }
-        if place.at == above.count {
+        if place.at == above {
             return self.text_row(alloc, place.text_row);
         }
-        let next = place.text_row + 1;
-        let before = self.below.rows_upto(next, Bias::Left, steps);
-        let at = place.at - above.count - 1;
-        let text = self.below.text_at(next, before, at, steps);
+        let at = place.at - above - 1;
+        let text = self
+            .below
+            .text_at(place.text_row + 1, place.below, at, steps);
         block_row(alloc, text)
     }
 
@@ -238,7 +258,7 @@ impl<R: Rows> BlockSnapshot<R> {
     pub fn text_at(&self, row: u32, steps: &mut Steps) -> Option<(u32, u32)>
         ensures text { IsTextAt self.now row result }
         ensures counted { steps.old ≤ steps.new }
-        ensures steps { TakesBetween reading self.now steps.old steps.new }
+        ensures steps { TakesBetween locating self.now steps.old steps.new }
     {
         // Stops stand between lines.
         let _count = self.text_rows();
@@ -246,36 +266,34 @@ impl<R: Rows> BlockSnapshot<R> {
             return None;
         }
         let place = self.place_of(row, steps);
-        if place.at != self.rows_above(place.text_row, steps).count {
+        if place.at != self.rows_above(place, steps) {
             return None;
         }
         self.rows.line_at(place.text_row)
     }
 
-    /// The rows of blocks that stand above a text row's line, before that row.
-    pub(crate) fn rows_above(&self, text_row: u32, steps: &mut Steps) -> RowsAt
-        requires { text_row < length (all_rows self.now.lines) }
-        ensures before { result.before ≡ rows_upto Left text_row self.now.above }
-        ensures count { result.count ≡ length (texts_at text_row self.now.above) }
+    /// How many rows of blocks stand in a place's zone above the line, before its text row.
+    pub(crate) fn rows_above(&self, place: Place, steps: &mut Steps) -> u32
+        requires { IsPlace self.now place }
+        ensures count { result ≡ length (texts_at place.text_row self.now.above) }
         ensures counted { steps.old ≤ steps.new }
-        ensures steps { TakesBetween both_ways self.now steps.old steps.new }
+        ensures steps { TakesBetween way self.now steps.old steps.new }
     {
         // All rows together are a u32.
         let _count = self.text_rows();
-        self.above.rows_at(text_row, steps)
+        self.above.rows_at(place.text_row, place.above, steps)
     }
 
-    /// The rows of blocks that stand below a text row's line, behind that row.
-    pub(crate) fn rows_below(&self, text_row: u32, steps: &mut Steps) -> RowsAt
-        requires { text_row < length (all_rows self.now.lines) }
-        ensures before { result.before ≡ rows_upto Left (text_row + 1) self.now.below }
-        ensures count { result.count ≡ length (texts_at (text_row + 1) self.now.below) }
+    /// How many rows of blocks stand in a place's zone below the line, behind its text row.
+    pub(crate) fn rows_below(&self, place: Place, steps: &mut Steps) -> u32
+        requires { IsPlace self.now place }
+        ensures count { result ≡ length (texts_at (place.text_row + 1) self.now.below) }
         ensures counted { steps.old ≤ steps.new }
-        ensures steps { TakesBetween both_ways self.now steps.old steps.new }
+        ensures steps { TakesBetween way self.now steps.old steps.new }
     {
         // All rows together are a u32.
         let _count = self.text_rows();
-        self.below.rows_at(text_row + 1, steps)
+        self.below.rows_at(place.text_row + 1, place.below, steps)
     }
 }
 

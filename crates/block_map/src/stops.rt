@@ -35,13 +35,6 @@ impl Model for Stops {
     ghost invariant = { λ s. AreStopPieces s.splices };
 }
 
-/// How many rows the stops before a place between rows of text have, and how many those at it.
-#[derive(Clone, Copy)]
-pub(crate) struct RowsAt {
-    pub(crate) before: u32,
-    pub(crate) count: u32,
-}
-
 impl Stops {
     /// No stop. It takes no memory.
     pub(crate) fn new(alloc: Global) -> Stops
@@ -79,20 +72,15 @@ impl Stops {
         self.splices.to_upper::<ByRows>(row, bias, steps) - row
     }
 
-    /// The rows of the stops behind so many rows of text.
-    pub(crate) fn rows_at(&self, row: u32, steps: &mut Steps) -> RowsAt
-        requires { row + rows_upto Right row self.now < 2 ^ 32 }
-        ensures before { result.before ≡ rows_upto Left row self.now }
-        ensures count { result.count ≡ length (texts_at row self.now) }
+    /// How many rows the stops behind so many rows of text have. `before` is how many the stops before them have.
+    pub(crate) fn rows_at(&self, row: u32, before: u32, steps: &mut Steps) -> u32
+        requires fits { row + rows_upto Right row self.now < 2 ^ 32 }
+        requires before { before ≡ rows_upto Left row self.now }
+        ensures count { result ≡ length (texts_at row self.now) }
         ensures counted { steps.old ≤ steps.new }
-        ensures steps { TakesAtMost both_ways (length self.now) steps.old steps.new }
+        ensures steps { TakesAtMost way (length self.now) steps.old steps.new }
     {
-        let before = self.rows_upto(row, Bias::Left, steps);
-        let through = self.rows_upto(row, Bias::Right, steps);
-        RowsAt {
-            before,
-            count: through - before,
-        }
+        self.rows_upto(row, Bias::Right, steps) - before
     }
 
     /// The end of the text rows behind one between which no stop stands: the row of the next stop, or `limit` where that is

@@ -4,7 +4,7 @@ ghost use Rattle.cell_units.specs.declared.place.Bias.TheVariants.{Left};
 ghost use Rattle.cell_units.specs.Rows.{all_rows};
 ghost use Rattle.sum_tree.specs.Bounds.{TakesAtMost, way};
 ghost use Rattle.block_map.specs.Between.{block_row, rows_between};
-ghost use Rattle.block_map.specs.Bounds.{TakesBetween, both_ways, reading};
+ghost use Rattle.block_map.specs.Bounds.{TakesBetween, both_ways, walking};
 ghost use Rattle.block_map.specs.ShownRows.{shown_rows};
 ghost use Rattle.block_map.specs.Stops.{rows_upto, texts_at};
 ghost use Rattle.block_map.specs.inside.Zones.{IsClear, IsInZone, texts_of_kinds};
@@ -28,7 +28,7 @@ impl<R: Rows> BlockSnapshot<R> {
         ensures rows { IfOk result (λ shown.
             shown_rows shown.items ≡ take count (drop first (rows_between self.now))) }
         ensures counted { steps.old ≤ steps.new }
-        ensures steps { TakesBetween (λ h. count * reading h) self.now steps.old steps.new }
+        ensures steps { TakesBetween (λ h. count * walking h) self.now steps.old steps.new }
     {
         let all = self.row_count();
         let end = first + count.min(all.saturating_sub(first));
@@ -57,40 +57,40 @@ impl<R: Rows> BlockSnapshot<R> {
             ≡ shown_rows shown.old.items ++ take (next - row) (drop row (rows_between self.now))) }
         ensures counted { steps.old ≤ steps.new }
         ensures steps { IfOk result (λ next.
-            TakesBetween (λ h. (next - row) * reading h) self.now steps.old steps.new) }
+            TakesBetween (λ h. (next - row) * walking h) self.now steps.old steps.new) }
         ensures steps_err { OnErr result
-            (TakesBetween (λ h. (end - row) * reading h) self.now steps.old steps.new) }
+            (TakesBetween (λ h. (end - row) * walking h) self.now steps.old steps.new) }
     {
         // Stops stand between lines.
         let _count = self.text_rows();
         let place = self.place_of(row, steps);
-        let above = self.rows_above(place.text_row, steps);
-        if place.at < above.count {
-            let to = above.count.min(place.at + (end - row));
+        let above = self.rows_above(place, steps);
+        if place.at < above {
+            let to = above.min(place.at + (end - row));
             let text_row = place.text_row;
             push_blocks(
                 alloc,
                 shown,
                 &self.above,
                 text_row,
-                above.before,
+                place.above,
                 place.at,
                 to,
                 steps,
             )?;
             return Ok(row + (to - place.at));
         }
-        if place.at > above.count {
-            let below = self.rows_below(place.text_row, steps);
-            let from = place.at - above.count - 1;
-            let to = below.count.min(from + (end - row));
+        if place.at > above {
+            let below = self.rows_below(place, steps);
+            let from = place.at - above - 1;
+            let to = below.min(from + (end - row));
             let text_row = place.text_row + 1;
             push_blocks(
                 alloc,
                 shown,
                 &self.below,
                 text_row,
-                below.before,
+                place.below,
                 from,
                 to,
                 steps,

@@ -2,11 +2,12 @@
 ghost use Rattle.std.specs.Prelude.{◌+◌, ◌-◌, ◌*◌, ◌<◌, ◌≤◌};
 
 /// The zone of a row is that of the text row `low`, or of one from `next` on before `high`. That of `low` begins at the row
-/// `start`, and that of `high` at `end` or behind it.
+/// `start`, and that of `high` at `end` or behind it. Before that of `low` the stops above lines have `above` rows.
 #[derive(Clone, Copy)]
 pub(crate) struct Window {
     pub(crate) low: u32,
     pub(crate) start: u32,
+    pub(crate) above: u32,
     pub(crate) next: u32,
     pub(crate) high: u32,
     pub(crate) end: u32,

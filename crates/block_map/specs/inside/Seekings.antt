@@ -1,8 +1,11 @@
--- Where the zone of a row is sought.
+-- Where the zone of a row is sought, and what is known of it where it is found.
 use Rattle.std.specs.Prelude.{◌≡◌, ℕ, ◌+◌, ◌<◌, ◌≤◌, length}
 use Rattle.cell_units.specs.Rows.{all_rows}
+use Rattle.cell_units.specs.declared.place.Bias.TheVariants.{Left}
+use Rattle.block_map.specs.declared.snapshot.Place.{Place}
 use Rattle.block_map.specs.declared.window.Window.{Window}
 use Rattle.block_map.specs.Between.{Between}
+use Rattle.block_map.specs.Stops.{rows_upto}
 use Rattle.block_map.specs.inside.Zones.{zone_start}
 
 -- The zone of the row is that of `low`, or of a text row from `next` on before `high`. Where text rows between `low` and `next`
@@ -12,7 +15,14 @@ pub record IsWindow (b : Between) (row : ℕ) (w : Window) : Type 0 where
   pub some : w.next ≤ w.high
   pub within : w.high ≤ length (all_rows b.lines)
   pub begins : zone_start b w.low ≡ w.start
+  pub above : w.above ≡ rows_upto Left w.low b.above
   pub before : w.start ≤ row
   pub behind : row < w.end
   pub ends : w.end ≤ zone_start b w.high
   pub left_out : w.low + 1 < w.next → zone_start b w.next ≤ row
+
+-- A place lies in a zone, and tells how many rows the stops of each side have before their rows of that zone.
+pub record IsPlace (b : Between) (p : Place) : Type 0 where
+  pub there : p.text_row < length (all_rows b.lines)
+  pub above : p.above ≡ rows_upto Left p.text_row b.above
+  pub below : p.below ≡ rows_upto Left (p.text_row + 1) b.below

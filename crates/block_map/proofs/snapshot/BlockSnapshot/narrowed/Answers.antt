@@ -16,6 +16,7 @@ returns-then-start-row-clause-window g c =
       some = omega (arith, most, is, c.requires.from);
       within = omega (arith, w.within, c.requires.upto);
       begins = w.begins;
+      above = w.above;
       before = w.before;
       behind = c.if-start-row.true;
       ends = omega (arith, c.zone_start-start.ensures.start);
@@ -26,15 +27,16 @@ pub returns-then-behind-window-clause-window : goal.returns-then-behind-window-c
 returns-then-behind-window-clause-window g c =
     let b = c.args.self.now in
     let w = c.requires.window in
-    let behind = c.args.guess + (c.args.row - c.zone_start-start.result) + 1 in
-    let same : behind ≡ c.args.guess + (c.args.row - c.zone_start-start.result) + 1 = omega arith in
+    let behind = c.args.guess + (c.args.row - c.zone_start-start.result.row) + 1 in
+    let same : behind ≡ c.args.guess + (c.args.row - c.zone_start-start.result.row) + 1 = omega arith in
     record {
       order = omega arith;
       some = omega arith;
       within = omega (arith, w.within, c.if-behind-window.true);
       begins = omega (arith, c.zone_start-start.ensures.start);
+      above = c.zone_start-start.ensures.above;
       before = c.if-start-row.false;
       behind = omega arith;
-      ends = left-above b c.args.row c.args.guess c.zone_start-start.result behind c.zone_start-start.ensures.start c.if-start-row.false same;
+      ends = left-above b c.args.row c.args.guess c.zone_start-start.result.row behind c.zone_start-start.ensures.start c.if-start-row.false same;
       left_out = λ out. absurd (omega (arith, out));
     }

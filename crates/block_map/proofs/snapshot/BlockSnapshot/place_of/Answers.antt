@@ -1,6 +1,7 @@
 use Rattle.std.proofs.Common.{◌+◌, ◌-◌, ◌*◌, arith}
 use Rattle.block_map.proofs.CutWindows.{found-zone, halved, whole-window}
 use Rattle.block_map.proofs.RowsInZones.{steps-more}
+use Rattle.block_map.proofs.ZoneStarts.{upto-before_next}
 use Rattle.block_map.proofs.snapshot.BlockSnapshot.place_of.Goals as goal
 
 pub seek-init : goal.seek-init
@@ -28,5 +29,15 @@ seek-preserved g c =
       steps = λ h few. steps-more (2 * (h + 1)) (32 - left) (32 - (left - 1)) c.args.steps.now c.seek.steps c.narrowed-window.new.steps (omega (arith, next.0, c.seek.invariant.few)) (c.seek.invariant.steps h few) (c.narrowed-window.ensures.steps h few);
     }
 
+pub returns-clause-zone : goal.returns-clause-zone
+returns-clause-zone g c = found-zone c.args.self.now c.args.row c.seek.window c.seek.invariant.window c.seek-test.false
+
 pub returns-clause-place : goal.returns-clause-place
-returns-clause-place g c = found-zone c.args.self.now c.args.row c.seek.window c.seek.invariant.window c.seek-test.false
+returns-clause-place g c =
+    let b = c.args.self.now in
+    let w = c.seek.invariant.window in
+    record {
+      there = (found-zone b c.args.row c.seek.window w c.seek-test.false).there;
+      above = w.above;
+      below = omega (arith, w.begins, w.above, upto-before_next c.seek.window.low b.below);
+    }

@@ -1,10 +1,7 @@
-use Rattle.std.proofs.Common.{◌≡◌, ◌∙◌, ℕ, ◌+◌, ◌-◌, ◌<◌, ◌≤◌, List, ◌++◌, drop, length, take, ap, subst, sym, arith, append_assoc}
-use Rattle.cell_units.specs.Rows.{all_rows}
+use Rattle.std.proofs.Common.{◌≡◌, ◌∙◌, ℕ, ◌+◌, ◌-◌, ◌<◌, List, ◌++◌, drop, take, ap, sym, arith, append_assoc}
 use Rattle.plain_rows.specs.Rows.{Row}
 use Rattle.block_map.specs.Between.{rows_between}
 use Rattle.block_map.specs.ShownRows.{shown_rows}
-use Rattle.block_map.specs.Stops.{texts_at}
-use Rattle.block_map.specs.inside.Zones.{IsInZone}
 use Rattle.block_map.proofs.RowRuns.{clear-end, clear-zone}
 use Rattle.block_map.proofs.Windows.{window-join}
 use Rattle.block_map.proofs.snapshot.BlockSnapshot.push_lines.Goals as goal

@@ -24,13 +24,13 @@ walk-preserved g c =
           ∙ ap (λ (k : ℕ). take k (drop c.args.first all)) size;
       counted = omega (arith, c.walk.invariant.counted, c.in_ok-next.ensures.counted);
       steps = λ h few.
-          subst (λ (k : ℕ). c.push_run.new.steps ≤ c.args.steps.now + (70 * (h + 1)) * k) size
-          (more-turns (70 * (h + 1)) m n c.args.steps.now c.walk.steps c.push_run.new.steps (c.walk.invariant.steps h few) (c.in_ok-next.ensures.steps h few));
+          subst (λ (k : ℕ). c.push_run.new.steps ≤ c.args.steps.now + (67 * (h + 1)) * k) size
+          (more-turns (67 * (h + 1)) m n c.args.steps.now c.walk.steps c.push_run.new.steps (c.walk.invariant.steps h few) (c.in_ok-next.ensures.steps h few));
     }
 
 pub returns-in_err-next-clause-steps : goal.returns-in_err-next-clause-steps
 returns-in_err-next-clause-steps g c h few =
-    let x = 70 * (h + 1) in
+    let x = 67 * (h + 1) in
     let m = c.walk.next - c.args.first in
     let n = c.args.first + c.min.result - c.walk.next in
     let all = more-turns x m n c.args.steps.now c.walk.steps c.push_run.new.steps (c.walk.invariant.steps h few) (c.in_err-next.ensures.steps_err h few) in

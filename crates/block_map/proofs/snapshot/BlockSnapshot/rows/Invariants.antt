@@ -11,7 +11,7 @@ invariant-walk g l = record {
   within : l.next ≤ l.end;
   rows : shown_rows l.shown.items ≡ take (l.next - l.first) (drop l.first (rows_between l.self));
   counted : l.fn.steps ≤ l.steps;
-  steps : (h : ℕ) → IsHeight h l.self → l.steps ≤ l.fn.steps + (70 * (h + 1)) * (l.next - l.first);
+  steps : (h : ℕ) → IsHeight h l.self → l.steps ≤ l.fn.steps + (67 * (h + 1)) * (l.next - l.first);
 }
 
 abbrev pub decreases-walk : goal.decreases-walk

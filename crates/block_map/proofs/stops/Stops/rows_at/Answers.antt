@@ -2,11 +2,8 @@ use Rattle.std.proofs.Common.{arith}
 use Rattle.block_map.proofs.ZoneStarts.{upto-through}
 use Rattle.block_map.proofs.stops.Stops.rows_at.Goals as goal
 
-pub rows_upto-before-requires : goal.rows_upto-before-requires
-rows_upto-before-requires c = omega (arith, c.requires, upto-through c.args.row c.args.self.now)
-
 pub overflow_sub-result : goal.overflow_sub-result
-overflow_sub-result c = omega (arith, c.rows_upto-before.ensures.rows, c.rows_upto-through.ensures.rows, upto-through c.args.row c.args.self.now)
+overflow_sub-result c = omega (arith, c.rows_upto.ensures.rows, c.requires.before, upto-through c.args.row c.args.self.now)
 
 pub returns-clause-count : goal.returns-clause-count
-returns-clause-count c = omega (arith, c.rows_upto-before.ensures.rows, c.rows_upto-through.ensures.rows, upto-through c.args.row c.args.self.now)
+returns-clause-count c = omega (arith, c.rows_upto.ensures.rows, c.requires.before, upto-through c.args.row c.args.self.now)
