@@ -71,9 +71,6 @@ simple = refl
 pub free : is_simple_and_free words_app ≡ true
 free = refl
 
-pub rules_are : top.rules ≡ rules
-rules_are = refl
-
 -- ---- which rule is meant
 
 pub by_id : (s : Slot) → arg_by_id rules (id_of s) ≡ Some (rule s)

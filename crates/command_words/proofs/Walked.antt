@@ -142,9 +142,6 @@ twice acc g k a v seen e ts = no_plan_twice k a v acc ts (seen.keys k ∙ ap (λ
 snoc_doomed : (acc : List Token) (t : Token) → ((ts : List Token) → plan_of_tokens (acc ++ t ∷ ts) ≡ None) → HasNoPlan (acc ++ t ∷ [])
 snoc_doomed acc t plan ts = subst (λ x. plan_of_tokens x ≡ None) (sym (append_assoc acc (t ∷ []) ts)) (plan ts)
 
-more_doomed : (acc : List Token) (t : Token) → HasNoPlan acc → (ts : List Token) → plan_of_tokens (acc ++ t ∷ ts) ≡ None
-more_doomed acc t plan ts = plan (t ∷ ts)
-
 -- the option had no value so far
 valued : (acc : List Token) (g : Standing) (k : Key) (v : Word) (place : Place) → Seen acc g → IsAt place g → g (at_option k) ≡ None
     → Seen (acc ++ given k v ∷ []) (put (at_option k) v g) × IsAt place (put (at_option k) v g)

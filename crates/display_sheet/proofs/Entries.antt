@@ -1,8 +1,7 @@
 -- Entries of a record in their order: one more, one less, and all of them moved.
 use Rattle.std.proofs.Common.{◌≡◌, ℕ, ◌+◌, ◌-◌, ◌<◌, ◌≤◌, suc, Bool, true, false, cond, not, List, [], ◌∷◌, ◌++◌, length, map, reverse, take, drop, get_or, refl, sym, ap, subst, ◌∙◌, arith, append_assoc}
-use Rattle.std.specs.List.{filter, find, insert, prefix_len}
-use Rattle.std.specs.Prelude.{Some, None}
-use Rattle.std.proofs.lemmas.List.{map-append, reverse-append, take_more, drop_more, drop_all, get_or_default, take_all, length-drop, take-append-drop}
+use Rattle.std.specs.List.{filter, insert, prefix_len}
+use Rattle.std.proofs.lemmas.List.{map-append, reverse-append, take_more, drop_more, get_or_default, take_all, length-drop, take-append-drop}
 use Rattle.cell_units.specs.Sorting.{insert_by, sort_by}
 use Rattle.cell_units.proofs.CutLists.{Every}
 
@@ -30,13 +29,6 @@ module _ {X Y : Type 0} (see : X → Y) (le : Y → Y → Bool) where
   -- where the search for the place of an entry stopped, going down in a list in falling order
   abbrev pub IsPlace : List X → X → ℕ → Type 0
   IsPlace falling x at = (at ≤ length falling) × Every (IsPassed x) (drop at falling)
-
-  pub place-down : (falling : List X) (x z : X) (at : ℕ) → 0 < at → z ≡ get_or falling (at - 1) z → IsPassed x z → IsPlace falling x at → IsPlace falling x (at - 1)
-  place-down falling x z at some is passed h =
-      let next : at - 1 + 1 ≡ at = omega arith in (
-        omega (arith, h.0),
-        subst (Every (IsPassed x)) (sym (drop_more falling (at - 1) z (omega (arith, h.0)) ∙ (λ k. sym is k ∷ drop (next k) falling))) (passed, h.1),
-      )
 
   parts : (falling : List X) (x : X) (at : ℕ) → map see (reverse (insert falling at x)) ≡ map see (reverse (drop at falling)) ++ (see x ∷ map see (reverse (take at falling)))
   parts falling x at =
@@ -108,37 +100,6 @@ module _ {X Y : Type 0} (see : X → Y) (le : Y → Y → Bool) where
     go true e = refl
     go false e = ap (map see) more ∙ ap (λ (l : List Y). see z ∷ l) e
 
--- one less: the loop keeps those that pass
-pub kept-more : {X Y : Type 0} (see : X → Y) (p : Y → Bool) (xs kept kept' : List X) (i : ℕ) (z x : X) → i < length xs → get_or xs i z ≡ z → see x ≡ see z → p (see z) ≡ true →
-    map see kept ≡ filter p (map see (take i xs)) → kept' ≡ kept ++ x ∷ [] → map see kept' ≡ filter p (map see (take (i + 1) xs))
-kept-more {X} {Y} see p xs kept kept' i z x lt is same passes before pushed =
-    ap (map see) pushed
-    ∙ map-append see kept (x ∷ [])
-    ∙ (λ k. before k ++ same k ∷ [])
-    ∙ sym (filter-push p (map see (take i xs)) (see z) passes)
-    ∙ ap (filter p) (sym (map-append see (take i xs) (z ∷ [])))
-    ∙ ap (λ (l : List X). filter p (map see l)) (sym (take_more xs i z lt ∙ ap (λ (w : X). take i xs ++ w ∷ []) is)) where
-      filter-push : (p : Y → Bool) (ys : List Y) (y : Y) → p y ≡ true → filter p (ys ++ y ∷ []) ≡ filter p ys ++ y ∷ []
-      filter-push p [] y e = λ i. cond (e i) (y ∷ []) []
-      filter-push p (w ∷ ys) y e = go (p w) (filter-push p ys y e) where
-        go : (b : Bool) → filter p (ys ++ y ∷ []) ≡ filter p ys ++ y ∷ [] → cond b (w ∷ filter p (ys ++ y ∷ [])) (filter p (ys ++ y ∷ [])) ≡ cond b (w ∷ filter p ys) (filter p ys) ++ y ∷ []
-        go true r = ap (λ (l : List Y). w ∷ l) r
-        go false r = r
-
-pub kept-same : {X Y : Type 0} (see : X → Y) (p : Y → Bool) (xs kept : List X) (i : ℕ) (z : X) → i < length xs → get_or xs i z ≡ z → p (see z) ≡ false →
-    map see kept ≡ filter p (map see (take i xs)) → map see kept ≡ filter p (map see (take (i + 1) xs))
-kept-same {X} {Y} see p xs kept i z lt is fails before =
-    before
-    ∙ sym (filter-push p (map see (take i xs)) (see z) fails)
-    ∙ ap (filter p) (sym (map-append see (take i xs) (z ∷ [])))
-    ∙ ap (λ (l : List X). filter p (map see l)) (sym (take_more xs i z lt ∙ ap (λ (w : X). take i xs ++ w ∷ []) is)) where
-      filter-push : (p : Y → Bool) (ys : List Y) (y : Y) → p y ≡ false → filter p (ys ++ y ∷ []) ≡ filter p ys
-      filter-push p [] y e = λ i. cond (e i) (y ∷ []) []
-      filter-push p (w ∷ ys) y e = go (p w) (filter-push p ys y e) where
-        go : (b : Bool) → filter p (ys ++ y ∷ []) ≡ filter p ys → cond b (w ∷ filter p (ys ++ y ∷ [])) (filter p (ys ++ y ∷ [])) ≡ cond b (w ∷ filter p ys) (filter p ys)
-        go true r = ap (λ (l : List Y). w ∷ l) r
-        go false r = r
-
 -- a list of copies, one by one
 pub copied-more : {X Y : Type 0} (see : X → Y) (old xs copies copies' : List X) (i : ℕ) (z x : X) → i < length xs → get_or xs i z ≡ z → see x ≡ see z →
     map see copies ≡ map see old ++ map see (take i xs) → copies' ≡ copies ++ x ∷ [] → map see copies' ≡ map see old ++ map see (take (i + 1) xs)
@@ -149,23 +110,6 @@ copied-more {X} {Y} see old xs copies copies' i z x lt is same before pushed =
     ∙ append_assoc (map see old) (map see (take i xs)) (see z ∷ [])
     ∙ ap (λ (l : List Y). map see old ++ l) (sym (map-append see (take i xs) (z ∷ [])))
     ∙ ap (λ (l : List X). map see old ++ map see l) (sym (take_more xs i z lt ∙ ap (λ (w : X). take i xs ++ w ∷ []) is))
-
--- the first that passes, where none before it does
-pub find-next : {X Y : Type 0} (see : X → Y) (p : Y → Bool) (xs : List X) (i : ℕ) (z : X) → i < length xs → get_or xs i z ≡ z → p (see z) ≡ false →
-    find p (map see (drop i xs)) ≡ find p (map see xs) → find p (map see (drop (i + 1) xs)) ≡ find p (map see xs)
-find-next {X} {Y} see p xs i z lt is fails before =
-    sym (ap (λ (l : List X). find p (map see l)) (drop_more xs i z lt ∙ ap (λ (w : X). w ∷ drop (i + 1) xs) is)
-    ∙ (λ k. cond (fails k) (Some (see z)) (find p (map see (drop (i + 1) xs))))) ∙ before
-
-pub find-here : {X Y : Type 0} (see : X → Y) (p : Y → Bool) (xs : List X) (i : ℕ) (z : X) → i < length xs → get_or xs i z ≡ z → p (see z) ≡ true →
-    find p (map see (drop i xs)) ≡ find p (map see xs) → Some (see z) ≡ find p (map see xs)
-find-here {X} {Y} see p xs i z lt is passes before =
-    sym (ap (λ (l : List X). find p (map see l)) (drop_more xs i z lt ∙ ap (λ (w : X). w ∷ drop (i + 1) xs) is)
-    ∙ (λ k. cond (passes k) (Some (see z)) (find p (map see (drop (i + 1) xs))))) ∙ before
-
-pub find-none : {X Y : Type 0} (see : X → Y) (p : Y → Bool) (xs : List X) (i : ℕ) → length xs ≤ i →
-    find p (map see (drop i xs)) ≡ find p (map see xs) → None ≡ find p (map see xs)
-find-none {X} {Y} see p xs i past before = ap (λ (l : List X). find p (map see l)) (sym (drop_all i xs past)) ∙ before
 
 module _ {X Y : Type 0} (see : X → Y) (le : Y → Y → Bool) (keep : Y → Bool) (move : X → Y) where
   -- entries that were moved, but for those that aren't kept

@@ -1,16 +1,16 @@
 -- The numbers of rows after a landing.
-use Rattle.std.proofs.Common.{◌≡◌, ℕ, ◌+◌, ◌<◌, ◌≤◌, zero, suc, List, [], ◌∷◌, length, drop, set, get_or, refl, sym, ap, subst, ◌∙◌, inl, inr, arith}
+use Rattle.std.proofs.Common.{◌≡◌, ℕ, ◌+◌, ◌<◌, zero, suc, List, [], ◌∷◌, length, drop, set, get_or, refl, sym, ap, subst, ◌∙◌, inl, inr, arith}
 use Rattle.std.specs.Prelude.{Option, Some, None}
 use Rattle.std.specs.List.{All}
 use Rattle.std.proofs.lemmas.Bool.{cases_eq}
 use Rattle.std.proofs.lemmas.Grind.{get_or-set_at}
-use Rattle.std.proofs.lemmas.List.{drop_all, drop_more, get_or-set_other, length-set, map-set}
+use Rattle.std.proofs.lemmas.List.{drop_more, get_or-set_other, length-set, map-set}
 use Rattle.cell_units.specs.Lawful.{IsWidth}
 use Rattle.cell_line.specs.declared.element.Element.{Element}
 use Rattle.cell_line.specs.Wrapping.{cuts_of}
 use Rattle.plain_rows.proofs.SpotLines.{cuts-few}
 use Rattle.display_sheet.specs.declared.wraps.Wrapped.{Wrapped}
-use Rattle.display_sheet.specs.Landing.{AreCutsAt, AreLanded, FitLines, landed_at, landed_rows, rows_in}
+use Rattle.display_sheet.specs.Landing.{AreCutsAt, FitLines, landed_at, landed_rows, rows_in}
 use Rattle.display_sheet.specs.Sheets.{marks_in, row_counts}
 
 -- the numbers of rows, where one line gets another width
@@ -96,9 +96,6 @@ module _ (width : ℕ) (places : List (Option ℕ)) (cuts : List (List ℕ)) whe
     pub rows : landed_rows (drop i places) (drop i cuts) (rows_in new) ≡ landed_rows places cuts (rows_in old)
     pub long : length new ≡ length old
 
-  pub none_landed : (old : List Wrapped) → HaveLanded 0 old old
-  none_landed old = record { marks = refl; rows = refl; long = refl }
-
   module _ (i : ℕ) (d : Option ℕ) (old new : List Wrapped) (long : length places ≡ length cuts) (lt : i < length places) (h : HaveLanded i old new) where
     places-more : (p : Option ℕ) → get_or places i d ≡ p → drop i places ≡ p ∷ drop (i + 1) places
     places-more p is = drop_more places i d lt ∙ ap (λ (q : Option ℕ). q ∷ drop (i + 1) places) is
@@ -128,9 +125,3 @@ module _ (width : ℕ) (places : List (Option ℕ)) (cuts : List (List ℕ)) whe
               ∙ h.rows;
           long = length-set new line w ∙ h.long;
         }
-
-  pub all_landed : (i : ℕ) (old new : List Wrapped) → length places ≤ i → HaveLanded i old new → AreLanded width places cuts old new
-  all_landed i old new le h = record {
-    marks = sym (ap (λ (ps : List (Option ℕ)). landed_at width ps (marks_in new)) (drop_all i places le)) ∙ h.marks;
-    rows = sym (ap (λ (ps : List (Option ℕ)). landed_rows ps (drop i cuts) (rows_in new)) (drop_all i places le)) ∙ h.rows;
-  }

@@ -56,15 +56,6 @@ line-length text line lt =
 -- ---- the offset at a point, by its three cases
 
 module _ (text : List ℕ) (utf8 : IsUtf8 text) (p : Point) (bias : Bias) where
-  pub offset-past_rows : line_count text ≤ p.row → length text ≡ offset_at text p bias
-  offset-past_rows past =
-      offset_is text utf8 p bias (length text)
-      (record {
-        past_rows = λ le. omega arith;
-        past_end = λ within. absurd (omega (arith, past, within));
-        in_row = λ within. absurd (omega (arith, past, within));
-      })
-
   pub offset-past_end : p.row < line_count text → line_end text p.row < line_start text p.row + p.column → line_end text p.row ≡ offset_at text p bias
   offset-past_end within past =
       offset_is text utf8 p bias (line_end text p.row)

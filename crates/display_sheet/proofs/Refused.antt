@@ -16,7 +16,7 @@ use Rattle.cell_units.proofs.TextLaws.{tells_boundaries}
 use Rattle.std.proofs.lemmas.Bool.{and_parts, eqb-false, leb-true, ne_eqb}
 use Rattle.std.proofs.lemmas.List.Sums.{sum_by-cons}
 use Rattle.cell_units.specs.declared.fault.Refusal.{Refusal}
-use Rattle.cell_units.specs.declared.fault.Refusal.TheVariants.{BadNumber, BadRange, BadText, IdInUse, TooLong, UnknownId}
+use Rattle.cell_units.specs.declared.fault.Refusal.TheVariants.{BadRange, BadText, IdInUse, TooLong, UnknownId}
 use Rattle.display_sheet.specs.Changes.{are_block_lines, block_refusal, first_of, fold_refusal, has_block, has_fold, has_inlay, inlay_refusal, is_fold_range, is_full, is_line_end, is_long_line}
 
 -- ---- ids
@@ -287,15 +287,6 @@ known b e = miss (not b) UnknownId [] None (ap not e) refl
 -- ... of which the entry was found
 pub found-known : {X : Type 0} (p : X → Bool) (xs : List X) (x : X) → find p xs ≡ Some x → first_of ((not (list_any p xs), UnknownId) ∷ []) ≡ None
 found-known p xs x e = known (list_any p xs) (any-found p xs ∙ ap is_some e)
-
--- ---- numbers
-
-module _ (b : Bool) where
-  pub bad_number : b ≡ false → first_of ((not b, BadNumber) ∷ []) ≡ Some BadNumber
-  bad_number e = hit (not b) BadNumber [] (ap not e)
-
-  pub good_number : b ≡ true → first_of ((not b, BadNumber) ∷ []) ≡ None
-  good_number e = miss (not b) BadNumber [] None (ap not e) refl
 
 -- ---- entries that are found
 

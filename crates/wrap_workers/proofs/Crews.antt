@@ -8,7 +8,7 @@ use Rattle.wrap_workers.specs.declared.tasks.Task.TheVariants.{Do, Stop}
 use Rattle.wrap_workers.specs.Jobs.{JobParts, front, without}
 use Rattle.wrap_workers.specs.Errands.{ErrandParts, Right}
 use Rattle.wrap_workers.specs.Owed.{AreDistinct, after_hired, after_lent, after_result, after_retired, after_returned, crew_hand, one_at, times}
-use Rattle.wrap_workers.specs.Posted.{IsHome, after_put, crew_post, serial_of}
+use Rattle.wrap_workers.specs.Posted.{IsHome, after_put, serial_of}
 use Rattle.wrap_workers.specs.Crewed.{IsTakenOff}
 use Rattle.wrap_workers.specs.inside.Ends.{IsAt, IsCrew, IsCrewHand, IsCrewPost, IsHomeAt, Queue, ResultsSeen, TasksSeen}
 use Rattle.wrap_workers.proofs.Owing.{one_more}
@@ -83,15 +83,6 @@ module _ {N : Type 0} where
   pub post_same : (p q : Post N) (old new : ℕ) → IsCrewPost p old → q ≡ p → old ≤ new → IsCrewPost q new
   post_same p q old new i is le =
       subst (λ (u : Post N). IsCrewPost u new) (sym is) (record { going = i.going; next = omega (arith, i.next, le) })
-
-  -- a job was put
-  pub post_put : (p q : Post N) (home : Option (Right N)) (serial old new : ℕ) → IsCrewPost p old →
-      q ≡ crew_post home (serial + 1) p.stopped → serial ≡ old → old + 1 ≤ new → IsCrewPost q new
-  post_put p q home serial old new i is same le =
-      subst (λ (u : Post N). IsCrewPost u new) (sym is) (record { going = i.going; next = omega (arith, same, le) })
-
-  pub serial_is : (v : Hand N) (serial : ℕ) (out rights : List (JobParts N)) → v ≡ crew_hand serial out rights → v.serial ≡ serial
-  serial_is v serial out rights is = ap (λ (u : Hand N). u.serial) is
 
   -- what was taken off, in the words of a contract
   pub taken_off : (v : Hand N) (kept : List (JobParts N)) (count workers room : ℕ) (before now : List (JobParts N)) (job given : JobParts N) →

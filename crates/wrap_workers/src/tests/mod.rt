@@ -59,12 +59,12 @@ fn number_done(finished: &Finished<Alike>) -> Option<u64> {
 }
 
 #[test]
-fn job_wraps(rt: HostRuntime) {
+fn a_job_is_cut_in_each_of_its_lines(rt: HostRuntime) {
     assert_eq!(rt; number_done(&do_job(rt.alloc(), ten_lines(1))), Some(1));
 }
 
 #[test]
-fn crew_full(rt: HostRuntime) {
+fn a_full_crew_hands_a_job_back_and_does_its_oldest(rt: HostRuntime) {
     match crew(rt.alloc(), 1) {
         Ok((mut crew, _team)) => {
             assert!(rt; crew.collect(&rt).is_none());
@@ -86,7 +86,7 @@ fn crew_full(rt: HostRuntime) {
 }
 
 #[test]
-fn worker_beside(rt: HostRuntime) {
+fn a_worker_in_its_own_thread_gives_the_result(rt: HostRuntime) {
     for collect in [false, true] {
         match crew(rt.alloc(), 1) {
             Ok((crew, team)) => {
