@@ -1,14 +1,13 @@
 -- What is shown before a position is a front of what is shown before a later one.
-use Rattle.std.proofs.Common.{◌≡◌, ℕ, ◌+◌, ◌-◌, ◌<◌, ◌≤◌, Bool, true, false, if◌then◌else◌, List, [], ◌∷◌, ◌++◌, zero, suc, length, take, drop, get_or, refl, sym, ap, ◌∙◌, subst, append-nil, append_assoc, length-append, arith}
-use Rattle.std.specs.List.{flat_map}
+use Rattle.std.proofs.Common.{◌≡◌, ℕ, ◌+◌, ◌-◌, ◌<◌, ◌≤◌, Bool, true, false, if◌then◌else◌, List, [], ◌∷◌, ◌++◌, zero, suc, length, take, drop, get_or, sym, ap, ◌∙◌, subst, append-nil, append_assoc, length-append, arith}
 use Rattle.std.proofs.lemmas.List.{take-append-drop, take_at, take_all, take_more, length_push, length-take-le}
 use Rattle.cell_units.specs.declared.place.Bias.{Bias}
 use Rattle.cell_units.specs.declared.place.Bias.TheVariants.{Left, Right}
 use Rattle.cell_units.specs.Text.{line_feed}
 use Rattle.cell_units.specs.Record.{Inlay, Fold}
-use Rattle.cell_units.specs.Inlaid.{Token, Byte, Hidden, bytes_of, inlaid_before, inlays_at, show_each}
-use Rattle.cell_units.specs.Folded.{covered, folded, folded_before, folded_place, folded_to, inside, shown}
-use Rattle.plain_rows.proofs.Fronts.{IsFront, flat_map-front, front-append, front-refl, front-trans, length-front}
+use Rattle.cell_units.specs.Inlaid.{Token, Byte, Hidden, inlays_at, show_each}
+use Rattle.cell_units.specs.Folded.{covered, folded, folded_before, folded_to, inside, shown}
+use Rattle.plain_rows.proofs.Fronts.{IsFront, front-append, front-refl, front-trans}
 
 pub show_each-append : (f : ℕ → ℕ → List Token) (o : ℕ) (xs ys : List ℕ) → show_each f o (xs ++ ys) ≡ show_each f o xs ++ show_each f (o + length xs) ys
 show_each-append f o [] ys = let e : o ≡ o + 0 = omega arith in ap (λ (k : ℕ). show_each f k ys) e
@@ -143,24 +142,3 @@ module _ (text : List ℕ) (inlays : List Inlay) (folds : List Fold) where
         last : IsFront (tokens_to (length text) Right) (folded text inlays folds)
         last = subst (λ (l : List Token). IsFront (tokens_to (length text) Right) l) (sym whole)
             (at_end (inside folds (length text)) (folded_before text inlays folds (length text)) (inlays_at inlays (length text)) (token_at (length text) line_feed))
-
-  -- so in bytes a place rises with its position
-  pub folded_place-rises : (o p : ℕ) (bias : Bias) → o ≤ p → p ≤ length text → folded_place text inlays folds o bias ≤ folded_place text inlays folds p bias
-  folded_place-rises o p bias le within =
-      length-front (flat_map bytes_of (tokens_to o bias)) (flat_map bytes_of (tokens_to p bias))
-      (flat_map-front bytes_of (tokens_to o bias) (tokens_to p bias) (to-rises o p bias le within))
-
-  pub folded_place-sides : (o : ℕ) → folded_place text inlays folds o Left ≤ folded_place text inlays folds o Right
-  folded_place-sides o =
-      length-front (flat_map bytes_of (tokens_to o Left)) (flat_map bytes_of (tokens_to o Right))
-      (flat_map-front bytes_of (tokens_to o Left) (tokens_to o Right) (to-sides o))
-
-  pub folded_place-across : (o p : ℕ) → inside folds o ≡ false → o < p → p ≤ length text → folded_place text inlays folds o Right ≤ folded_place text inlays folds p Left
-  folded_place-across o p out lt within =
-      length-front (flat_map bytes_of (tokens_to o Right)) (flat_map bytes_of (tokens_to p Left))
-      (flat_map-front bytes_of (tokens_to o Right) (tokens_to p Left) (to-across o p out lt within))
-
--- a position of the inlaid text is one of the folded text without folds
-pub inlaid-unfolded : (text : List ℕ) (inlays : List Inlay) (o : ℕ) (bias : Bias) → inlaid_before text inlays o bias ≡ folded_to text inlays [] o bias
-inlaid-unfolded text inlays o Left = refl
-inlaid-unfolded text inlays o Right = refl

@@ -152,10 +152,6 @@ upto-fold text inlays folds s e lt within before cover out hidden =
           ∙ append-nil (shown inlays folds s b)
           ∙ shown-start folds inlays s b (cover, out)
 
--- nothing is shown before the text
-pub upto-none : (text : List ℕ) (folds : List Fold) → shown_upto text [] folds 0 ≡ []
-upto-none text folds = refl
-
 -- all of it
 pub upto-all : (text : List ℕ) (inlays : List Inlay) (folds : List Fold) → inside folds (length text) ≡ false → covered folds (length text) ≡ false →
     folded text inlays folds ≡ shown_upto text inlays folds (length text) ++ Byte (length text) line_feed ∷ []

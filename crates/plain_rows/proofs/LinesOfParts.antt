@@ -109,12 +109,6 @@ buffer-tokens : (o : ℕ) (bs : List ℕ) → bytes_from o bs ≡ each Byte kind
 buffer-tokens o [] = refl
 buffer-tokens o (b ∷ bs) = ap (λ (l : List Token). Byte o b ∷ l) (buffer-tokens (o + 1) bs)
 
-abbrev inlay-run : (o id : ℕ) → ℕ → List ℕ → List Token
-inlay-run o id k bs = each (λ _ b. InlayByte o id b) kinds.Inlay (λ _ _ _. eq-eqb id id refl) (λ _ _. refl) (λ _ _. refl) k bs
-
-abbrev buffer-run : ℕ → List ℕ → List Token
-buffer-run o bs = each Byte kinds.Buffer (λ _ _ _. refl) (λ _ _. refl) (λ _ _. refl) o bs
-
 -- the last part before a line's end
 pieces-last : (s : Source) (p : Part) (u : Token) → is_end p ≡ false → part_end p ≡ offset_of u → Lies s p → pieces_of (part_tokens s p ++ u ∷ []) ≡ piece_in s p ∷ []
 pieces-last s (Buffer start end) u off at lies =

@@ -102,9 +102,6 @@ same-row text start o le hi within =
     let r = same-row-from text start (o - start) (omega (arith, hi)) (omega (arith, within)) in
     (ap (row_start text) (sym e) ∙ r.0, ap (row_end text) (sym e) ∙ r.1)
 
-pub row_end-least : (text : List ℕ) (o : ℕ) → o ≤ row_end text o
-row_end-least text o = omega arith
-
 -- behind a row's end, if the text goes on, stands its feed, and then the next row starts
 pub next-row : (text : List ℕ) (o : ℕ) → row_end text o < length text → row_start text (row_end text o + 1) ≡ row_end text o + 1
 next-row text o lt =

@@ -174,9 +174,6 @@ height-off r side line b off =
 abbrev pub HasStood : Record → Side → ℕ → List ℕ → Type 0
 HasStood r side n rows = (length rows ≡ length r.marks) × ((line : ℕ) → line < length r.marks → get_or rows line 0 ≡ stood r side line n)
 
-pub stood-none : (r : Record) (side : Side) (line : ℕ) → stood r side line 0 ≡ 0
-stood-none r side line = refl
-
 pub row-added : (r : Record) (side : Side) (n : ℕ) (rows : List ℕ) (at v : ℕ) → IsLawful r → n < length r.blocks → HasStood r side n rows →
     is_on side (block_at r n).side ≡ true → at ≡ line_of_block r (block_at r n) → v ≡ get_or rows at 0 + length (block_at r n).lines → HasStood r side (n + 1) (set rows at v)
 row-added r side n rows at v lawful lt has on is value = (length-set rows at v ∙ has.0, λ line within. each line within (cases_eq line at)) where

@@ -13,10 +13,10 @@ use Rattle.cell_units.specs.Text.{is_boundary}
 use Rattle.cell_line.specs.declared.element.Element.{Element}
 use Rattle.plain_rows.specs.Spots.{back, clip, elements_at, first_by, is_open, is_spot, is_within, offsets_at, positions, show, spot_le}
 use Rattle.plain_rows.specs.inside.SpotOffsets.{IsFirstOffset, IsLastOffset, IsOffsetAt, greater, lesser}
-use Rattle.plain_rows.specs.inside.SpotSearch.{IsPartedAt, stands_before}
-use Rattle.plain_rows.proofs.Clips.{spot_le-antisym, spot_le-refl}
+use Rattle.plain_rows.specs.inside.SpotSearch.{stands_before}
+use Rattle.plain_rows.proofs.Clips.{spot_le-antisym}
 use Rattle.plain_rows.proofs.Lists.{IsFirst, all-contained, contains-filtered, contains-mapped, contains-none, contains-unfiltered, first_by-first}
-use Rattle.plain_rows.proofs.SpotPositions.{boundary-within, contains-unmapped, position-boundary, position-contained}
+use Rattle.plain_rows.proofs.SpotPositions.{contains-unmapped, position-boundary, position-contained}
 
 -- ---- what is open
 
@@ -166,18 +166,6 @@ pub at-spot : (s d : Spot) → stands_before Left s d ≡ false → stands_befor
 at-spot s d h k = spot_le-antisym s d k (not-false (spot_le d s) h)
 
 module _ (r : Record) (bias : Bias) (d : Spot) where
-  -- none is among the offsets that are shown before the spot, and none behind those at or before it
-  pub none-before : (n : ℕ) → IsPartedAt r bias Left d n → (o : ℕ) → o < n → IsOffsetAt r bias d o → ⊥
-  none-before n parted o lt at =
-      let not_le : not (spot_le d (show r o bias)) ≡ true = parted.before o lt (boundary-within r.text o at.boundary) in
-      let le : not (spot_le d (show r o bias)) ≡ false = ap (λ (t : Spot). not (spot_le d t)) at.is ∙ not_from_true (spot_le d d) (spot_le-refl d) in
-      false≢true (sym le ∙ not_le)
-
-  pub none-behind : (n : ℕ) → IsPartedAt r bias Right d n → (o : ℕ) → n ≤ o → IsOffsetAt r bias d o → ⊥
-  none-behind n parted o ge at =
-      let le : spot_le (show r o bias) d ≡ true = ap (λ (t : Spot). spot_le t d) at.is ∙ spot_le-refl d in
-      false≢true (sym (parted.behind o ge (boundary-within r.text o at.boundary)) ∙ le)
-
   pub offset-at : (o : ℕ) → is_boundary r.text o && is_open r o bias ≡ true → show r o bias ≡ d → IsOffsetAt r bias d o
   offset-at o h is = let p = and_parts (is_boundary r.text o) (is_open r o bias) h in record { boundary = p.0; opened = p.1; is = is }
 

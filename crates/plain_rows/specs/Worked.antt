@@ -29,13 +29,13 @@ marked r line width =
 -- ten lines of two words, wrapped at the width
 abbrev pub ten_lines : ℕ → Record
 ten_lines width =
-    settled (flat_map (λ n. codes "aaa bbb" ++ 10 ∷ []) (range_with_len 0 9) ++ codes "aaa bbb") [] [] [] width
+    settled (flat_map (λ n. codes "aaa bbb\n") (range_with_len 0 9) ++ codes "aaa bbb") [] [] [] width
 
 -- a program of 69 bytes with an inlay and a block above its third row, at width 24
 abbrev pub ordinary_source : List Fold → Record
 ordinary_source folds =
     settled
-    (codes "fn main() {" ++ 10 ∷ 9 ∷ codes "let total = items.iter().sum();" ++ 10 ∷ 9 ∷ codes "println!(" ++ 34 ∷ codes "{total}" ++ 34 ∷ codes ");" ++ 10 ∷ codes "}" ++ 10 ∷ [])
+    (codes "fn main() {\n\tlet total = items.iter().sum();\n\tprintln!(\"{total}\");\n}\n")
     (inlay 22 Right 1 (codes ": u32") ∷ [])
     folds
     (block 45 1 Above (codes "-- prints it" ∷ []) ∷ [])
