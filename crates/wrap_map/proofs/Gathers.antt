@@ -90,11 +90,6 @@ pub with_last-first : (ss : List Stretched) (s : Stretched) → length ss ≡ 0 
 with_last-first [] s none = refl
 with_last-first (u ∷ us) s none = absurd (omega arith)
 
--- one more of many
-pub gathered-more : (ss fs : List Stretched) (f : Stretched) → gathered ss (fs ++ (f ∷ [])) ≡ with_last (gathered ss fs) f
-gathered-more ss [] f = refl
-gathered-more ss (g ∷ gs) f = gathered-more (with_last ss g) gs f
-
 -- ---- how the first and the last stand
 
 -- the first of some, or this one

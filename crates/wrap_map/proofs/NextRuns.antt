@@ -1,14 +1,13 @@
 -- The run that is to be wrapped next, found from line to line.
-use Rattle.std.proofs.Common.{◌≡◌, ◌≢◌, ⊎_elim, ℕ, ◌+◌, ◌-◌, ◌<◌, ◌≤◌, ◌^◌, min, max, true, false, ◌&&◌, not, nat_lt, nat_le, ◌==◌, List, length, get_or, None, Option, Some, sym, subst, ◌∙◌, arith}
-use Rattle.std.specs.Prelude.{IfSome}
+use Rattle.std.proofs.Common.{◌≡◌, ◌≢◌, ⊎_elim, ℕ, ◌+◌, ◌-◌, ◌<◌, ◌≤◌, ◌^◌, min, max, true, false, ◌&&◌, not, nat_lt, nat_le, ◌==◌, List, length, get_or, None, sym, subst, ◌∙◌, arith}
 use Rattle.std.specs.List.{list_any}
 use Rattle.std.proofs.Math.ListN.{get_or-map}
-use Rattle.std.proofs.lemmas.Bool.{and_from, and_left, and_parts, and_right, cases_lt, eq-eqb, le-leb, le-ltb, lt-leb, lt-ltb, ltb-true, ne_eqb, not_from_false, not_from_true}
+use Rattle.std.proofs.lemmas.Bool.{and_from, and_left, and_right, cases_lt, eq-eqb, le-leb, le-ltb, lt-leb, lt-ltb, ne_eqb, not_from_false, not_from_true}
 use Rattle.std.proofs.lemmas.List.{get_or_default, length-map}
 use Rattle.std.proofs.lemmas.List.Folds.{list_any-from_Any, list_any_none}
 use Rattle.cell_line.specs.declared.lines.Run.{Run}
 use Rattle.wrap_map.specs.Stood.{IsOther, IsOtherIfAny, Stood, marks_in, stood_at, unwrapped}
-use Rattle.wrap_map.specs.Waiting.{AreApart, IsNext, IsNextIfAny, has_line, waits}
+use Rattle.wrap_map.specs.Waiting.{AreApart, IsNext, has_line, waits}
 use Rattle.wrap_map.specs.inside.Changes.{IsRunFrom}
 
 -- ---- which lines wait
@@ -73,28 +72,8 @@ pub record IsPassed (ls : List Stood) (width : ℕ) (out : List Run) (j line : �
   pub none_before : (k : ℕ) → k < line → waits (marks_in ls) width out k ≡ false
   pub past : (i k : ℕ) (d : Run) → i < j → i < length out → line ≤ k → k < length ls → has_line (get_or out i d) k ≡ false
 
-pub passed-first : (ls : List Stood) (width : ℕ) (out : List Run) → IsPassed ls width out 0 0
-passed-first ls width out = record {
-  none_before = λ k h. absurd (omega arith);
-  past = λ i k d a b c e. absurd (omega arith);
-}
-
 one_more : (P : ℕ → Type 0) (j : ℕ) → ((i : ℕ) → i < j → P i) → P j → (i : ℕ) → i < j + 1 → P i
 one_more P j below at i h = ⊎_elim (λ a. below i a) (λ a. let e : j ≡ i = omega arith in subst P e at) (cases_lt i j)
-
--- an empty run has no line
-pub passed-empty : (ls : List Stood) (width : ℕ) (out : List Run) (j line : ℕ) (run : Run)
-    → IsPassed ls width out j line → j < length out → run ≡ get_or out j run → run.count ≡ 0 → IsPassed ls width out (j + 1) line
-passed-empty ls width out j line run p within is empty = record {
-  none_before = p.none_before;
-  past = λ i k d a b c e.
-      one_more (λ i. i < length out → has_line (get_or out i d) k ≡ false) j
-      (λ i a b. p.past i k d a b c e)
-      (λ b. let q : has_line run k ≡ false =
-      ⊎_elim (λ f. before_run run k f) (λ f. behind_run run k (omega arith)) (cases_lt k run.first) in
-      subst (λ (r : Run). has_line r k ≡ false) (is ∙ get_or_default out j run d b) q)
-      i a b;
-}
 
 -- past a run that begins at or before the next line that stands at another mark
 pub passed-on : (ls : List Stood) (width : ℕ) (out : List Run) (j line found next : ℕ) (run : Run)
@@ -177,15 +156,3 @@ none_waits ls width out j line p none k =
     ⊎_elim (λ a. p.none_before k a)
     (λ a. ⊎_elim (λ b. settled ls width out k (none k a b)) (λ b. past_end ls width out k b) (cases_lt k (length ls)))
     (cases_lt k line)
-
--- the run that is next is of lines that are there
-pub next-within : (marks : List ℕ) (width : ℕ) (out : List Run) (next : Option Run) → IsNextIfAny marks width out next
-    → IfSome next (λ run. run.first + run.count ≤ length marks)
-next-within marks width out None is = tt
-next-within marks width out (Some run) is =
-    let last = run.first + (run.count - 1) in
-    let at = nat_lt last (length marks) in
-    let other = not (get_or marks last 0 == width) in
-    let free = not (list_any (λ (r : Run). has_line r last) out) in
-    let lt = ltb-true last (length marks) (and_parts at other (and_parts (at && other) free (is.each (run.count - 1) (omega (arith, is.some)))).0).0 in
-    omega (arith, lt, is.some)

@@ -220,9 +220,6 @@ module _ (ss : List Stretched) (line width i : ℕ) (s : Stretched) (each : All 
   pub from-within : max (lines_to ss i) line < lines_to ss i + s.lines
   from-within = omega (arith, passed.behind s e, (All-at IsStretch ss i s e each).some)
 
-  pub stretch-within : lines_to ss i + s.lines ≤ length (spread ss)
-  stretch-within = lines-within ss i s e
-
   -- it stands at the width
   pub next-here : (end : ℕ) → line < end → s.stood.mark ≡ width → IsNextAt (spread ss) line end width (min (max (lines_to ss i) line) end)
   next-here end some mark = record {

@@ -334,10 +334,6 @@ pub either : {A E : Type 0} (r : Result A E) (P Q R : Type 0) → OnOk r P → O
 either (Ok a) P Q R p q f g = f p
 either (Err e) P Q R p q f g = g q
 
-pub on_ok : {A E : Type 0} (r : Result A E) (P Q : Type 0) → OnOk r P → (P → Q) → OnOk r Q
-on_ok (Ok a) P Q p f = f p
-on_ok (Err e) P Q p f = p
-
 -- ---- the rows before a part
 
 pub head-rows : (ss part : List Stretched) (n at : ℕ) → All IsStretch ss → IsHead ss n part at

@@ -5,7 +5,7 @@ use Rattle.std.proofs.lemmas.List.{drop_more, take_more}
 use Rattle.std.proofs.lemmas.List.Elements.{All-cons, All-get_or, All-nil}
 use Rattle.std.proofs.lemmas.Option.{slice_get-get_or}
 use Rattle.cell_line.specs.declared.element.Element.{Element}
-use Rattle.cell_line.specs.Lines.{LineFitsU32, line_at}
+use Rattle.cell_line.specs.Lines.{line_at}
 use Rattle.cell_line.specs.RowTexts.{row_texts_of}
 use Rattle.cell_units.specs.Lawful.{IsWidth}
 use Rattle.cell_units.specs.Rows.{HaveRows, IsLineAt, all_rows, line_rows}
@@ -31,9 +31,6 @@ module _ (s : Standing) (is : IsStanding s) where
 
   pub mark-lawful : (k : ℕ) → k < length s.lines → IsWidth (mark_at s k)
   mark-lawful k within = All-get_or IsWidth s.marks k 0 (omega (arith, is.one_each)) is.lawful
-
-  pub line-fits : (k : ℕ) → k < length s.lines → LineFitsU32 (line_at s.lines k)
-  line-fits k within = All-get_or LineFitsU32 s.lines k [] within is.room.fits.1
 
   pub count-there : (k : ℕ) → k < length s.lines → length (line_rows (shown_rows s) k) ≡ length (stood_at (stood_of s) k).cuts + 1
   count-there k within =
@@ -85,10 +82,6 @@ first-text rows texts row text within e is =
     let first = ap (λ (l : List (List ℕ)). get_or (take 1 l) 0 text) (drop_more rows row text within) in
     slice_get-get_or rows row text within
     ∙ ap Some (sym (is ∙ ap (λ (l : List (List ℕ)). get_or l 0 text) e ∙ first))
-
-pub some-text : (rows texts : List (List ℕ)) (row : ℕ) → row < length rows → texts ≡ take 1 (drop row rows) → 0 < length texts
-some-text rows texts row within e =
-    omega (arith, ap length e, ap (λ (l : List (List ℕ)). length (take 1 l)) (drop_more rows row [] within))
 
 pub within-lines : (s : Standing) → IsStanding s → (k : ℕ) → k < length (shown_rows s) → k < length s.lines
 within-lines s is k within = omega (arith, count-shown s is)

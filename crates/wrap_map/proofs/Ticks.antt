@@ -36,9 +36,6 @@ one-turn k w s0 s1 s2 before more =
     let five : 5 * (k + 1) ≡ 5 * k + 5 = omega arith in
     omega (arith, before, more, ap (λ (n : ℕ). n * w) five, add-mul (5 * k) 5 w)
 
-pub turns-within : (k n w s0 s1 : ℕ) → k ≤ n → s1 ≤ s0 + 5 * k * w → s1 ≤ s0 + 5 * n * w
-turns-within k n w s0 s1 le before = omega (arith, before, mul-le (5 * k) w (5 * n) w (omega arith) (omega arith))
-
 -- the seeks before a replacement
 pub put-first : (ss : List Stretched) (k n s0 s1 : ℕ) → All IsStretch ss → TakesAtMost way (length ss) s0 s1 → ChangesAtMost (putting k) (length (spread ss)) n s0 s1
 put-first ss k n s0 s1 each first = λ h small after.

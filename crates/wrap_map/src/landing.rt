@@ -70,12 +70,17 @@ impl Landing {
         cuts: &Cuts,
         steps: &mut Steps,
     ) -> Result<(), NoMemory>
+        // The open group can be put in place, and the line, where it is still there, is no longer than a u32 counts.
         requires close { CanClose before.now self.old }
         requires present { IfSome (carry_of since.now line) (λ present. present < 2 ^ 32) }
         requires short { let count = length cuts.now.items in
             IfSome (carry_of since.now line) (λ _. count + 1 < 2 ^ 32) }
+
+        // A line that is still there goes on with the open group, or closes it and begins another.
         ensures carried { let stood : Stood = record { mark = mark; cuts = cuts.now.items } in
             OnOk result (self.new ≡ carried before.now since.now line stood self.old) }
+
+        // The work. Of each line in the open group four steps are kept until it is closed.
         ensures counted { steps.old ≤ steps.new }
         ensures steps { let waiting = length self.old.fresh in
             TakesAtMost (closing waiting) (length before.now) steps.old steps.new }
@@ -179,10 +184,15 @@ impl Landing {
         before: &Stretches,
         steps: &mut Steps,
     ) -> Result<(Stretches, Patch), NoMemory>
+        // The open group can be put in place.
         requires close { CanClose before.now self }
         requires patch { IsPatch (closed_if_any before.now self).edits }
+
+        // It is, where it has a line.
         ensures lines { IfOk result (λ made. made.0 ≡ (closed_if_any before.now self).lines) }
         ensures edits { IfOk result (λ made. made.1 ≡ (closed_if_any before.now self).edits) }
+
+        // The work.
         ensures counted { steps.old ≤ steps.new }
         ensures steps { let waiting = length self.fresh in
             TakesAtMost (closing waiting) (length before.now) steps.old steps.new }

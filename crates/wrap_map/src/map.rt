@@ -5,7 +5,7 @@ ghost use Rattle.cell_units.specs.Lawful.{IsWidth};
 ghost use Rattle.cell_units.specs.Rows.{all_rows};
 ghost use Rattle.edit_patch.specs.Fits.{Fits};
 ghost use Rattle.sum_tree.specs.Bounds.{ChangesAtMost, TakesAtMost};
-ghost use Rattle.wrap_map.specs.Bounds.{finding, landing, syncing};
+ghost use Rattle.wrap_map.specs.Bounds.{beginning, finding, landing, syncing};
 ghost use Rattle.shifted_lists.specs.Leads.{LeadsBy};
 ghost use Rattle.wrap_map.specs.Items.{items_of};
 ghost use Rattle.wrap_map.specs.Landing.{IsLanded, cuts_of_run, standing_landed};
@@ -57,7 +57,7 @@ impl<N: Lines> WrapMap<N> {
         ensures made { let standing = all_at 0 (N.elements_by_line lines) in
             IfOk result (λ map. map ≡ record { standing = standing; width = width }) }
         ensures counted { steps.old ≤ steps.new }
-        ensures steps { steps.new ≤ steps.old + 64 }
+        ensures steps { steps.new ≤ steps.old + beginning }
     {
         let stretches = Stretches::new(alloc, lines.lines(), steps)?;
         Ok(WrapMap {
@@ -91,9 +91,11 @@ impl<N: Lines> WrapMap<N> {
         below: Option<Shift>,
         steps: &mut Steps,
     ) -> Result<(WrapSnapshot<N>, Option<Shift>), NoMemory>
+        // The replacement leads from the lines that the map has to the new ones, which have u32 rows.
         requires leads { LeadsBy self.old.standing.lines (N.elements_by_line lines) below }
         requires room { let now = N.elements_by_line lines in
             HasRoom (standing_after self.old.standing now below) }
+
         // The lines, and the rows of those that were replaced.
         ensures synced { let now = N.elements_by_line lines in
             IfOk result (λ made. IsSynced self.old now below self.new made.0 made.1) }
@@ -140,6 +142,7 @@ impl<N: Lines> WrapMap<N> {
         wraps: &[Cuts],
         steps: &mut Steps,
     ) -> Result<Patch, NoMemory>
+        // The lines of the run were there, `since` leads from then to now, and these are their cuts at the width.
         requires since { Fits since.now (N.elements_by_line old.now) self.old.standing.lines }
         requires within { run.first + run.count ≤ length (N.elements_by_line old.now) }
         requires wraps { let lines = N.elements_by_line old.now in
@@ -147,6 +150,7 @@ impl<N: Lines> WrapMap<N> {
         requires rows_fit { width ≡ self.old.width →
             let landed = standing_landed since.now run width self.old.standing in
             length (all_rows (shown_rows landed)) < 2 ^ 32 }
+
         // At the present width the lines that the run still has stand at it; at another nothing changes.
         ensures landed { width ≡ self.old.width →
             IfOk result (IsLanded self.old since.now run self.new) }

@@ -18,10 +18,15 @@ pub fn replaced_if_any(
     below: Option<Shift>,
     steps: &mut Steps,
 ) -> Result<(Stretches, Option<Shift>), NoMemory>
+    // The lines are there, and the rows afterwards are u32.
     requires within { IfSome below (λ shift. shift.end ≤ length lines.now) }
     requires rows_fit { rows_in (cleared_if_any below lines.now) < 2 ^ 32 }
+
+    // The lines met stand in one row each, and all others as they did.
     ensures lines { IfOk result (λ made. made.0 ≡ cleared_if_any below lines.now) }
     ensures rows { IfOk result (λ made. AreRowsIfAny lines.now below made.1) }
+
+    // The work.
     ensures counted { steps.old ≤ steps.new }
     ensures steps { let after = cleared_if_any below lines.now in
         ChangesAtMost syncing (length lines.now) (length after) steps.old steps.new }

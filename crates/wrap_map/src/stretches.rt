@@ -1,7 +1,7 @@
 //! How each line stands, kept as one tree of stretches.
 ghost use Rattle.std.specs.Prelude.{◌≡◌, ◌+◌, ◌-◌, ◌*◌, ◌^◌, ◌<◌, ◌≤◌, ◌++◌, [], length, take, replicate, IfOk, OnOk, OnErr};
 ghost use Rattle.sum_tree.specs.Bounds.{TakesAtMost, way};
-ghost use Rattle.wrap_map.specs.Bounds.{ListsAtMost};
+ghost use Rattle.wrap_map.specs.Bounds.{ListsAtMost, beginning};
 ghost use Rattle.wrap_map.specs.Standing.{runs_from};
 ghost use Rattle.wrap_map.specs.Stood.{IsNextAt, IsOtherIfAny, marks_in, put_in, rows_in, runs_in, stood_at, unwrapped};
 ghost use Rattle.wrap_map.specs.inside.Bounds.{PutsAtMost, each_way, two_ways};
@@ -153,7 +153,7 @@ impl Stretches {
     pub fn new(alloc: Global, count: u32, steps: &mut Steps) -> Result<Stretches, NoMemory>
         ensures made { IfOk result (λ lines. lines ≡ replicate count unwrapped) }
         ensures counted { steps.old ≤ steps.new }
-        ensures steps { steps.new ≤ steps.old + 64 }
+        ensures steps { steps.new ≤ steps.old + beginning }
     {
         let mut stretches = Vec::new(alloc);
         if count > 0 {
@@ -232,9 +232,13 @@ impl Stretches {
     /// The line that has a row.
     pub fn line_at(&self, row: u32, steps: &mut Steps) -> u32
         requires { row < rows_in self.now }
+
+        // The row is behind the rows of the lines before it, and among those up to its end.
         ensures within { result < length self.now }
         ensures begun { rows_in (take result self.now) ≤ row }
         ensures ends { row < rows_in (take (result + 1) self.now) }
+
+        // The work.
         ensures counted { steps.old ≤ steps.new }
         ensures steps { TakesAtMost way (length self.now) steps.old steps.new }
     {
@@ -320,12 +324,17 @@ impl Stretches {
         fresh: Vec<Stretch>,
         steps: &mut Steps,
     ) -> Result<RowRange, NoMemory>
+        // The lines are there, and the rows afterwards are u32.
         requires order { start ≤ end }
         requires within { end ≤ length self.old }
         requires rows_fit { rows_in (put_in start end (spread fresh.items) self.old) < 2 ^ 32 }
+
+        // The lines after it, and the rows of those that went.
         ensures put { OnOk result (self.new ≡ put_in start end (spread fresh.items) self.old) }
         ensures rows { IfOk result (AreRowsAt self.old start end) }
         ensures unchanged { OnErr result (self.new ≡ self.old) }
+
+        // The work.
         ensures counted { steps.old ≤ steps.new }
         ensures steps { PutsAtMost start end fresh.items self.old steps.old steps.new }
     {

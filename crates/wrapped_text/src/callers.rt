@@ -25,6 +25,7 @@ pub fn wraps<N: Lines>(
     ensures { let cuts = cuts_of_run (N.elements_by_line lines.now) run width in
         IfOk result (λ wraps. map (λ cuts. cuts.items) wraps.items ≡ cuts) }
 {
+    // The number of lines is a u32, and so is the end of the run.
     let _lines = lines.lines();
     let mut wraps = Vec::new(alloc);
     for line in run.first..run.first + run.count {
@@ -41,14 +42,19 @@ pub fn wrap_next<N: Lines>(
     width: u32,
     steps: &mut Steps,
 ) -> Result<Option<Run>, NoMemory>
+    // The map is of these lines, which with their cuts are few enough for u32, and it is at this width.
     requires lines { map.old.standing.lines ≡ N.elements_by_line lines.now }
     requires fits { FitsU32 (N.elements_by_line lines.now) }
     requires room { HaveRoom (N.elements_by_line lines.now) }
     requires width { map.old.width ≡ width }
     requires lawful { IsWidth width }
+
+    // The lines that waited first stand at the width then.
     ensures next { IfOk result (λ run. IsNextIfAny map.old.standing.marks width [] run) }
     ensures wrapped { IfOk result (λ run. IsWrapped map.old run map.new) }
     ensures unchanged { OnErr result (map.new ≡ map.old) }
+
+    // The work.
     ensures counted { steps.old ≤ steps.new }
 {
     let Some(run) = map.next_run(&[], steps) else {
