@@ -1,14 +1,11 @@
 -- What is kept over the events of a display.
-use Rattle.std.proofs.Common.{◌≡◌, ℕ, ◌+◌, ◌<◌, ◌≤◌, ◌&&◌, not, eqb, zero, suc, cond, Bool, true, false, List, [], ◌∷◌, ◌++◌, length, map, take, drop, replicate, refl, sym, ap, subst, ◌∙◌, arith, length-append}
+use Rattle.std.proofs.Common.{◌≡◌, ℕ, ◌+◌, ◌<◌, ◌≤◌, not, eqb, cond, Bool, true, false, List, [], ◌∷◌, ◌++◌, length, map, take, drop, refl, sym, ap, subst, ◌∙◌, arith, length-append}
 use Rattle.std.specs.List.{All, filter}
-use Rattle.std.proofs.lemmas.Bool.{and_right, ne_eqb}
 use Rattle.std.proofs.lemmas.List.{length-map}
-use Rattle.std.proofs.lemmas.List.Elements.{All-filter, All-weaker}
-use Rattle.std.proofs.lemmas.List.Folds.{list_any_none}
+use Rattle.std.proofs.lemmas.List.Elements.{All-filter}
 use Rattle.std.proofs.lemmas.List.Sums.{sum_by-append}
-use Rattle.cell_units.specs.Record.{Mark, Record, plain_mark, plain_marks}
+use Rattle.cell_units.specs.Record.{Mark, Record, plain_marks}
 use Rattle.cell_units.specs.Operation.{Operation, operated}
-use Rattle.cell_units.specs.Folded.{display_lines}
 use Rattle.cell_units.specs.Lawful.{IsAllowed, IsLawful}
 use Rattle.plain_rows.specs.Plain.{marks_of}
 use Rattle.display_map.specs.Displays.{IsStamped, KeepsDisplay, unlanded}
@@ -17,7 +14,7 @@ use Rattle.display_map.specs.Identity.{stamps_in}
 use Rattle.display_map.specs.LawfulStates.{EventFits, EventsFit}
 use Rattle.display_sheet.specs.LineSplices.{IsLineSplice}
 use Rattle.display_map.specs.Outs.{AreOut, OutParts, carried_out, waiting_in}
-use Rattle.display_map.specs.Replay.{History, SentJob, State, appended, begun, holds, is_held, is_published, present_of, state_of, versions_of, waits, with_landed}
+use Rattle.display_map.specs.Replay.{History, SentJob, State, appended, begun, is_published, present_of, state_of, versions_of, with_landed}
 use Rattle.display_sheet.specs.Sheets.{IsOperated}
 use Rattle.display_sheet.specs.Shown.{unstamped}
 use Rattle.display_sheet.specs.declared.sheet.LineSplice.{LineSplice}
@@ -33,28 +30,6 @@ use Rattle.display_map.proofs.Stamps.{AreStamps, AreStamps-replaced, stamps, sta
 -- the events of a history and one more
 pub fits-more : (h : History) (e : Event) → EventsFit (begun h.opening) h.events → EventFits (state_of h) e → EventsFit (begun h.opening) (h.events ++ e ∷ [])
 fits-more h e fits one = EventsFit-append (begun h.opening) h.events (e ∷ []) fits (one, tt)
-
--- no job holds a stamp that was not given
-not_given : (s : State) (stamp : ℕ) → All (λ job. All (λ x. x < s.present.next_stamp) job.stamps) s.jobs → s.present.next_stamp ≤ stamp → is_held s stamp ≡ false
-not_given s stamp given le =
-    let test : SentJob → Bool = λ (job : SentJob). not job.landed && eqb job.width s.present.width && holds job.stamps stamp in
-    list_any_none test s.jobs
-    (All-weaker (λ (job : SentJob). All (λ x. x < s.present.next_stamp) job.stamps) (λ (job : SentJob). test job ≡ false)
-    (λ job below. and_right (not job.landed && eqb job.width s.present.width) (holds job.stamps stamp)
-    (list_any_none (λ (x : ℕ). eqb x stamp) job.stamps
-    (All-weaker (λ (x : ℕ). x < s.present.next_stamp) (λ (x : ℕ). eqb x stamp ≡ false) (λ x lt. ne_eqb x stamp (λ e. omega (arith, e, lt, le))) job.stamps below)))
-    s.jobs given)
-
-fresh_wait : (s : State) (next n : ℕ) → All (λ job. All (λ x. x < s.present.next_stamp) job.stamps) s.jobs → s.present.next_stamp ≤ next →
-    map (waits s) (plain_marks next n) ≡ replicate n (not (eqb 0 s.present.width))
-fresh_wait s next zero given le = refl
-fresh_wait s next (suc n) given le =
-    let one : waits s (plain_mark next) ≡ not (eqb 0 s.present.width) =
-    ap (λ (b : Bool). not (eqb 0 s.present.width) && not b) (not_given s next given le) ∙ and_true (not (eqb 0 s.present.width)) in
-    λ i. one i ∷ fresh_wait s (next + 1) n given (omega arith) i where
-      and_true : (b : Bool) → (b && true) ≡ b
-      and_true true = refl
-      and_true false = refl
 
 -- an operation
 module _ (h : History) (sheet : Record) (flags : List Bool) (outs : List OutParts) (versions jobs first : ℕ) (k : KeepsDisplay h sheet flags outs versions jobs first)
@@ -140,14 +115,6 @@ module _ (h : History) (sheet : Record) (flags : List Bool) (outs : List OutPart
     first_within = omega arith;
     none_before = λ j lt. absurd (omega (arith, lt));
   }
-
-  -- what a display needs to know of where the lines of its jobs stand
-  pub total_is : length flags ≡ length (display_lines sheet.text sheet.inlays sheet.folds)
-  total_is =
-      sym (ap length k.flags_are)
-      ∙ length-map r.marks (waits s)
-      ∙ lawful.marked
-      ∙ ap (λ (q : Record). length (display_lines q.text q.inlays q.folds)) k.sheet_is
 
 -- ---- jobs that are out, without the one that lands
 

@@ -55,10 +55,6 @@ module _ (h : History) (sheet : Record) (flags : List Bool) (outs : List OutPart
   pub marked-sheet : length sheet.marks ≡ length (display_lines sheet.text sheet.inlays sheet.folds)
   marked-sheet = sym marks-kept ∙ kept-lawful.marked ∙ ap (λ (q : Record). length (display_lines q.text q.inlays q.folds)) k.sheet_is
 
-  -- and a flag
-  pub flagged-sheet : length flags ≡ length sheet.marks
-  flagged-sheet = ap length (sym k.flags_are) ∙ length-map r.marks _ ∙ marks-kept
-
   -- the lines of the jobs that are out are among its lines
   pub below-sheet : All (λ out. AreBelow (length sheet.marks) out.lines) outs
   below-sheet =

@@ -77,11 +77,12 @@ fn opened(alloc: Global, text: &str) -> Result<Display, NoMemory>
 
 impl Display {
     /// A display of the bytes, in which each CR LF and then each lone CR is a LF, with an empty journal.
-    pub fn start(alloc: Global, bytes: &[u8], _steps: &mut Steps) -> Result<Display, TextFault>
+    pub fn start(alloc: Global, bytes: &[u8], steps: &mut Steps) -> Result<Display, TextFault>
         ensures started { MatchResult result
             (λ display. display ≡ record { opening = clean bytes.now; events = [] })
             (IsTextRefused bytes.now) }
         ensures accepted { OnOk result (IsAccepted bytes.now) }
+        ensures counted { steps.old ≤ steps.new }
     {
         Ok(opened(alloc, read_text(bytes)?)?)
     }
@@ -129,11 +130,12 @@ impl Display {
     pub fn take_run(
         &mut self,
         alloc: Global,
-        _steps: &mut Steps,
+        steps: &mut Steps,
     ) -> Result<Option<Job<Held>>, NoMemory>
         requires room { length self.old.events + 1 ≤ event_limit }
         ensures taken { IfOk result (λ job. IsRunTaken self.old self.new job) }
         ensures unchanged { OnErr result (self.new ≡ self.old) }
+        ensures counted { steps.old ≤ steps.new }
     {
         let Some(run) = flags::next_run(&self.waits, self.first) else {
             return Ok(None);
@@ -165,13 +167,17 @@ impl Display {
         &mut self,
         alloc: Global,
         done: Done<Held>,
-        _steps: &mut Steps,
+        steps: &mut Steps,
     ) -> Result<(), Done<Held>>
         requires room { length self.old.events + 1 ≤ event_limit }
         requires sent { IsOutstanding self.old done.job }
+        // What is there after it.
         ensures landed { OnOk result (self.new ≡ appended self.old (Landed done.job.number ∷ [])) }
+        // What want of memory leaves.
         ensures back { IfErr result (λ back. back ≡ done) }
         ensures unchanged { OnErr result (self.new ≡ self.old) }
+        // The work.
+        ensures counted { steps.old ≤ steps.new }
     {
         let job = done.job();
         let number = job.number();
@@ -246,13 +252,17 @@ impl Display {
     ///   65,536 of the kind are there.
     ///
     /// The ranges of an edit are those of the text before it.
-    pub fn apply(&mut self, alloc: Global, change: &Change, _steps: &mut Steps) -> Result<(), Fault>
+    pub fn apply(&mut self, alloc: Global, change: &Change, steps: &mut Steps) -> Result<(), Fault>
         requires room { length self.old.events + length (ops_of change.now) ≤ event_limit }
+        // When it is done, and what is there after it.
         ensures accepted { OnOk result (change_refusal (present_of self.old) change.now ≡ None) }
         ensures done { OnOk result (self.new ≡ appended self.old (map Did (ops_of change.now))) }
+        // Why it is refused, and that nothing is changed then.
         ensures refused { IfErr result
             (IsRefusedAs (change_refusal (present_of self.old) change.now)) }
         ensures unchanged { OnErr result (self.new ≡ self.old) }
+        // The work.
+        ensures counted { steps.old ≤ steps.new }
     {
         match change {
             Change::Edit(splices) => self.edit(alloc, splices),

@@ -76,12 +76,12 @@ pub fn line_patch_laws()
 /// A line that is changed and changed back is new, though its text is what it was. Where a line is made into two and then the
 /// line above it is taken away, only the line below came from one of the opening text.
 pub fn worked_line_patches()
-    ensures changed_back { let s = begun (97 ∷ 10 ∷ 98 ∷ []) in
+    ensures changed_back { let s = begun (codes "a\nb") in
         let events = Did (Replace 2 3 (codes "x")) ∷ Did (Replace 2 3 (codes "b")) ∷ [] in
         IsPatchOver s events (edit_of 1 2 1 2 ∷ [])
         × (stamps_in (replayed s events).present ≡ 0 ∷ 3 ∷ []) }
-    ensures line_above_taken_away { let s = begun (97 ∷ 10 ∷ 98 ∷ 10 ∷ 99 ∷ []) in
-        let events = Did (Replace 2 3 (120 ∷ 10 ∷ 121 ∷ [])) ∷ Did (Replace 0 2 []) ∷ [] in
+    ensures line_above_taken_away { let s = begun (codes "a\nb\nc") in
+        let events = Did (Replace 2 3 (codes "x\ny")) ∷ Did (Replace 0 2 []) ∷ [] in
         IsPatchOver s events (edit_of 0 2 0 2 ∷ [])
         × (stamps_in (replayed s events).present ≡ 5 ∷ 4 ∷ 2 ∷ []) }
 {}

@@ -53,10 +53,11 @@ impl View {
         &self,
         alloc: Global,
         row: u32,
-        _steps: &mut Steps,
+        steps: &mut Steps,
     ) -> Result<Option<Shown>, NoMemory>
-        ensures { IfOk result (λ shown.
+        ensures row { IfOk result (λ shown.
             shown_row shown ≡ slice_get (rows_of (present_of self.now)) row) }
+        ensures counted { steps.old ≤ steps.new }
     {
         self.sheet.row(alloc, row)
     }
@@ -67,10 +68,11 @@ impl View {
         alloc: Global,
         first: u32,
         count: u32,
-        _steps: &mut Steps,
+        steps: &mut Steps,
     ) -> Result<Vec<Shown>, NoMemory>
-        ensures { IfOk result (λ shown.
+        ensures rows { IfOk result (λ shown.
             shown_rows shown.items ≡ take count (drop first (rows_of (present_of self.now)))) }
+        ensures counted { steps.old ≤ steps.new }
     {
         self.sheet.rows(alloc, first, count)
     }
@@ -81,11 +83,12 @@ impl View {
         alloc: Global,
         offset: u32,
         bias: Bias,
-        _steps: &mut Steps,
+        steps: &mut Steps,
     ) -> Result<Spot, Fault>
         ensures shown { IfOk result (λ spot. spot ≡ show (present_of self.now) offset bias) }
         ensures accepted { OnOk result (show_refusal (present_of self.now) offset ≡ None) }
         ensures refused { IfErr result (IsRefusedAs (show_refusal (present_of self.now) offset)) }
+        ensures counted { steps.old ≤ steps.new }
     {
         self.sheet.lawful();
         if !self.sheet.text().is_boundary(offset) {
@@ -100,9 +103,10 @@ impl View {
         alloc: Global,
         spot: Spot,
         bias: Bias,
-        _steps: &mut Steps,
+        steps: &mut Steps,
     ) -> Result<Spot, NoMemory>
-        ensures { IfOk result (λ nearest. nearest ≡ clip (present_of self.now) spot bias) }
+        ensures nearest { IfOk result (λ nearest. nearest ≡ clip (present_of self.now) spot bias) }
+        ensures counted { steps.old ≤ steps.new }
     {
         self.sheet.clip(alloc, spot, bias)
     }
@@ -113,16 +117,18 @@ impl View {
         alloc: Global,
         spot: Spot,
         bias: Bias,
-        _steps: &mut Steps,
+        steps: &mut Steps,
     ) -> Result<u32, NoMemory>
-        ensures { IfOk result (λ offset. offset ≡ back (present_of self.now) spot bias) }
+        ensures offset { IfOk result (λ offset. offset ≡ back (present_of self.now) spot bias) }
+        ensures counted { steps.old ≤ steps.new }
     {
         self.sheet.back(alloc, spot, bias)
     }
 
     /// The lines that stand wrapped: maximal runs of neighbours at one width.
-    pub fn marks(&self, alloc: Global, _steps: &mut Steps) -> Result<Vec<MarkRun>, NoMemory>
-        ensures { IfOk result (λ runs. runs.items ≡ mark_runs (present_of self.now)) }
+    pub fn marks(&self, alloc: Global, steps: &mut Steps) -> Result<Vec<MarkRun>, NoMemory>
+        ensures runs { IfOk result (λ runs. runs.items ≡ mark_runs (present_of self.now)) }
+        ensures counted { steps.old ≤ steps.new }
     {
         self.sheet.marks(alloc)
     }
@@ -135,16 +141,18 @@ impl View {
     }
 
     /// The record as plain lists.
-    pub fn plain(&self, alloc: Global, _steps: &mut Steps) -> Result<Plain, NoMemory>
-        ensures { IfOk result (λ plain. record_of plain ≡ unstamped (present_of self.now)) }
+    pub fn plain(&self, alloc: Global, steps: &mut Steps) -> Result<Plain, NoMemory>
+        ensures same { IfOk result (λ plain. record_of plain ≡ unstamped (present_of self.now)) }
+        ensures counted { steps.old ≤ steps.new }
     {
         self.sheet.plain(alloc)
     }
 
     /// The offset of a row and a column of the text. Past the last row it is the text's end, and past a row's end that end;
     /// within a character it is the character's start (Left) or end (Right).
-    pub fn offset_of(&self, point: Point, bias: Bias, _steps: &mut Steps) -> u32
-        ensures { result ≡ offset_at (present_of self.now).text point bias }
+    pub fn offset_of(&self, point: Point, bias: Bias, steps: &mut Steps) -> u32
+        ensures value { result ≡ offset_at (present_of self.now).text point bias }
+        ensures counted { steps.old ≤ steps.new }
     {
         self.sheet.offset_of(point, bias)
     }
@@ -155,12 +163,13 @@ impl View {
         alloc: Global,
         start: u32,
         end: u32,
-        _steps: &mut Steps,
+        steps: &mut Steps,
     ) -> Result<Text, NoMemory>
         requires start { IsBoundary (present_of self.now).text start }
         requires end { IsBoundary (present_of self.now).text end }
         requires order { start ≤ end }
-        ensures { IfOk result (λ text. text ≡ slice_range (present_of self.now).text start end) }
+        ensures text { IfOk result (λ text. text ≡ slice_range (present_of self.now).text start end) }
+        ensures counted { steps.old ≤ steps.new }
     {
         self.sheet.slice(alloc, start, end)
     }

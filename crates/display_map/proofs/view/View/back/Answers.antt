@@ -6,8 +6,8 @@ use Rattle.display_sheet.proofs.Unstamped.{back-unstamped}
 use Rattle.display_map.proofs.Views.{read}
 use Rattle.display_map.proofs.view.View.back.Goals as goal
 
-pub returns : goal.returns
-returns c =
+pub returns-clause-offset : goal.returns-clause-offset
+returns-clause-offset c =
     let spot = c.args.spot in
     let bias = c.args.bias in
     let same = read c.self.invariant c.self.view_is (λ (r : Record). back r spot bias) (λ r. back-unstamped r spot bias) in

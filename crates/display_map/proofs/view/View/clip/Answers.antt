@@ -7,8 +7,8 @@ use Rattle.display_sheet.proofs.Unstamped.{clip-unstamped}
 use Rattle.display_map.proofs.Views.{read}
 use Rattle.display_map.proofs.view.View.clip.Goals as goal
 
-pub returns : goal.returns
-returns c =
+pub returns-clause-nearest : goal.returns-clause-nearest
+returns-clause-nearest c =
     let spot = c.args.spot in
     let bias = c.args.bias in
     let same = read c.self.invariant c.self.view_is (λ (r : Record). clip r spot bias) (λ r. clip-unstamped r spot bias) in

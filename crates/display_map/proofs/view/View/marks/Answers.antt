@@ -6,7 +6,7 @@ use Rattle.display_sheet.proofs.Unstamped.{mark_runs-unstamped}
 use Rattle.display_map.proofs.Views.{read}
 use Rattle.display_map.proofs.view.View.marks.Goals as goal
 
-pub returns : goal.returns
-returns c =
+pub returns-clause-runs : goal.returns-clause-runs
+returns-clause-runs c =
     let same = read c.self.invariant c.self.view_is mark_runs mark_runs-unstamped in
     subst (λ (own : List MarkRun). IfOk c.marks.result (λ runs. runs.items ≡ own)) same c.marks.ensures

@@ -7,7 +7,7 @@ use Rattle.display_sheet.proofs.Unstamped.{rows_of-unstamped}
 use Rattle.display_map.proofs.Views.{read}
 use Rattle.display_map.proofs.view.View.row.Goals as goal
 
-pub returns : goal.returns
-returns c =
+pub returns-clause-row : goal.returns-clause-row
+returns-clause-row c =
     let rows = read c.self.invariant c.self.view_is rows_of rows_of-unstamped in
     subst (λ (rows : List Row). IfOk c.row.result (λ shown. shown_row shown ≡ slice_get rows c.args.row)) rows c.row.ensures

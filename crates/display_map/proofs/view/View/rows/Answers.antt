@@ -6,8 +6,8 @@ use Rattle.display_sheet.proofs.Unstamped.{rows_of-unstamped}
 use Rattle.display_map.proofs.Views.{read}
 use Rattle.display_map.proofs.view.View.rows.Goals as goal
 
-pub returns : goal.returns
-returns c =
+pub returns-clause-rows : goal.returns-clause-rows
+returns-clause-rows c =
     let rows = read c.self.invariant c.self.view_is rows_of rows_of-unstamped in
     subst (λ (rows : List Row). IfOk c.rows.result (λ shown. shown_rows shown.items ≡ take c.args.count (drop c.args.first rows))) rows
     c.rows.ensures

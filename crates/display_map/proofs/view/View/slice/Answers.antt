@@ -15,7 +15,7 @@ slice-requires-clause-end c =
     let text = text-read c.self.invariant c.self.view_is in
     subst (λ (text : List ℕ). IsBoundary text c.args.end) (sym text) c.requires.end
 
-pub returns : goal.returns
-returns c =
+pub returns-clause-text : goal.returns-clause-text
+returns-clause-text c =
     let text = text-read c.self.invariant c.self.view_is in
     subst (λ (text : List ℕ). IfOk c.slice.result (λ own. own ≡ slice_range text c.args.start c.args.end)) text c.slice.ensures
