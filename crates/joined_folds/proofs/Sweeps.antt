@@ -10,7 +10,7 @@ use Rattle.mark_tree.specs.declared.mark.RangeMark.{RangeMark}
 use Rattle.joined_folds.specs.declared.joined_fold.JoinedFold.{JoinedFold}
 use Rattle.joined_folds.specs.declared.window.Window.{Window}
 use Rattle.joined_folds.specs.JoinedLists.{AreJoined, IsBare, joined_fold}
-use Rattle.joined_folds.specs.Sweeps.{AreMet, IsMet, fold_of, range_of, with_one}
+use Rattle.joined_folds.specs.Sweeps.{IsMet, fold_of, range_of, with_one}
 use Rattle.joined_folds.specs.Windows.{IsWindow}
 use Rattle.joined_folds.proofs.JoinedLists.{joined-append}
 use Rattle.joined_folds.proofs.Windows.{joined-extend}
@@ -69,20 +69,6 @@ contains-nil : {X : Type 0} (x : X) → Contains [] x → ⊥
 contains-nil x m = let l = m.1 in omega (arith, l)
 
 module _ (folds : List Fold) (w : Window) (win : IsWindow folds w) where
-  pub begun : (met : List RangeMark) → AreMet folds w met → Swept folds w met [] (joined_fold w.from w.start)
-  begun met are = record {
-    done = (omega arith, λ k l u. absurd (omega (arith, l, u)));
-    order = win.before;
-    from = let a = win.before in let b = win.order in omega arith;
-    to = omega arith;
-    hides = win.from_hides;
-    start_open = win.from_open;
-    reaches = win.from_reaches;
-    each = are.each;
-    all = λ f m. inr (are.all f m.0 m.1 m.2);
-    in_order = are.in_order;
-  }
-
   -- ---- one that starts within the open one
 
   module _ (r : RangeMark) (rest : List RangeMark) (joined : List JoinedFold) (now : JoinedFold) (s : Swept folds w (r ∷ rest) joined now) where

@@ -56,10 +56,6 @@ module _ (folds : List Fold) where
   end-open p [] to a out = out
   end-open p (j ∷ js) to a out = end-open j.end js to a.1 a.0.shows.3
 
-  last-le : (p : ℕ) (js : List JoinedFold) (to : ℕ) → AreJoined folds p js to → p ≤ last_end p js
-  last-le p [] to a = omega arith
-  last-le p (j ∷ js) to a = omega (arith, a.0.order, a.0.some, last-le j.end js to a.1)
-
   -- the last one, where it ends behind an offset by which all of them begin
   last-one : (p : ℕ) (js : List JoinedFold) (to b : ℕ) → AreJoined folds p js to → All (λ j. j.start ≤ b) js → p ≤ b → b < last_end p js
       → (s : ℕ) × (s ≤ b) × ShowsOnePlaceholder folds s (last_end p js)
