@@ -6,6 +6,9 @@ use cell_units::{NoMemory, Rows, Steps};
 use std::alloc::Global;
 use wrapped_text::Shown;
 
+/// How many rows a screen has.
+const SCREEN: u32 = 50;
+
 /// The number of rows.
 pub fn rows(shown: &BlockRows<Shown>) -> u64 {
     shown.blocks.row_count() as u64
@@ -71,6 +74,45 @@ pub fn rows_at(
     for turn in 0..times {
         if let Some(row) = shown.blocks.row(alloc, scattered(turn, rows), steps)? {
             check = check.wrapping_add(row.text.as_str().len() as u64);
+        }
+    }
+    Ok(check)
+}
+
+/// Reads screens that begin at rows far from each other. It gives how many bytes their rows have.
+pub fn screens(
+    alloc: Global,
+    shown: &BlockRows<Shown>,
+    times: u32,
+    steps: &mut Steps,
+) -> Result<u64, NoMemory> {
+    let rows = shown.blocks.row_count();
+    let mut check: u64 = 0;
+    for turn in 0..times {
+        let first = scattered(turn, rows);
+        for row in shown.blocks.rows(alloc, first, SCREEN, steps)? {
+            check = check.wrapping_add(row.text.as_str().len() as u64);
+        }
+    }
+    Ok(check)
+}
+
+/// Reads the same screens row by row.
+pub fn screens_by_row(
+    alloc: Global,
+    shown: &BlockRows<Shown>,
+    times: u32,
+    steps: &mut Steps,
+) -> Result<u64, NoMemory> {
+    let rows = shown.blocks.row_count();
+    let mut check: u64 = 0;
+    for turn in 0..times {
+        let first = scattered(turn, rows);
+        for behind in 0..SCREEN {
+            let at = first.saturating_add(behind);
+            if let Some(row) = shown.blocks.row(alloc, at, steps)? {
+                check = check.wrapping_add(row.text.as_str().len() as u64);
+            }
         }
     }
     Ok(check)

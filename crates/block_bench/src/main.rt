@@ -40,6 +40,8 @@ enum Task {
     RowOf,
     TextAt,
     Row,
+    Screens,
+    ScreensByRow,
     Rows,
     Check,
 }
@@ -81,6 +83,8 @@ impl Task {
             "row_of" => Task::RowOf,
             "text_at" => Task::TextAt,
             "row" => Task::Row,
+            "screens" => Task::Screens,
+            "screens_by_row" => Task::ScreensByRow,
             "rows" => Task::Rows,
             _ => Task::Check,
         }
@@ -146,6 +150,8 @@ fn look(
         Task::RowOf => Ok(looks::rows_of_lines(shown, order.times, steps)),
         Task::TextAt => Ok(looks::texts_at_rows(shown, order.times, steps)),
         Task::Row => looks::rows_at(alloc, shown, order.times, steps),
+        Task::Screens => looks::screens(alloc, shown, order.times, steps),
+        Task::ScreensByRow => looks::screens_by_row(alloc, shown, order.times, steps),
         _ => Ok(looks::rows(shown)),
     }
 }
