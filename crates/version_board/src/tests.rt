@@ -107,7 +107,7 @@ fn look_twice<R: Wait>(
 }
 
 #[test]
-fn two_readers(rt: HostRuntime) -> Result<(), Fail> {
+fn each_of_two_readers_sees_the_next_version(rt: HostRuntime) -> Result<(), Fail> {
     let alloc = rt.alloc();
     let mut display = opened(alloc)?;
     let (mut writer, mut readers) = opened_board(&rt, alloc, &mut display, 2)?;
