@@ -34,11 +34,6 @@ take-splices s base js zero = refl
 take-splices s base [] (suc n) = refl
 take-splices s base (j ∷ js) (suc n) = ap (λ (ps : List (Piece Amount NoLoad)). splice_of s base j ∷ ps) (take-splices s j.end js n)
 
-pub drop-splices : (s : Source) (base : ℕ) (js : List JoinedFold) (n : ℕ) → drop n (splices_from s base js) ≡ splices_from s (last_end base (take n js)) (drop n js)
-drop-splices s base js zero = refl
-drop-splices s base [] (suc n) = refl
-drop-splices s base (j ∷ js) (suc n) = drop-splices s j.end js n
-
 pub length-splices : (s : Source) (base : ℕ) (js : List JoinedFold) → length (splices_from s base js) ≡ length js
 length-splices s base [] = refl
 length-splices s base (j ∷ js) = ap suc (length-splices s j.end js)

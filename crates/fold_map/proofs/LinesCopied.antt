@@ -11,9 +11,6 @@ use Rattle.fold_map.specs.LinePieces.{cut_piece}
 abbrev pub HasBytes : Piece → Type 0
 HasBytes p = 0 < length p.text
 
-abbrev long : Piece → ℕ
-long p = length p.text
-
 -- of the piece that begins at a place
 abbrev pub copied_one : ℕ → ℕ → ℕ → Piece → List Piece
 copied_one from to begin p = cond (ltb (max from begin) (min to (begin + length p.text))) (cut_piece (max from begin - begin) (min to (begin + length p.text) - begin) p ∷ []) []

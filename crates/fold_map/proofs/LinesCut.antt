@@ -55,9 +55,6 @@ cut-behind (t ∷ ts) (suc r) le = go (is_break t) refl (breaks-cons t ts) (λ k
 
 -- ---- how many lines there are
 
-length-onto : (t : Token) (l : List Token) (ls : List (List Token)) → length (onto_line t (l ∷ ls)) ≡ length (l ∷ ls)
-length-onto t l ls = refl
-
 pub length-lines : (xs : List Token) → Ended xs → length (cut_lines is_break xs) ≡ count_by is_break xs
 length-lines [] h = refl
 length-lines (t ∷ []) h = (λ i. length (cond (h i) ((t ∷ []) ∷ []) (onto_line t []))) ∙ sym (breaks-cons t [] ∙ ap (λ (c : Bool). cond c 1 0 + 0) h)

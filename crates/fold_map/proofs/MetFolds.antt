@@ -32,9 +32,6 @@ met_by c a b =
       window = record { from = start_met c.start a.next; start = c.start; end = c.last; to = moved_on c.end c.last e.offset };
     }
 
-All-mono : (P Q : JoinedFold → Type 0) (js : List JoinedFold) → ((j : JoinedFold) → P j → Q j) → All P js → All Q js
-All-mono P Q js f a k d h = f (get_or js k d) (a k d h)
-
 All-append : (P : JoinedFold → Type 0) (xs ys : List JoinedFold) → All P xs → All P ys → All P (xs ++ ys)
 All-append P [] ys a b = b
 All-append P (x ∷ xs) ys a b = All-cons P x (xs ++ ys) (All-head P x xs a) (All-append P xs ys (All-tail P x xs a) b)

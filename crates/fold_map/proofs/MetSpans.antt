@@ -27,9 +27,6 @@ use Rattle.fold_map.proofs.MapRows.{Rises, end-row, has-row_left, one-row, rise,
 -- ---- the lines that places meet are those from the line of the first to the line of the last
 
 module _ (s : Source) (formed : IsWellFormed s) where
-  abbrev shown-text : List ℕ
-  shown-text = shown_text s
-
   abbrev lines : ℕ
   lines = length (shown_lines s)
 

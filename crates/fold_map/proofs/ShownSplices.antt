@@ -40,12 +40,6 @@ pub record IsOf (ts : List Token) (a : Amount) : Type 0 where
   pub bytes : size ts ≡ a.bytes
   pub feeds : count_by is_break ts ≡ a.feeds
 
-pub IsOf-append : (xs ys : List Token) (a b : Amount) → IsOf xs a → IsOf ys b → IsOf (xs ++ ys) (together a b)
-IsOf-append xs ys a b x y = record {
-  bytes = omega (arith, size-append xs ys, x.bytes, y.bytes);
-  feeds = omega (arith, breaks-append xs ys, x.feeds, y.feeds);
-}
-
 -- The tokens around a splice: those of the gap and those taken out, and what is behind on either side.
 pub record Around : Type 0 where
   pub start : ℕ

@@ -55,15 +55,6 @@ are-shown : (ss : List Stretch) → AreSome ss → AreShown ss
 are-shown [] a = tt
 are-shown (s ∷ ss) a = ((λ lt. a.1), are-shown ss a.2)
 
-flip-some : (ss : List Stretch) → AreSome ss → AreSome (map flipped ss)
-flip-some [] a = tt
-flip-some (s ∷ ss) a = (a.1, a.0, flip-some ss a.2)
-
-flip-gap : (ss : List Stretch) (n r : ℕ) → IsInGap ss n r → IsInGap (map flipped ss) n r
-flip-gap [] n r h = tt
-flip-gap (s ∷ ss) zero r h = h
-flip-gap (s ∷ ss) (suc n) r h = flip-gap ss n r h
-
 outside-none : (ss : List Stretch) → IsOutside ss 0
 outside-none [] = tt
 outside-none (s ∷ ss) =
@@ -250,9 +241,6 @@ in-placeholder (q ∷ qs) zero r p e l u = subst (λ (t : Piece Amount NoLoad). 
 in-placeholder (q ∷ qs) (suc n) r p e l u = in-placeholder qs n r p e l u
 
 module _ (s : Source) (ps : List (Piece Amount NoLoad)) (are : AreSplices s ps) where
-  abbrev before : ℕ → ℕ
-  before n = (sums (take n ps)).lower.bytes
-
   some-out : AreSome (bytes_in ps)
   some-out = subst (λ (qs : List (Piece Amount NoLoad)). AreSome (bytes_in qs)) (sym are.spliced) (places-some s.text s.inlays s.folds are.all.0 0 are.joined are.all.1)
 

@@ -1,11 +1,10 @@
 -- A source with folds as a layer: from a place back to an offset, and the point of a place.
-use Rattle.std.proofs.Common.{◌≡◌, ℕ, ◌-◌, ◌<◌, ◌≤◌, ◌↔◌, ◌^◌, List, length, map, Option, Some, None, sym, ap, ◌∙◌, subst, arith, take_all}
-use Rattle.std.specs.Str.{IsUtf8}
+use Rattle.std.proofs.Common.{◌≡◌, ℕ, ◌-◌, ◌<◌, ◌≤◌, ◌↔◌, ◌^◌, List, length, map, Option, Some, None, sym, ap, ◌∙◌, subst, arith}
 use Rattle.cell_units.specs.declared.place.Bias.{Bias}
 use Rattle.cell_units.specs.declared.place.Bias.TheVariants.{Left, Right}
 use Rattle.cell_units.specs.BufferLines.{line_start}
 use Rattle.cell_units.specs.Layers.{HasPlace, IsBack, Source, point_of, shown_text, unfolded}
-use Rattle.cell_units.specs.Text.{IsBoundary, is_feed, row_of}
+use Rattle.cell_units.specs.Text.{is_feed, row_of}
 use Rattle.cell_units.specs.Record.{Fold}
 use Rattle.std.proofs.lemmas.List.Sums.{count_by-le-length}
 use Rattle.cell_units.proofs.PlainLayers.{line_of_offset}
@@ -60,7 +59,3 @@ point-is text place row start le r s =
     let at : start ≡ line_start text (row_of text place) = s ∙ ap (line_start text) r in
     let column = at ∙ sym (row_start_is text place le) in
     (omega (arith, at, (line_of_offset text place le).0), λ i. record { row = r i; column = place - column i })
-
--- the text's end is a boundary
-pub end-boundary : (text : List ℕ) (n : ℕ) → n ≡ length text → IsUtf8 text → IsBoundary text n
-end-boundary text n e u = subst (IsBoundary text) (sym e) (omega arith, subst IsUtf8 (sym (take_all (length text) text (omega arith))) u)

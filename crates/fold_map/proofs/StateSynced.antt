@@ -81,9 +81,6 @@ module _ (v : Source) (bare : v.folds ≡ []) (formed : IsWellFormed v) where
   low-formed : IsWellFormed (unfolded v)
   low-formed = subst IsWellFormed (unfold-same v bare) formed
 
-  first-row : (place : ℕ) → ℕ
-  first-row place = (span_of (unfolded v) (row_of (shown_text (unfolded v)) place)).0
-
   row-counts : (place : ℕ) → (span_of (unfolded v) (row_of (shown_text (unfolded v)) place)).0 < line_count v.text
   row-counts place = start-row v.text _
 

@@ -42,9 +42,6 @@ module _ (text : List ℕ) where
   abbrev own : ℕ → Inlay → Stretch
   own base i = record { gap = i.offset - base; old = length (clean i.text); new = 0 }
 
-  lt-of : (m n : ℕ) (b : Bool) → (nat_lt m n && b) ≡ true → m < n
-  lt-of m n b e = grind (arith, nat_tests)
-
   -- no place is carried further than it stands
   pub lower-le : (base : ℕ) (is : List Inlay) (y : ℕ) → to_lower Left (stretches base is) y ≤ y
   lower-le base [] y = omega arith

@@ -41,21 +41,6 @@ single text base (i ∷ is) =
     Every-append IsSingle here (inlay_bytes i ++ parts_from text i.offset is) (single-text base (take (i.offset - base) (drop base text)))
     (Every-append IsSingle (inlay_bytes i) (parts_from text i.offset is) (single-inlay i) (single text i.offset is))
 
--- so their bytes may be counted as they are
-pub take-bytes : (n : ℕ) (ts : List Token) → Every IsSingle ts → take n (tokens_bytes ts) ≡ tokens_bytes (take n ts)
-take-bytes zero ts s = refl
-take-bytes (suc n) [] s = refl
-take-bytes (suc n) (Byte o b ∷ ts) s = ap (λ l. b ∷ l) (take-bytes n ts s.1)
-take-bytes (suc n) (InlayByte o id b ∷ ts) s = ap (λ l. b ∷ l) (take-bytes n ts s.1)
-take-bytes (suc n) (Hidden o ∷ ts) s = absurd s.0
-
-pub drop-bytes : (n : ℕ) (ts : List Token) → Every IsSingle ts → drop n (tokens_bytes ts) ≡ tokens_bytes (drop n ts)
-drop-bytes zero ts s = refl
-drop-bytes (suc n) [] s = refl
-drop-bytes (suc n) (Byte o b ∷ ts) s = drop-bytes n ts s.1
-drop-bytes (suc n) (InlayByte o id b ∷ ts) s = drop-bytes n ts s.1
-drop-bytes (suc n) (Hidden o ∷ ts) s = absurd s.0
-
 pub length-bytes : (ts : List Token) → Every IsSingle ts → length (tokens_bytes ts) ≡ length ts
 length-bytes [] s = refl
 length-bytes (Byte o b ∷ ts) s = ap suc (length-bytes ts s.1)

@@ -1,5 +1,5 @@
 -- An inlay that was found by its index.
-use Rattle.std.proofs.Common.{◌≡◌, ℕ, zero, suc, ◌+◌, ◌-◌, ◌<◌, ◌≤◌, nat_le, nat_lt, not, Bool, true, false, cond, List, [], ◌∷◌, length, map, position, Some, None, refl, sym, ap, ◌∙◌, subst, arith}
+use Rattle.std.proofs.Common.{◌≡◌, ℕ, zero, suc, ◌+◌, ◌-◌, ◌≤◌, nat_le, nat_lt, not, Bool, true, false, cond, List, [], ◌∷◌, length, map, position, Some, None, refl, sym, ap, ◌∙◌, subst, arith}
 use Rattle.std.specs.List.{position_or_len, slice_get}
 use Rattle.std.proofs.lemmas.Bool.Decides.{nat_tests}
 use Rattle.std.proofs.lemmas.List.Sums.{prefix_len-le-length}
@@ -15,7 +15,7 @@ use Rattle.inlay_map.specs.Amounts.{AmountFits, amount_between, amount_of, nothi
 use Rattle.inlay_map.specs.Splices.{base_at, inlay_of, splice_of, splices_from}
 use Rattle.inlay_map.specs.Spots.{end_at}
 use Rattle.inlay_map.proofs.Respliced.{fits-at}
-use Rattle.inlay_map.proofs.SpliceLists.{base-behind, splice-get}
+use Rattle.inlay_map.proofs.SpliceLists.{splice-get}
 use Rattle.inlay_map.proofs.Spread.{IsSpread, spread}
 
 some-same : {X : Type 0} (x y : X) → Some x ≡ Some y → x ≡ y
@@ -27,17 +27,8 @@ get-inlay [] (suc k) m e = absurd (cc)
 get-inlay (n ∷ ns) zero m e = ap (λ (x : Mark (List ℕ)). Some (inlay_of x)) (some-same n m e)
 get-inlay (n ∷ ns) (suc k) m e = get-inlay ns k m e
 
--- the inlay behind another stands behind its offset
-pub base-found : (ms : List (Mark (List ℕ))) (at : ℕ) (m : Mark (List ℕ)) → 0 < at → slice_get ms (at - 1) ≡ Some m → m.offset ≡ base_at 0 (map inlay_of ms) at
-base-found ms at m some e =
-    let one : suc (at - 1) ≡ at = omega (arith, some) in
-    sym (base-behind 0 (map inlay_of ms) (at - 1) (inlay_of m) (get-inlay ms (at - 1) m e)) ∙ ap (base_at 0 (map inlay_of ms)) one
-
 pub inlay-fits : (text : List ℕ) (is : List Inlay) (k : ℕ) (i : Inlay) → AreInlays text is → slice_get is k ≡ Some i → IsInlayOf text i
 inlay-fits text is k i are e = subst (IsInlayOf text) (get_or_from_slice_get is k i i e) (are.each k i (slice_get_within is k i e))
-
-pub mark-fits : (text : List ℕ) (ms : List (Mark (List ℕ))) (k : ℕ) (m : Mark (List ℕ)) → AreInlays text (map inlay_of ms) → slice_get ms k ≡ Some m → IsInlayOf text (inlay_of m)
-mark-fits text ms k m are e = inlay-fits text (map inlay_of ms) k (inlay_of m) are (get-inlay ms k m e)
 
 -- it stands at its own offset, which is not before that of the one before it
 pub record IsPlaced (text : List ℕ) (base : ℕ) (is : List Inlay) (k : ℕ) (i : Inlay) : Type 0 where

@@ -1,9 +1,8 @@
 -- Marks as inlays.
-use Rattle.std.proofs.Common.{◌≡◌, ℕ, ◌+◌, ◌<◌, ◌==◌, ◌||◌, not, min, nat_lt, Bool, true, false, cond, List, [], ◌∷◌, ◌++◌, length, map, take, drop, position, count_by, Some, None, Result, Ok, Err, IfOk, refl, ap, sym, subst, ◌∙◌, inl, inr, arith}
+use Rattle.std.proofs.Common.{◌≡◌, ℕ, ◌+◌, ◌<◌, ◌==◌, ◌||◌, not, nat_lt, Bool, true, false, cond, List, [], ◌∷◌, ◌++◌, length, map, take, drop, position, count_by, Some, None, Result, Ok, Err, IfOk, refl, ap, sym, subst, ◌∙◌, inl, inr, arith}
 use Rattle.std.specs.List.{list_any, position_or_len}
-use Rattle.std.proofs.lemmas.Bool.{cases_lt}
 use Rattle.std.proofs.lemmas.Bool.Decides.{nat_tests}
-use Rattle.std.proofs.lemmas.List.{drop-map, drop_all, length-map, take-map, take_all}
+use Rattle.std.proofs.lemmas.List.{drop-map, length-map, take-map}
 use Rattle.std.proofs.lemmas.Option.{get_or_from_slice_get, slice_get_cases}
 use Rattle.cell_units.specs.declared.place.Shift.{Shift}
 use Rattle.cell_units.specs.Lawful.{AreInlays, HasRoom, IsInlayOf}
@@ -79,17 +78,6 @@ taken-at ms new at e =
     ap (map inlay_of) e
     ∙ map-both (take at ms) (drop (at + 1) ms)
     ∙ (λ i. sym (take-map inlay_of at ms) i ++ sym (drop-map inlay_of (at + 1) ms) i)
-
--- a place behind all is the end
-pub at-most-end : (ms : List (Mark (List ℕ))) (at : ℕ) (m : Mark (List ℕ)) → take at ms ++ m ∷ drop at ms ≡ take (min at (length ms)) ms ++ m ∷ drop (min at (length ms)) ms
-at-most-end ms at m = elim (cases_lt (length ms) at) [
-  | inr le ↦ let same : at ≡ min at (length ms) = omega (arith, le) in (λ i. take (same i) ms ++ m ∷ drop (same i) ms)
-  | inl lt ↦
-      let same : length ms ≡ min at (length ms) = omega (arith, lt) in
-      let front : take at ms ≡ take (length ms) ms = take_all at ms (omega (arith, lt)) ∙ sym (take_all (length ms) ms (omega arith)) in
-      let rest : drop at ms ≡ drop (length ms) ms = drop_all at ms (omega (arith, lt)) ∙ sym (drop_all (length ms) ms (omega arith)) in
-      (λ i. front i ++ m ∷ rest i) ∙ (λ i. take (same i) ms ++ m ∷ drop (same i) ms)
-]
 
 -- ---- what fits a text goes on to do so
 

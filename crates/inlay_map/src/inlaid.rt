@@ -278,12 +278,17 @@ impl Inlaid {
         run: Shift,
         steps: &mut Steps,
     ) -> Result<SpliceTree<Amount, NoLoad>, NoMemory>
+        // Only the splices of the run are other ones, and the gap behind it.
         requires within { run.end ≤ length old.now }
         requires reaches { run.start + run.count ≤ length self.now.inlays }
         requires front { take run.start old.now ≡ take run.start (splices_of self.now) }
         requires rest { let last = run.start + run.count in
             AreSameButForGap (drop run.end old.now) (drop last (splices_of self.now)) }
+
+        // All splices of the text and its inlays.
         ensures ok { IfOk result (λ t. t ≡ splices_of self.now) }
+
+        // The work.
         ensures counted { steps.old ≤ steps.new }
         ensures steps { let m = length old.now in
             Resplices (resplicing run.count) m self.now steps.old steps.new }
@@ -335,11 +340,15 @@ impl Inlaid {
         steps: &mut Steps,
     ) -> Result<u32, NoMemory>
         requires { at < length self.old.inlays }
+
+        // What is there after it, and the offset of what went.
         ensures ok { let inlays = without_at at self.old.inlays in
             OnOk result (self.new ≡ inlay_source self.old.text inlays) }
         ensures offset { IfOk result (λ offset. (i : Inlay) →
             slice_get self.old.inlays at ≡ Some i → i.offset ≡ offset) }
         ensures err { OnErr result (self.new ≡ self.old) }
+
+        // The work.
         ensures counted { steps.old ≤ steps.new }
         ensures steps { TakesAtMost taking (length self.old.inlays) steps.old steps.new }
     {
@@ -418,12 +427,17 @@ impl Inlaid {
         mark: Mark<InlayText>,
         steps: &mut Steps,
     ) -> Result<u32, NoMemory>
+        // It stands in the text, and its id is new.
         requires fits { IsInlayOf self.old.text (inlay_of mark) }
         requires room { HasRoom (λ i. i.id) mark.id self.old.inlays }
+
+        // The inlays after it, and where it stands among them.
         ensures ok { let inlays = insert_by inlay_le (inlay_of mark) self.old.inlays in
             OnOk result (self.new ≡ inlay_source self.old.text inlays) }
         ensures put { IfOk result (λ at. IsPut (inlay_of mark) self.old.inlays self.new.inlays at) }
         ensures err { OnErr result (self.new ≡ self.old) }
+
+        // The work.
         ensures counted { steps.old ≤ steps.new }
         ensures steps { TakesAtMost adding (length self.old.inlays + 1) steps.old steps.new }
     {

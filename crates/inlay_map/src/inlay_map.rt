@@ -76,6 +76,7 @@ impl InlayMap {
         ensures len { result ≡ length self.now.current.inlays }
         ensures lawful { IsInlaid self.now.current }
     {
+        // The snapshot keeps in its type that its inlays are lawful.
         let _text = self.current.text_len();
         self.current.count()
     }
@@ -155,12 +156,17 @@ impl InlayMap {
         shift: Option<Shift>,
         steps: &mut Steps,
     ) -> Result<(InlaySnapshot, Option<Shift>), NoMemory>
+        // The replacement leads from the text that the map has to the new one, and each inlay stands at a boundary of that.
         requires leads { LeadsIfAny unmoved self.old.current.text rope (option_map reach_of shift) }
         requires boundaries { StandAfter rope (option_map reach_of shift) self.old.current.inlays }
+
+        // What is answered, and what the map has after it.
         ensures synced { let replaced = option_map reach_of shift in
             IfOk result (λ r. IsSynced rope replaced self.old r.0 (option_map reach_of r.1)) }
         ensures ok { OnOk result (self.new ≡ synced rope (option_map reach_of shift) self.old) }
         ensures err { OnErr result (self.new ≡ self.old) }
+
+        // The work.
         ensures counted { steps.old ≤ steps.new }
         ensures steps { let inlays = self.old.current.inlays in
             let k = met_by (option_map reach_of shift) inlays in
@@ -224,10 +230,11 @@ impl InlayMap {
             let k = met (reach_of shift) inlays in
             TakesInlaid (syncing k) (inlay_source rope inlays) steps.old steps.new }
     {
-        // What is shown is within its limits, before and after.
+        // What is shown is within its limits.
         let _current = self.current.text_len();
         let _shown = self.shown.text_len();
         let next = self.current.moved(alloc, rope, shift, steps)?;
+        // And so it is afterwards.
         let _next = next.text_len();
         let moved = self.current.shift_over(&next, shift, steps);
         let answer = with_pending(self.pending, moved);

@@ -26,6 +26,7 @@ impl InlaySnapshot {
     pub(crate) fn lines(&self) -> u32
         ensures { result ≡ length (shown_lines self.now) }
     {
+        // The text and its inlays are within their limits, so the number of lines is a u32.
         let _len = self.inlaid.len();
         let sum = self.splices.sum();
         self.inlaid.line_count() + (sum.upper.feeds - sum.lower.feeds)
@@ -37,6 +38,7 @@ impl InlaySnapshot {
         ensures row { IsRowAt self.now place result }
         ensures counted { steps.old ≤ steps.new }
     {
+        // What is shown is within its limits, so each place and line is a u32.
         let _len = self.text_len();
         let spot = self.find::<ByBytes>(place, Bias::Left, steps);
         let rest = place - spot.before.upper.bytes;
@@ -56,6 +58,7 @@ impl InlaySnapshot {
         ensures point { ForSome result (λ p. p ≡ point_of (shown_text self.now) place) }
         ensures counted { steps.old ≤ steps.new }
     {
+        // What is shown is within its limits, so each place and line is a u32.
         let _len = self.text_len();
         let spot = self.find::<ByBytes>(place, Bias::Left, steps);
         let rest = place - spot.before.upper.bytes;
@@ -82,6 +85,7 @@ impl InlaySnapshot {
         if line == 0 {
             return 0;
         }
+        // What is shown is within its limits, so each place and line is a u32.
         let _len = self.text_len();
         let spot = self.find::<ByFeeds>(line, Bias::Left, steps);
         let rest = line - spot.before.upper.feeds;
@@ -99,6 +103,7 @@ impl InlaySnapshot {
         ensures offset { IsOffsetAt self.now place result }
         ensures counted { steps.old ≤ steps.new }
     {
+        // The inlays stand within the text, so each offset is a u32.
         let _len = self.inlaid.len();
         self.splices.to_lower::<ByBytes>(place, Bias::Left, steps)
     }
@@ -134,6 +139,7 @@ impl InlaySnapshot {
         ensures end { result ≡ line_end (shown_text self.now) line }
         ensures counted { steps.old ≤ steps.new }
     {
+        // The text and its inlays are within their limits, so each line has a next one that is a u32.
         let _len = self.inlaid.len();
         let lines = self.lines();
         if line + 1 < lines {
@@ -157,6 +163,7 @@ impl InlaySnapshot {
         ensures next { IfOk result (λ p. IsNextPiece self.now place end p) }
         ensures counted { steps.old ≤ steps.new }
     {
+        // What is shown is within its limits and UTF-8.
         let _len = self.text_len();
         let spot = self.find::<ByBytes>(place, Bias::Right, steps);
         let rest = place - spot.before.upper.bytes;

@@ -158,10 +158,15 @@ impl InlaySnapshot {
 
     /// What an inlay replaces of what is shown that was added at the offset, or removed there: all inlays at it.
     pub(crate) fn shift_to(&self, next: &InlaySnapshot, offset: u32, steps: &mut Steps) -> Shift
+        // Both are of one text, and the offset is at one place in both.
         requires text { next.now.text ≡ self.now.text }
         requires within { offset ≤ length self.now.text }
         requires before { place_of next.now offset Left ≡ place_of self.now offset Left }
+
+        // All inlays at the offset, before and after.
         ensures shift { reach_of result ≡ inlay_shift self.now next.now offset }
+
+        // The work.
         ensures counted { steps.old ≤ steps.new }
         ensures steps { let was = length self.now.inlays in let is = length next.now.inlays in
             ChangesAtMost (ways 3) was is steps.old steps.new }
@@ -233,11 +238,16 @@ impl InlaySnapshot {
 
     /// What a replacement of the text replaces of what is shown: also the inlays at both its ends.
     pub(crate) fn shift_over(&self, next: &InlaySnapshot, shift: Shift, steps: &mut Steps) -> Shift
+        // The replacement lies in both texts, and begins at one place in both.
         requires within { shift.end ≤ length self.now.text }
         requires reaches { shift.start + shift.count ≤ length next.now.text }
         requires before { let start = shift.start in
             place_of next.now start Left ≡ place_of self.now start Left }
+
+        // From the left place of its start to the right one of its end, before and after.
         ensures shift { reach_of result ≡ inlaid_shift self.now next.now (reach_of shift) }
+
+        // The work.
         ensures counted { steps.old ≤ steps.new }
         ensures steps { let was = length self.now.inlays in let is = length next.now.inlays in
             ChangesAtMost (ways 3) was is steps.old steps.new }

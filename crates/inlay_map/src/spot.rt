@@ -23,6 +23,7 @@ impl InlaySnapshot {
         ensures spot { IsSpot self.now M.number target bias result }
         ensures counted { steps.old ≤ steps.new }
     {
+        // The text and its inlays are within their limits, so each sum of sizes is a u32.
         let _len = self.inlaid.len();
         let found = self.splices.find_upper::<M>(target as u64, bias, steps);
         let gap = match found.splice {

@@ -1,10 +1,9 @@
 -- The lines of a text, for the maps above it.
-use Rattle.std.proofs.Common.{◌≡◌, Result, Ok, Err, IfErr, IsErrAnd, ℕ, ◌+◌, ◌-◌, ◌<◌, ◌≤◌, ◌^◌, List, length, Option, Some, None, inl, inr, arith, ap, sym, subst, ◌∙◌}
+use Rattle.std.proofs.Common.{◌≡◌, Result, Ok, Err, IfErr, IsErrAnd, ℕ, ◌+◌, ◌-◌, ◌≤◌, List, length, Option, Some, None, arith, ap, sym, subst, ◌∙◌}
 use Rattle.std.specs.Prelude.{unwrap_or}
 use Rattle.cell_units.specs.declared.limits.TheConstants.{TEXT_LIMIT}
 use Rattle.cell_units.specs.declared.place.Shift.{Shift}
 use Rattle.cell_units.specs.Layers.{plain_source}
-use Rattle.cell_units.specs.Lawful.{IsWidth}
 use Rattle.cell_units.specs.Operation.{replaced_text}
 use Rattle.cell_units.specs.Text.{row_of}
 use Rattle.cell_units.proofs.PlainLayers.{text_of_plain}
@@ -15,32 +14,14 @@ use Rattle.tab_map.proofs.PlainTexts.{plain-few, plain-fits, plain-follow}
 use Rattle.text_rope.specs.Edits.{IsRange, IsReplaceFault}
 use Rattle.cell_units.specs.declared.fault.Fault.{Fault}
 use Rattle.cell_units.specs.declared.fault.Fault.TheVariants.{NoMemory}
-use Rattle.edit_patch.specs.declared.edit.Edit.{Edit}
-use Rattle.cell_line.specs.declared.lines.Run.{Run}
-use Rattle.cell_units.specs.Rows.{all_rows}
-use Rattle.wrap_map.specs.Landing.{standing_landed}
-use Rattle.wrap_map.specs.Standing.{HasRoom, Standing, shown_rows, standing_after}
 use Rattle.wrap_map.proofs.Rooms.{has-room}
-use Rattle.wrapped_text.specs.Shown.{AreLinesMet, HaveRoom, MayStand}
-use Rattle.std.proofs.lemmas.Bool.{cases_eq}
+use Rattle.wrapped_text.specs.Shown.{AreLinesMet, HaveRoom}
 use Rattle.cell_line.specs.declared.element.Element.{Element}
 
 -- the lines of a text have room
 pub text-room : (text : List ℕ) → length text ≤ TEXT_LIMIT → HaveRoom (lines_at (plain_source text) 4)
 text-room text small marks =
     has-room (record { lines = lines_at (plain_source text) 4; marks = marks }) (plain-fits text 4 (omega arith) small) (omega (arith, plain-few text 4, small))
-
--- lines that have room have it after some were replaced, and when a run of them landed
-pub room-after : (s : Standing) (lines : List (List Element)) (below : Option Shift) → HaveRoom lines → HasRoom (standing_after s lines below)
-room-after s lines None room = room s.marks
-room-after s lines (Some below) room = room (standing_after s lines (Some below)).marks
-
-pub rows-landed : (s : Standing) (lines : List (List Element)) (since : List Edit) (run : Run) (width : ℕ) → s.lines ≡ lines → HaveRoom lines
-    → length (all_rows (shown_rows (standing_landed since run width s))) < 2 ^ 32
-rows-landed s lines since run width are room =
-    let landed = standing_landed since run width s in
-    let here : HasRoom landed = (subst HaveRoom (sym are) room) landed.marks in
-    here.rows_fit
 
 -- the count that is reckoned from the lengths is that of what was put in
 pub told-follow : (old new put : List ℕ) (start end bytes after : ℕ) (s : Shift) → IsRange old start end → new ≡ replaced_text old start end put
@@ -85,17 +66,6 @@ met-lines old new put start end bytes after s (Some lines) range is was now star
       end_is = met.end_is ∙ (λ i. row_of (text_of_plain old i) (end-is i) + 1);
       reach_is = met.reach_is ∙ (λ i. row_of (text_of_plain new i) (start-is i + put-is i) + 1);
     }
-
--- a width at which lines may stand is lawful, and the other way round
-pub may-lawful : (width : ℕ) → MayStand width → IsWidth width
-may-lawful width may = elim (cases_eq width 0) [
-  | inl none ↦ inl none
-  | inr some ↦ inr (may some)
-]
-
-pub lawful-may : (width : ℕ) → IsWidth width → MayStand width
-lawful-may width (inl none) some = absurd (some none)
-lawful-may width (inr within) some = within
 
 -- a replacement that finds no memory has that fault, since the range was judged
 pub memory-fault : {A : Type 0} (text : List ℕ) (start end : ℕ) (put : List ℕ) (r : Result A Fault) → IsRange text start end → IsErrAnd r (λ e. e ≡ NoMemory) → IfErr r (IsReplaceFault text start end put)

@@ -55,13 +55,18 @@ impl LateText {
 
     /// Takes the first lines that wait, and cuts them at the width. It gives the run of them, or `None` where no line waits.
     pub fn take(&mut self, alloc: Global, steps: &mut Steps) -> Result<Option<Run>, NoMemory>
+        // The run, which stays in hand with the width at which it is cut.
         ensures next { let map = self.old.text.map in
             IfOk result (λ run. IsNextIfAny map.standing.marks map.width [] run) }
         ensures taken { IfOk result (λ run. IfSome run (λ run. self.new.run ≡ run)) }
         ensures width { let width = self.old.text.width in
             IfOk result (λ run. IfSome run (λ _. self.new.width ≡ width)) }
+
+        // The text and its map stay as they are.
         ensures map { self.new.text.map ≡ self.old.text.map }
         ensures text { self.new.text.rope ≡ self.old.text.rope }
+
+        // The work.
         ensures counted { steps.old ≤ steps.new }
     {
         let Some(run) = self.text.map.next_run(&[], steps) else {
@@ -107,15 +112,20 @@ impl LateText {
         put: &str,
         steps: &mut Steps,
     ) -> Result<Change, Fault>
+        // The text and the rows after it.
         ensures range { OnOk result (IsRange self.old.text.rope start end) }
         ensures small { OnOk result (length self.new.text.rope ≤ TEXT_LIMIT) }
         ensures text { let made = replaced_text self.old.text.rope start end (clean put.now) in
             OnOk result (self.new.text.rope ≡ made) }
         ensures shown { let old = self.old.text.map in let new = self.new.text in
             IfOk result (λ made. IsSynced old new.lines made.lines new.map made.shown made.rows) }
+
+        // A refusal is that of the rope, and changes nothing.
         ensures refused { let text = self.old.text.rope in
             IfErr result (IsReplaceFault text start end (clean put.now)) }
         ensures unchanged { OnErr result (self.new ≡ self.old) }
+
+        // The work.
         ensures counted { steps.old ≤ steps.new }
     {
         let (text, change) = self.text.replaced(alloc, start, end, put, steps)?;

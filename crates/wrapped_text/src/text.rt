@@ -140,18 +140,25 @@ impl WrappedText {
         text: &str,
         steps: &mut Steps,
     ) -> Result<Change, Fault>
+        // The text after it.
         ensures range { OnOk result (IsRange self.old.rope start end) }
         ensures small { OnOk result (length self.new.rope ≤ TEXT_LIMIT) }
         ensures text { let made = replaced_text self.old.rope start end (clean text.now) in
             OnOk result (self.new.rope ≡ made) }
+
+        // What is answered: the lines that were met, and the rows that they had.
         ensures leads { IfOk result (λ made. LeadsBy self.old.lines self.new.lines made.lines) }
         ensures met { let count = length (clean text.now) in
             let old = self.old.rope in
             IfOk result (λ made. AreLinesMet old self.new.rope start end count made.lines) }
         ensures shown { let old = self.old.map in let lines = self.new.lines in
             IfOk result (λ made. IsSynced old lines made.lines self.new.map made.shown made.rows) }
+
+        // A refusal is that of the rope, and changes nothing.
         ensures refused { IfErr result (IsReplaceFault self.old.rope start end (clean text.now)) }
         ensures unchanged { OnErr result (self.new ≡ self.old) }
+
+        // The work.
         ensures counted { steps.old ≤ steps.new }
     {
         let (next, change) = self.replaced(alloc, start, end, text, steps)?;
@@ -168,10 +175,13 @@ impl WrappedText {
         text: &str,
         steps: &mut Steps,
     ) -> Result<(WrappedText, Change), Fault>
+        // The text after it.
         ensures range { OnOk result (IsRange self.now.rope start end) }
         ensures small { IfOk result (λ made. length made.0.rope ≤ TEXT_LIMIT) }
         ensures text { let new = replaced_text self.now.rope start end (clean text.now) in
             IfOk result (λ made. made.0.rope ≡ new) }
+
+        // What is answered: the lines that were met, and the rows that they had.
         ensures leads { IfOk result (λ made. LeadsBy self.now.lines made.0.lines made.1.lines) }
         ensures met { let count = length (clean text.now) in
             let old = self.now.rope in
@@ -179,7 +189,11 @@ impl WrappedText {
         ensures shown { let old = self.now.map in IfOk result (λ made.
             let new = made.0 in let change = made.1 in
             IsSynced old new.lines change.lines new.map change.shown change.rows) }
+
+        // A refusal is that of the rope.
         ensures refused { IfErr result (IsReplaceFault self.now.rope start end (clean text.now)) }
+
+        // The work.
         ensures counted { steps.old ≤ steps.new }
     {
         let (rope, _) = self.rope.replaced(alloc, start, end, text, steps)?;
@@ -236,16 +250,23 @@ impl WrappedText {
         wraps: &[Cuts],
         steps: &mut Steps,
     ) -> Result<Patch, NoMemory>
+        // The lines of the run were there, `since` leads from then to now, and these are their cuts at the width.
         requires since { Fits since.now taken.now self.old.lines }
         requires within { run.first + run.count ≤ length taken.now }
         requires wraps { map (λ cuts. cuts.items) wraps.now ≡ cuts_of_run taken.now run width }
+
+        // At the present width the lines that the run still has stand at it; at another nothing changes.
         ensures landed { width ≡ self.old.map.width →
             IfOk result (IsLanded self.old.map since.now run self.new.map) }
         ensures other_width { width ≢ self.old.map.width →
             IfOk result (λ patch. patch ≡ []) × (self.new.map ≡ self.old.map) }
+
+        // The text stays.
         ensures text { self.new.rope ≡ self.old.rope }
         ensures lines { self.new.lines ≡ self.old.lines }
         ensures unchanged { OnErr result (self.new.map ≡ self.old.map) }
+
+        // The work.
         ensures counted { steps.old ≤ steps.new }
     {
         self.map.land(alloc, taken, since, run, width, wraps, steps)
