@@ -1,11 +1,13 @@
 //! The callers that the page of the block map shows.
-ghost use Rattle.std.specs.Prelude.{◌≡◌, ◌≢◌, ◌+◌, ◌≤◌, ◌^◌, None, length, map, IfOk, OnErr, OnOk};
+ghost use Rattle.std.specs.Prelude.{◌≡◌, ◌≢◌, ◌+◌, ◌≤◌, ◌^◌, None, length, map, IfErr, IfOk, OnErr, OnOk};
 ghost use Rattle.cell_units.specs.Layers.{shown_lines};
 ghost use Rattle.cell_units.specs.Operation.{replaced_text};
 ghost use Rattle.cell_units.specs.Rows.{all_rows};
 ghost use Rattle.cell_units.specs.Text.{clean};
+ghost use Rattle.cell_units.specs.declared.limits.TheConstants.{TEXT_LIMIT};
 ghost use Rattle.edit_patch.specs.Fits.{Fits};
 ghost use Rattle.shifted_lists.specs.Leads.{LeadsBy};
+ghost use Rattle.text_rope.specs.Edits.{IsRange, IsReplaceFault};
 ghost use Rattle.wrap_map.specs.Landing.{cuts_of_run, standing_landed};
 ghost use Rattle.block_map.specs.Follows.{IsFollowed};
 ghost use Rattle.block_map.specs.Maps.{IsShown, synced};
@@ -55,7 +57,8 @@ pub fn show<P: Layer, R: Rows>(
     follow(alloc, layer, None, rows, blocks, &Patch::none(alloc), steps)
 }
 
-/// Puts a text in the place of a range, and shows the rows with the blocks, which move with the text.
+/// Puts a text in the place of a range, and shows the rows with the blocks, which move with the text. It is refused as the rope
+/// refuses it.
 pub fn replace(
     alloc: Global,
     text: &mut WrappedText,
@@ -66,6 +69,8 @@ pub fn replace(
     steps: &mut Steps,
 ) -> Result<Replaced, Fault>
     requires stands { StandsUnder text.old.rope text.old.map.standing blocks.old }
+    ensures range { OnOk result (IsRange text.old.rope start end) }
+    ensures small { OnOk result (length text.new.rope ≤ TEXT_LIMIT) }
     ensures text { let made = replaced_text text.old.rope start end (clean put.now) in
         OnOk result (text.new.rope ≡ made) }
     ensures leads { IfOk result (λ made. LeadsBy text.old.lines text.new.lines made.lines) }
@@ -77,13 +82,13 @@ pub fn replace(
         IfOk result (λ made.
         IsShownAfter new.rope start end count standing blocks.old blocks.new made.shown.blocks) }
     ensures stands { OnOk result (StandsUnder text.new.rope text.new.map.standing blocks.new) }
+    ensures refused { IfErr result (IsReplaceFault text.old.rope start end (clean put.now)) }
     ensures unchanged { OnErr result (text.new ≡ text.old) }
     ensures kept { OnErr result (blocks.new ≡ blocks.old) }
     ensures counted { steps.old ≤ steps.new }
 {
     let bytes = text.rope.len();
-    let mut next = text.share()?;
-    let change = next.replace(alloc, start, end, put, steps)?;
+    let (next, change) = text.replaced(alloc, start, end, put, steps)?;
     let shift = Shift::new(start, end, next.rope.len() - (bytes - (end - start)));
     let rows = patch_of(alloc, change.rows)?;
     let shown = follow(

@@ -1,8 +1,10 @@
 //! A text with blocks, of which a run of lines is wrapped late.
-ghost use Rattle.std.specs.Prelude.{◌≡◌, ◌≢◌, ◌+◌, ◌≤◌, [], length, map, IfOk, IfSome, OnErr, OnOk};
+ghost use Rattle.std.specs.Prelude.{◌≡◌, ◌≢◌, ◌+◌, ◌≤◌, [], length, map, IfErr, IfOk, IfSome, OnErr, OnOk};
 ghost use Rattle.cell_units.specs.Operation.{replaced_text};
 ghost use Rattle.cell_units.specs.Text.{clean};
+ghost use Rattle.cell_units.specs.declared.limits.TheConstants.{TEXT_LIMIT};
 ghost use Rattle.edit_patch.specs.Fits.{Fits};
+ghost use Rattle.text_rope.specs.Edits.{IsRange, IsReplaceFault};
 ghost use Rattle.wrap_map.specs.Landing.{cuts_of_run, standing_landed};
 ghost use Rattle.wrap_map.specs.Standing.{standing_after};
 ghost use Rattle.wrap_map.specs.Waiting.{IsNextIfAny};
@@ -10,7 +12,7 @@ ghost use Rattle.blocked_text.specs.Standing.{IsShownAfter, IsShownOf, synced_wi
 
 use crate::text::BlockedText;
 use cell_line::{Cuts, Lines, Run};
-use cell_units::{Fault, NoMemory, Shift, Steps};
+use cell_units::{Fault, NoMemory, Refusal, Shift, Steps};
 use edit_patch::Patch;
 use std::alloc::Global;
 use tab_map::TabSnapshot;
@@ -118,6 +120,8 @@ impl LateBlocks {
         put: &str,
         steps: &mut Steps,
     ) -> Result<Option<Shift>, Fault>
+        ensures range { OnOk result (IsRange self.old.blocked.text.rope start end) }
+        ensures small { OnOk result (length self.new.blocked.text.rope ≤ TEXT_LIMIT) }
         ensures text { let text = self.old.blocked.text.rope in
             let made = replaced_text text start end (clean put.now) in
             OnOk result (self.new.blocked.text.rope ≡ made) }
@@ -128,6 +132,8 @@ impl LateBlocks {
             let text = new.text.rope in let standing = new.text.map.standing in
             let old = self.old.blocked.map in let shown = new.shown.blocks in
             OnOk result (IsShownAfter text start end count standing old new.map shown) }
+        ensures refused { let text = self.old.blocked.text.rope in
+            IfErr result (IsReplaceFault text start end (clean put.now)) }
         ensures unchanged { OnErr result (self.new ≡ self.old) }
         ensures counted { steps.old ≤ steps.new }
     {
@@ -155,7 +161,8 @@ struct Followed {
     lines: Option<Shift>,
 }
 
-/// An equal text after a replacement, with the patch that leads to its lines from those of the run that was taken last.
+/// An equal text after a replacement, with the patch that leads to its lines from those of the run that was taken last. It is
+/// refused as the rope refuses it.
 fn replaced(
     alloc: Global,
     before: &BlockedText,
@@ -167,6 +174,8 @@ fn replaced(
     steps: &mut Steps,
 ) -> Result<Followed, Fault>
     requires { Fits since.now taken.now before.now.text.lines }
+    ensures range { OnOk result (IsRange before.now.text.rope start end) }
+    ensures small { IfOk result (λ new. length new.blocked.text.rope ≤ TEXT_LIMIT) }
     ensures text { let made = replaced_text before.now.text.rope start end (clean put.now) in
         IfOk result (λ new. new.blocked.text.rope ≡ made) }
     ensures rows { let old = before.now.text.map in IfOk result (λ new.
@@ -177,8 +186,14 @@ fn replaced(
         let text = new.text.rope in let standing = new.text.map.standing in
         IsShownAfter text start end count standing old new.map new.shown.blocks) }
     ensures fits { IfOk result (λ new. Fits new.since taken.now new.blocked.text.lines) }
+    ensures refused { let text = before.now.text.rope in
+        IfErr result (IsReplaceFault text start end (clean put.now)) }
     ensures counted { steps.old ≤ steps.new }
 {
+    // The range is judged before the text is copied.
+    if !before.text.rope.is_range(start, end, steps) {
+        return Err(Fault::Refused(Refusal::BadRange));
+    }
     let mut blocked = before.share()?;
     let lines = blocked.replace(alloc, start, end, put, steps)?;
     let since = followed(

@@ -5,8 +5,10 @@ ghost use Rattle.cell_units.specs.Lawful.{IsWidth};
 ghost use Rattle.cell_units.specs.Layers.{plain_source};
 ghost use Rattle.cell_units.specs.Operation.{replaced_text};
 ghost use Rattle.cell_units.specs.Text.{clean};
+ghost use Rattle.cell_units.specs.declared.limits.TheConstants.{TEXT_LIMIT};
 ghost use Rattle.edit_patch.specs.Fits.{Fits};
 ghost use Rattle.shifted_lists.specs.Leads.{LeadsBy};
+ghost use Rattle.text_rope.specs.Edits.{IsRange, IsReplaceFault};
 ghost use Rattle.wrap_map.specs.Landing.{cuts_of_run, standing_landed};
 ghost use Rattle.wrap_map.specs.Standing.{shown_rows, standing_after};
 ghost use Rattle.wrapped_text.specs.Shown.{unwrapped_at};
@@ -140,6 +142,8 @@ impl BlockedText {
         put: &str,
         steps: &mut Steps,
     ) -> Result<Option<Shift>, Fault>
+        ensures range { OnOk result (IsRange self.old.text.rope start end) }
+        ensures small { OnOk result (length self.new.text.rope ≤ TEXT_LIMIT) }
         ensures text { let made = replaced_text self.old.text.rope start end (clean put.now) in
             OnOk result (self.new.text.rope ≡ made) }
         ensures leads { IfOk result (λ lines.
@@ -151,6 +155,8 @@ impl BlockedText {
             let text = new.text.rope in let standing = new.text.map.standing in
             let shown = new.shown.blocks in
             OnOk result (IsShownAfter text start end count standing self.old.map new.map shown) }
+        ensures refused { let text = self.old.text.rope in
+            IfErr result (IsReplaceFault text start end (clean put.now)) }
         ensures unchanged { OnErr result (self.new ≡ self.old) }
         ensures counted { steps.old ≤ steps.new }
     {
@@ -163,6 +169,7 @@ impl BlockedText {
     pub fn set_width(&mut self, width: u32) -> Result<(), Refusal>
         ensures set { let old = self.old.text.map in
             OnOk result (self.new.text.map ≡ record old { width = width }) }
+        ensures accepted { OnOk result (IsWidth width) }
         ensures refused { IfErr result (λ refusal.
             (refusal ≡ Refusal.BadNumber) × (¬ IsWidth width)) }
         ensures text { self.new.text.rope ≡ self.old.text.rope }
