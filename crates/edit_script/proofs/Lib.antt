@@ -2,7 +2,6 @@ mod Extending
 mod Forms
 mod Lines
 mod RowLines
-mod Versions
 mod Writing
 pub mod Scripts
 pub mod Verdicts

@@ -1,49 +1,11 @@
 -- The lines of rows that are left.
-use Rattle.std.proofs.Common.{◌≡◌, ℕ, zero, suc, ◌+◌, ◌-◌, ◌<◌, ◌≤◌, min, List, [], ◌∷◌, length, map, take, drop, get_or, Some, refl, ap, sym, ◌∙◌, arith, inl, inr}
+use Rattle.std.proofs.Common.{◌≡◌, ℕ, zero, suc, ◌+◌, ◌-◌, ◌<◌, List, [], ◌∷◌, length, map, take, drop, get_or, Some, refl, ap, sym, ◌∙◌, arith}
 use Rattle.std.specs.Prelude.{slice_get}
-use Rattle.std.proofs.lemmas.Bool.{cases_lt}
-use Rattle.std.proofs.lemmas.List.{take_all, length-drop, length-take, length-map}
 use Rattle.plain_rows.specs.Rows.{Row}
 use Rattle.display_sheet.specs.declared.shown.Shown.{Shown}
 use Rattle.display_sheet.specs.Shown.{row_of_shown}
 use Rattle.edit_script.specs.Printed.{row_line, row_lines}
 use Rattle.edit_script.specs.Answers.{rows_in}
-
--- a count is cut to what there is
-take-cut : {X : Type 0} (n : ℕ) (xs : List X) → take (min n (length xs)) xs ≡ take n xs
-take-cut n xs =
-    elim (cases_lt (length xs) n) [
-      | inl below ↦ (let k : min n (length xs) ≡ length xs = omega arith in
-          ap (λ k. take k xs) k ∙ (take_all (length xs) xs (omega arith) ∙ sym (take_all n xs (omega arith))))
-      | inr above ↦ (let k : min n (length xs) ≡ n = omega arith in ap (λ k. take k xs) k)
-    ]
-
-drop-past : {X : Type 0} (n : ℕ) (xs : List X) → length xs ≤ n → drop n xs ≡ []
-drop-past zero [] h = refl
-drop-past zero (x ∷ xs) h = absurd (omega arith)
-drop-past (suc n) [] h = refl
-drop-past (suc n) (x ∷ xs) h = drop-past n xs (omega arith)
-
-none-in : (next left : ℕ) (rows : List Row) → length rows ≤ next → rows_in next left rows ≡ []
-none-in next left rows h = ap (λ l. row_lines next (take left l)) (drop-past next rows h) ∙ ap (row_lines next) (take-none left)
-  where
-    take-none : (left : ℕ) → take left (let none : List Row = [] in none) ≡ []
-    take-none zero = refl
-    take-none (suc left) = refl
-
--- a first row and a count that are cut to what there is
-pub rows_in-cut : (first count : ℕ) (rows : List Row) (next left : ℕ) → next ≡ min first (length rows) → left ≡ min count (length rows - next)
-    → rows_in next left rows ≡ rows_in first count rows
-rows_in-cut first count rows next left e f =
-    elim (cases_lt (length rows) first) [
-      | inl below ↦ none-in next left rows (omega arith) ∙ sym (none-in first count rows (omega arith))
-      | inr above ↦
-          (let same : next ≡ first = omega arith in
-          let dropped = length-drop next rows in
-          let cut : left ≡ min count (length (drop next rows)) = omega arith in
-          ap (λ k. row_lines next (take k (drop next rows))) cut
-          ∙ (ap (row_lines next) (take-cut count (drop next rows)) ∙ ap (λ n. rows_in n count rows) same))
-    ]
 
 drop-more : {X : Type 0} (n : ℕ) (xs : List X) → drop n xs ≡ drop n xs → drop (suc n) xs ≡ drop 1 (drop n xs)
 drop-more zero [] e = refl
@@ -107,18 +69,6 @@ next-row made used next left rows shown line same is some e =
   where
     one : (n : ℕ) → n + 1 ≡ suc n
     one n = omega arith
-
--- rows that were made anew
-pub made-anew : (made : List Shown) (next count : ℕ) (rows : List Row) → map row_of_shown made ≡ take count (drop next rows) → next + count ≤ length rows
-    → (length made ≡ count) × (map row_of_shown (drop 0 made) ≡ take (length made - 0) (drop next rows))
-made-anew made next count rows same there =
-    let mapped = length-map made row_of_shown in
-    let taken = length-take count (drop next rows) in
-    let dropped = length-drop next rows in
-    let lengths = ap length same in
-    let few : length made ≡ count = omega arith in
-    let whole : count ≡ length made - 0 = omega arith in
-    (few, same ∙ ap (λ k. take k (drop next rows)) whole)
 
 -- an element that was read
 pub get-index : {X : Type 0} (xs : List X) (n : ℕ) (x : X) → n < length xs → x ≡ get_or xs n x → slice_get xs n ≡ Some x

@@ -50,6 +50,7 @@ impl<'a> RowsLeft<'a> {
         ensures kept { rows_left self.new ≡ rows_left self.old }
         ensures left { self.new.left ≡ self.old.left }
         ensures some { OnOk result (self.new.used < length self.new.made.items) }
+        ensures counted { steps.old ≤ steps.new }
     {
         if self.used < self.made.len() {
             return Ok(());
@@ -66,6 +67,7 @@ impl<'a> RowsLeft<'a> {
         ensures line { IfOk result (λ line. line ≡ slice_get (rows_left self.old) 0) }
         ensures rest { OnOk result (rows_left self.new ≡ drop 1 (rows_left self.old)) }
         ensures unchanged { OnErr result (rows_left self.new ≡ rows_left self.old) }
+        ensures counted { steps.old ≤ steps.new }
     {
         if self.left == 0 {
             return Ok(None);
@@ -122,6 +124,7 @@ impl<'a> Answer<'a> {
         ensures line { IfOk result (λ line. line ≡ slice_get self.old 0) }
         ensures rest { OnOk result (self.new ≡ drop 1 self.old) }
         ensures unchanged { OnErr result (self.new ≡ self.old) }
+        ensures counted { steps.old ≤ steps.new }
     {
         if let Some(head) = self.head.take() {
             return Ok(Some(head));

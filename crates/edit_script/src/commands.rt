@@ -1,5 +1,5 @@
 //! The command of each key and its value.
-ghost use Rattle.std.specs.Prelude.{◌≡◌, true, false, nat_lt, map, option_map, option_and_then, IfOk, IfSome, IfNone};
+ghost use Rattle.std.specs.Prelude.{◌≡◌, ◌≤◌, true, false, nat_lt, map, option_map, option_and_then, IfOk, IfSome, IfNone};
 ghost use Rattle.serde_json.specs.View.{view as data_of, items_view as data_of_items};
 ghost use Rattle.cell_units.specs.Operation.{AddInlay, RemoveInlay, AddFold, RemoveFold, AddBlock, RemoveBlock, SetTab, SetWidth};
 ghost use Rattle.display_sheet.specs.Changes.{inlay_of, fold_of};
@@ -28,7 +28,9 @@ pub(crate) fn command_at(
     view: &View,
     steps: &mut Steps,
 ) -> Result<Asked, Unread>
-    ensures { IsReadAs (command_at form (present_of view.now).text key (data_of value.now)) result }
+    ensures read { IsReadAs (command_at form (present_of view.now).text key (data_of value.now))
+        result }
+    ensures counted { steps.old ≤ steps.new }
 {
     match key {
         Key::Edit => edit_in(alloc, value, form, view, steps),
@@ -58,7 +60,8 @@ fn one(op: Op) -> Asked
 
 /// An offset of the text: a number, or in the second form also a point.
 fn place_in(value: &Value, form: Form, view: &View, steps: &mut Steps) -> Option<u32>
-    ensures { result ≡ place_in form (present_of view.now).text (data_of value.now) }
+    ensures place { result ≡ place_in form (present_of view.now).text (data_of value.now) }
+    ensures counted { steps.old ≤ steps.new }
 {
     match form {
         Form::First => number_in(value),
@@ -71,7 +74,8 @@ fn place_in(value: &Value, form: Form, view: &View, steps: &mut Steps) -> Option
 
 /// The offset that a point names.
 fn offset_in(value: &Value, view: &View, steps: &mut Steps) -> Option<u32>
-    ensures { result ≡ offset_in (present_of view.now).text (data_of value.now) }
+    ensures offset { result ≡ offset_in (present_of view.now).text (data_of value.now) }
+    ensures counted { steps.old ≤ steps.new }
 {
     let (point, bias) = point_in(value)?;
     Some(view.offset_of(point, bias, steps))
@@ -104,7 +108,8 @@ fn edit_in(
     view: &View,
     steps: &mut Steps,
 ) -> Result<Asked, Unread>
-    ensures { IsReadAs (edit_in form (present_of view.now).text (data_of value.now)) result }
+    ensures read { IsReadAs (edit_in form (present_of view.now).text (data_of value.now)) result }
+    ensures counted { steps.old ≤ steps.new }
 {
     let Some(items) = value.as_array() else {
         return Err(Unread::NoForm);
@@ -122,8 +127,9 @@ fn splices_in(
     view: &View,
     steps: &mut Steps,
 ) -> Result<Option<Vec<Splice>>, NoMemory>
-    ensures { IfOk result (λ splices. option_map (λ v. v.items) splices
+    ensures splices { IfOk result (λ splices. option_map (λ v. v.items) splices
         ≡ splices_of_items form (present_of view.now).text (data_of_items items.now)) }
+    ensures counted { steps.old ≤ steps.new }
 {
     let mut splices = Vec::with_capacity(alloc, items.len())?;
     for item in items {
@@ -143,8 +149,9 @@ fn splice_in(
     view: &View,
     steps: &mut Steps,
 ) -> Result<Option<Splice>, NoMemory>
-    ensures { IfOk result
+    ensures splice { IfOk result
         (λ splice. splice ≡ splice_of form (present_of view.now).text (data_of value.now)) }
+    ensures counted { steps.old ≤ steps.new }
 {
     match splice_parts(value, form, view, steps) {
         Some((start, end, text)) => {
@@ -161,8 +168,9 @@ fn splice_parts<'a>(
     view: &View,
     steps: &mut Steps,
 ) -> Option<(u32, u32, &'a str)>
-    ensures { option_map (λ p. record { start = p.0; end = p.1; text = p.2.now }) result
+    ensures parts { option_map (λ p. record { start = p.0; end = p.1; text = p.2.now }) result
         ≡ splice_of form (present_of view.now).text (data_of value.now) }
+    ensures counted { steps.old ≤ steps.new }
 {
     let (start, end, text) = three_in(value)?;
     Some((
@@ -180,7 +188,8 @@ fn inlay_in(
     view: &View,
     steps: &mut Steps,
 ) -> Result<Asked, Unread>
-    ensures { IsReadAs (inlay_in form (present_of view.now).text (data_of value.now)) result }
+    ensures read { IsReadAs (inlay_in form (present_of view.now).text (data_of value.now)) result }
+    ensures counted { steps.old ≤ steps.new }
 {
     let Some((id, offset, bias, text)) = inlay_parts(value, form, view, steps) else {
         return Err(Unread::NoForm);
@@ -203,8 +212,9 @@ fn inlay_parts<'a>(
     view: &View,
     steps: &mut Steps,
 ) -> Option<(u64, u32, Bias, &'a str)>
-    ensures { option_map (λ p. one (AddInlay (inlay_of p.0 p.1 p.2 p.3.now))) result
+    ensures parts { option_map (λ p. one (AddInlay (inlay_of p.0 p.1 p.2 p.3.now))) result
         ≡ inlay_in form (present_of view.now).text (data_of value.now) }
+    ensures counted { steps.old ≤ steps.new }
 {
     let (id, offset, bias, text) = four_in(value)?;
     Some((
@@ -230,7 +240,8 @@ fn uninlay_in(value: &Value) -> Result<Asked, Unread>
 
 /// A fold, `[id, start, end]`.
 fn fold_in(value: &Value, form: Form, view: &View, steps: &mut Steps) -> Result<Asked, Unread>
-    ensures { IsReadAs (fold_in form (present_of view.now).text (data_of value.now)) result }
+    ensures read { IsReadAs (fold_in form (present_of view.now).text (data_of value.now)) result }
+    ensures counted { steps.old ≤ steps.new }
 {
     let Some((id, start, end)) = fold_parts(value, form, view, steps) else {
         return Err(Unread::NoForm);
@@ -242,8 +253,9 @@ fn fold_in(value: &Value, form: Form, view: &View, steps: &mut Steps) -> Result<
 }
 
 fn fold_parts(value: &Value, form: Form, view: &View, steps: &mut Steps) -> Option<(u64, u32, u32)>
-    ensures { option_map (λ p. one (AddFold (fold_of p.0 p.1 p.2))) result
+    ensures parts { option_map (λ p. one (AddFold (fold_of p.0 p.1 p.2))) result
         ≡ fold_in form (present_of view.now).text (data_of value.now) }
+    ensures counted { steps.old ≤ steps.new }
 {
     let (id, start, end) = three_in(value)?;
     Some((
@@ -371,15 +383,17 @@ fn peek_in(value: &Value) -> Result<Asked, Unread>
 
 /// `[offset, bias]`.
 fn shown_in(value: &Value, form: Form, view: &View, steps: &mut Steps) -> Option<(u32, Bias)>
-    ensures { option_map (λ p. Ask (queries.Show p.0 p.1)) result
+    ensures parts { option_map (λ p. Ask (queries.Show p.0 p.1)) result
         ≡ show_in form (present_of view.now).text (data_of value.now) }
+    ensures counted { steps.old ≤ steps.new }
 {
     let (offset, bias) = two_in(value)?;
     Some((place_in(offset, form, view, steps)?, bias_in(bias)?))
 }
 
 fn display_in(value: &Value, form: Form, view: &View, steps: &mut Steps) -> Result<Asked, Unread>
-    ensures { IsReadAs (show_in form (present_of view.now).text (data_of value.now)) result }
+    ensures read { IsReadAs (show_in form (present_of view.now).text (data_of value.now)) result }
+    ensures counted { steps.old ≤ steps.new }
 {
     match shown_in(value, form, view, steps) {
         Some((offset, bias)) => Ok(Asked::Query(Query::Show { offset, bias })),

@@ -21,9 +21,13 @@ pub fn answer<'a>(
     steps: &mut Steps,
 ) -> Result<Answer<'a>, Fault>
     requires { HasAnswer (versions_of view.now.events) query.now }
+    // What the lines are.
     ensures answered { IfOk result (λ answer. answer ≡ lines_of view.now query.now) }
+    // Which queries are refused.
     ensures accepted { OnOk result (query_refusal (present_of view.now) query.now ≡ None) }
     ensures refused { IfErr result (IsUnanswered (present_of view.now) query.now) }
+    // The work.
+    ensures counted { steps.old ≤ steps.new }
 {
     match query {
         Query::Rows { first, count } => Ok(Answer::new(alloc, view, None, *first, *count)),
@@ -72,8 +76,9 @@ fn number_line(alloc: Global, offset: u32) -> Result<Text, NoMemory>
 /// The line of a view's version: the number of its newest version and the runs of its marks.
 fn version_line(alloc: Global, view: &View, steps: &mut Steps) -> Result<Text, NoMemory>
     requires { 1 ≤ versions_of view.now.events }
-    ensures { IfOk result (λ line. line
+    ensures line { IfOk result (λ line. line
         ≡ version_line (versions_of view.now.events) (mark_runs (present_of view.now))) }
+    ensures counted { steps.old ≤ steps.new }
 {
     let runs = view.marks(alloc, steps)?;
     let mut line = format!(in alloc; "version {} marks", view.versions() - 1)?;

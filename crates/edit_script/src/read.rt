@@ -63,11 +63,15 @@ pub fn read_line(
     view: &View,
     steps: &mut Steps,
 ) -> Result<Asked, Fault>
+    // What a line is read as.
     ensures within { OnOk result (length line.now ≤ line_limit) }
     ensures read { IfOk result
         (λ asked. command_of form (present_of view.now).text line.now ≡ Some (meaning asked)) }
     ensures fits { IfOk result (λ asked. is_over (meaning asked) ≡ false) }
+    // Which lines are refused.
     ensures refused { IfErr result (IsLineRefused form (present_of view.now).text line.now) }
+    // The work.
+    ensures counted { steps.old ≤ steps.new }
 {
     if line.len() > LINE_LIMIT {
         return Err(Fault::Refused(Refusal::TooLong));
@@ -87,7 +91,8 @@ fn read_command(
     view: &View,
     steps: &mut Steps,
 ) -> Result<Asked, Unread>
-    ensures { IsReadAs (command_of form (present_of view.now).text line.now) result }
+    ensures read { IsReadAs (command_of form (present_of view.now).text line.now) result }
+    ensures counted { steps.old ≤ steps.new }
 {
     match value_of(alloc, line)? {
         Some(value) => command_in(alloc, &value, form, view, steps),
@@ -103,8 +108,9 @@ fn command_in(
     view: &View,
     steps: &mut Steps,
 ) -> Result<Asked, Unread>
-    ensures { IsReadAs (command_of_value form (present_of view.now).text (data_of value.now))
+    ensures read { IsReadAs (command_of_value form (present_of view.now).text (data_of value.now))
         result }
+    ensures counted { steps.old ≤ steps.new }
 {
     match member_in(value) {
         Some((name, value)) => command_named(alloc, name, value, form, view, steps),
@@ -121,8 +127,9 @@ fn command_named(
     view: &View,
     steps: &mut Steps,
 ) -> Result<Asked, Unread>
-    ensures { IsReadAs (command_named form (present_of view.now).text name.now (data_of value.now))
+    ensures read { IsReadAs (command_named form (present_of view.now).text name.now (data_of value.now))
         result }
+    ensures counted { steps.old ≤ steps.new }
 {
     match key_of(name) {
         Some(key) => command_at(alloc, key, value, form, view, steps),
