@@ -58,12 +58,15 @@ impl LateBlocks {
 
     /// Takes the first lines that wait, and cuts them at the width. It gives the run of them, or `None` where no line waits.
     pub fn take(&mut self, alloc: Global, steps: &mut Steps) -> Result<Option<Run>, NoMemory>
+        // The run, and what is kept of it.
         ensures next { let map = self.old.blocked.text.map in
             IfOk result (λ run. IsNextIfAny map.standing.marks map.width [] run) }
         ensures taken { IfOk result (λ run. IfSome run (λ run. self.new.run ≡ run)) }
         ensures width { let width = self.old.blocked.text.width in
             IfOk result (λ run. IfSome run (λ _. self.new.width ≡ width)) }
         ensures since { IfOk result (λ run. IfSome run (λ _. self.new.since ≡ [])) }
+
+        // What stays.
         ensures unchanged { self.new.blocked ≡ self.old.blocked }
         ensures counted { steps.old ≤ steps.new }
     {
@@ -84,6 +87,7 @@ impl LateBlocks {
     /// Gives the lines of the run that are still there their cuts, and shows what is there then. Where the width isn't the one at
     /// which they were cut, no line is.
     pub fn land(&mut self, alloc: Global, steps: &mut Steps) -> Result<(), NoMemory>
+        // How the lines stand after it.
         ensures landed { let old = self.old.blocked.text.map in
             let standing = standing_landed self.old.since self.old.run old.width old.standing in
             let made = record old { standing = standing } in
@@ -91,10 +95,14 @@ impl LateBlocks {
         ensures other_width { let old = self.old.blocked.text.map in
             self.old.width ≢ old.width → self.new.blocked.text.map ≡ old }
         ensures text { self.new.blocked.text.rope ≡ self.old.blocked.text.rope }
+
+        // The blocks, and what is shown.
         ensures blocks { let new = self.new.blocked in let old = self.old.blocked.map in
             OnOk result (new.map ≡ synced_with new.text.rope new.text.map.standing old) }
         ensures shown { let new = self.new.blocked in let old = self.old.blocked.map in
             OnOk result (IsShownOf new.text.rope new.text.map.standing old new.shown.blocks) }
+
+        // What stays where there is no memory.
         ensures unchanged { OnErr result (self.new.blocked ≡ self.old.blocked) }
         ensures counted { steps.old ≤ steps.new }
     {
@@ -120,8 +128,11 @@ impl LateBlocks {
         put: &str,
         steps: &mut Steps,
     ) -> Result<Option<Shift>, Fault>
+        // Which replacements are accepted.
         ensures range { OnOk result (IsRange self.old.blocked.text.rope start end) }
         ensures small { OnOk result (length self.new.blocked.text.rope ≤ TEXT_LIMIT) }
+
+        // The text and its rows after it, and what is shown.
         ensures text { let text = self.old.blocked.text.rope in
             let made = replaced_text text start end (clean put.now) in
             OnOk result (self.new.blocked.text.rope ≡ made) }
@@ -132,6 +143,8 @@ impl LateBlocks {
             let text = new.text.rope in let standing = new.text.map.standing in
             let old = self.old.blocked.map in let shown = new.shown.blocks in
             OnOk result (IsShownAfter text start end count standing old new.map shown) }
+
+        // Why it is refused, and what stays then.
         ensures refused { let text = self.old.blocked.text.rope in
             IfErr result (IsReplaceFault text start end (clean put.now)) }
         ensures unchanged { OnErr result (self.new ≡ self.old) }

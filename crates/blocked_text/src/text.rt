@@ -83,12 +83,17 @@ impl BlockedText {
         lines: &[Text],
         steps: &mut Steps,
     ) -> Result<(), Fault>
+        // What is there after it.
         ensures ok { let block = fresh id offset lines.now in
             OnOk result (self.new.map ≡ added side block self.old.map) }
+
+        // When it is refused.
         ensures accepted { let source = plain_source self.old.text.rope in
             OnOk result (add_refusal source self.old.map id offset lines.now ≡ None) }
         ensures refused { let source = plain_source self.old.text.rope in
             IfErr result (IsOwed (add_refusal source self.old.map id offset lines.now)) }
+
+        // What stays.
         ensures text { self.new.text ≡ self.old.text }
         ensures shown { self.new.shown ≡ self.old.shown }
         ensures unchanged { OnErr result (self.new.map ≡ self.old.map) }
@@ -104,9 +109,14 @@ impl BlockedText {
 
     /// Takes the block of an id out, which is shown up to the next snapshot. `UnknownId` where there is none.
     pub fn remove(&mut self, alloc: Global, id: u32, steps: &mut Steps) -> Result<(), Fault>
+        // What is there after it.
         ensures ok { OnOk result (self.new.map ≡ removed id self.old.map) }
+
+        // When it is refused.
         ensures accepted { OnOk result (remove_refusal self.old.map id ≡ None) }
         ensures refused { IfErr result (IsOwed (remove_refusal self.old.map id)) }
+
+        // What stays.
         ensures text { self.new.text ≡ self.old.text }
         ensures shown { self.new.shown ≡ self.old.shown }
         ensures unchanged { OnErr result (self.new.map ≡ self.old.map) }
@@ -142,8 +152,11 @@ impl BlockedText {
         put: &str,
         steps: &mut Steps,
     ) -> Result<Option<Shift>, Fault>
+        // Which replacements are accepted.
         ensures range { OnOk result (IsRange self.old.text.rope start end) }
         ensures small { OnOk result (length self.new.text.rope ≤ TEXT_LIMIT) }
+
+        // The text and its maps after it, and what is shown.
         ensures text { let made = replaced_text self.old.text.rope start end (clean put.now) in
             OnOk result (self.new.text.rope ≡ made) }
         ensures leads { IfOk result (λ lines.
@@ -155,6 +168,8 @@ impl BlockedText {
             let text = new.text.rope in let standing = new.text.map.standing in
             let shown = new.shown.blocks in
             OnOk result (IsShownAfter text start end count standing self.old.map new.map shown) }
+
+        // Why it is refused, and what stays then.
         ensures refused { let text = self.old.text.rope in
             IfErr result (IsReplaceFault text start end (clean put.now)) }
         ensures unchanged { OnErr result (self.new ≡ self.old) }
@@ -167,11 +182,16 @@ impl BlockedText {
 
     /// Sets the width that the lines are to stand at. `BadNumber` where it is neither 0 nor 2 to 10,000.
     pub fn set_width(&mut self, width: u32) -> Result<(), Refusal>
+        // What is there after it.
         ensures set { let old = self.old.text.map in
             OnOk result (self.new.text.map ≡ record old { width = width }) }
+
+        // When it is refused.
         ensures accepted { OnOk result (IsWidth width) }
         ensures refused { IfErr result (λ refusal.
             (refusal ≡ Refusal.BadNumber) × (¬ IsWidth width)) }
+
+        // What stays.
         ensures text { self.new.text.rope ≡ self.old.text.rope }
         ensures blocks { self.new.map ≡ self.old.map }
         ensures shown { self.new.shown ≡ self.old.shown }
@@ -193,9 +213,12 @@ impl BlockedText {
         wraps: &[Cuts],
         steps: &mut Steps,
     ) -> Result<(), NoMemory>
+        // The run is of the lines that were taken, and has their cuts.
         requires since { Fits since.now taken.now self.old.text.lines }
         requires within { run.first + run.count ≤ length taken.now }
         requires wraps { map (λ cuts. cuts.items) wraps.now ≡ cuts_of_run taken.now run width }
+
+        // How the lines stand after it.
         ensures landed { let old = self.old.text.map in
             let standing = standing_landed since.now run old.width old.standing in
             let made = record old { standing = standing } in
@@ -203,10 +226,14 @@ impl BlockedText {
         ensures other_width { let old = self.old.text.map in
             width ≢ old.width → self.new.text.map ≡ old }
         ensures text { self.new.text.rope ≡ self.old.text.rope }
+
+        // The blocks, and what is shown.
         ensures blocks { let text = self.new.text in
             OnOk result (self.new.map ≡ synced_with text.rope text.map.standing self.old.map) }
         ensures shown { let text = self.new.text in
             OnOk result (IsShownOf text.rope text.map.standing self.old.map self.new.shown.blocks) }
+
+        // What stays where there is no memory.
         ensures unchanged { OnErr result (self.new ≡ self.old) }
         ensures counted { steps.old ≤ steps.new }
     {

@@ -85,12 +85,15 @@ impl FoldedText {
         text: &str,
         steps: &mut Steps,
     ) -> Result<(), Fault>
+        // What is there after it, and what stays.
         ensures ok { let inlay = inlay_with id offset bias text.now in
             OnOk result (self.new.inlays ≡ added inlay self.old.inlays) }
         ensures accepted { let before = self.old.inlays.current in
             OnOk result (add_refusal before id offset text.now ≡ None) }
         ensures text { self.new.rope ≡ self.old.rope }
         ensures folds { self.new.folds ≡ self.old.folds }
+
+        // Why it is refused, and what stays then.
         ensures refused { let refusal = add_refusal self.old.inlays.current id offset text.now in
             IfErr result (inlaid.IsOwed refusal) }
         ensures unchanged { OnErr result (self.new ≡ self.old) }
@@ -104,11 +107,14 @@ impl FoldedText {
 
     /// Takes the inlay of an id away. It is shown up to the next snapshot.
     pub fn remove(&mut self, alloc: Global, id: u32, steps: &mut Steps) -> Result<(), Fault>
+        // What is there after it, and what stays.
         ensures ok { (i : Inlay) → Contains self.old.inlays.current.inlays i → i.id ≡ id →
             OnOk result (self.new.inlays ≡ removed i self.old.inlays) }
         ensures accepted { OnOk result (remove_refusal self.old.inlays.current id ≡ None) }
         ensures text { self.new.rope ≡ self.old.rope }
         ensures folds { self.new.folds ≡ self.old.folds }
+
+        // Why it is refused, and what stays then.
         ensures refused { let refusal = remove_refusal self.old.inlays.current id in
             IfErr result (inlaid.IsOwed refusal) }
         ensures unchanged { OnErr result (self.new ≡ self.old) }
@@ -129,11 +135,14 @@ impl FoldedText {
         end: u32,
         steps: &mut Steps,
     ) -> Result<(), Fault>
+        // What is there after it, and what stays.
         ensures ok { let fold = fold_with id start end in
             OnOk result (self.new.folds ≡ folded_up fold self.old.folds) }
         ensures accepted { OnOk result (fold_refusal self.old.folds.current id start end ≡ None) }
         ensures text { self.new.rope ≡ self.old.rope }
         ensures inlays { self.new.inlays ≡ self.old.inlays }
+
+        // Why it is refused, and what stays then.
         ensures refused { let refusal = fold_refusal self.old.folds.current id start end in
             IfErr result (folded.IsOwed refusal) }
         ensures unchanged { OnErr result (self.new ≡ self.old) }
@@ -147,11 +156,14 @@ impl FoldedText {
 
     /// Takes the fold of an id off. What it hides is hidden up to the next snapshot.
     pub fn unfold(&mut self, alloc: Global, id: u32, steps: &mut Steps) -> Result<(), Fault>
+        // What is there after it, and what stays.
         ensures ok { (f : Fold) → Contains self.old.folds.current.folds f → f.id ≡ id →
             OnOk result (self.new.folds ≡ opened_up f self.old.folds) }
         ensures accepted { OnOk result (unfold_refusal self.old.folds.current id ≡ None) }
         ensures text { self.new.rope ≡ self.old.rope }
         ensures inlays { self.new.inlays ≡ self.old.inlays }
+
+        // Why it is refused, and what stays then.
         ensures refused { let refusal = unfold_refusal self.old.folds.current id in
             IfErr result (folded.IsOwed refusal) }
         ensures unchanged { OnErr result (self.new ≡ self.old) }
@@ -169,6 +181,7 @@ impl FoldedText {
         alloc: Global,
         steps: &mut Steps,
     ) -> Result<(Shown, Option<Shift>), NoMemory>
+        // The maps after it, and what is shown.
         ensures text { self.new.rope ≡ self.old.rope }
         ensures inlays { let made = inlays_shown self.old.rope None self.old.inlays in
             OnOk result (self.new.inlays ≡ made) }
@@ -176,6 +189,8 @@ impl FoldedText {
             OnOk result (self.new.folds ≡ made) }
         ensures shown { let was = self.old in IfOk result (λ made.
             IsShown was.rope None was.inlays was.folds made.0 (option_map reach_of made.1)) }
+
+        // What stays where there is no memory.
         ensures unchanged { OnErr result (self.new ≡ self.old) }
         ensures counted { steps.old ≤ steps.new }
     {
@@ -192,8 +207,11 @@ impl FoldedText {
         text: &str,
         steps: &mut Steps,
     ) -> Result<(Shown, Option<Shift>), Fault>
+        // Which replacements are accepted.
         ensures range { OnOk result (IsRange self.old.rope start end) }
         ensures small { OnOk result (length self.new.rope ≤ TEXT_LIMIT) }
+
+        // The text and its maps after it, and what is shown.
         ensures text { let made = replaced_text self.old.rope start end (clean text.now) in
             OnOk result (self.new.rope ≡ made) }
 
@@ -206,6 +224,8 @@ impl FoldedText {
         ensures shown { let put = put_at start end (clean text.now) in let was = self.old in
             IfOk result (λ made. let answer = option_map reach_of made.1 in
             IsShown self.new.rope (Some put) was.inlays was.folds made.0 answer) }
+
+        // Why it is refused, and what stays then.
         ensures refused { IfErr result (IsReplaceFault self.old.rope start end (clean text.now)) }
         ensures unchanged { OnErr result (self.new ≡ self.old) }
         ensures counted { steps.old ≤ steps.new }
