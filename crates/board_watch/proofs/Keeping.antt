@@ -1,5 +1,5 @@
 -- What watchers keep of the versions that they see.
-use Rattle.std.proofs.Common.{◌≡◌, ℕ, suc, ◌+◌, ◌<◌, ◌≤◌, Bool, true, false, List, [], ◌∷◌, ◌++◌, refl, sym, ap, ◌∙◌, subst, append_assoc, arith}
+use Rattle.std.proofs.Common.{◌≡◌, ℕ, suc, ◌+◌, ◌<◌, ◌≤◌, Bool, true, false, List, [], ◌∷◌, ◌++◌, refl, sym, ap, ◌∙◌, subst, arith}
 use Rattle.std.specs.List.{All}
 use Rattle.std.proofs.lemmas.List.{append-nil}
 use Rattle.std.proofs.lemmas.List.Elements.{All-push, All-weaker}
@@ -9,7 +9,7 @@ use Rattle.display_map.specs.Replay.{ends}
 use Rattle.version_board.specs.Known.{Known, GoesOn}
 use Rattle.version_board.specs.Rows.{IsRowTo}
 use Rattle.board_watch.specs.declared.seen.Seen.{Seen}
-use Rattle.board_watch.specs.Watching.{AreRising, HasKept, IsSeenAmong, IsSeenIn, IsSeenOf, IsWatched, IsWatching, Watching, WatchesOn}
+use Rattle.board_watch.specs.Watching.{AreRising, HasKept, IsSeenAmong, IsSeenIn, IsSeenOf, IsWatched, IsWatching}
 use Rattle.board_watch.proofs.Histories.{newest-again, newest-in, past, still-in}
 
 rising-more : (least : ℕ) (old : List Seen) (seen : Seen) → AreRising least old → (old ≡ [] → least ≤ seen.version)
@@ -114,24 +114,3 @@ prefix-same xs ys e = ([], append-nil xs ∙ sym e)
 pub prefix-kept : (kept now : List Seen) (seen : Seen) (newer : Bool) → HasKept kept seen now newer → IsPrefix kept now
 prefix-kept kept now seen true keeps = (seen ∷ [], sym keeps.0)
 prefix-kept kept now seen false keeps = prefix-same kept now keeps.0
-
-pub watches-on : (old new : Known) (kept now : List Seen) → GoesOn old new → IsPrefix kept now
-    → WatchesOn (record { known = old; seen = kept }) (record { known = new; seen = now })
-watches-on old new kept now goes_on keeps = record { board = goes_on.board; row = goes_on.later; seen = keeps }
-
-pub watches-still : (old new : Known) (kept now : List Seen) → GoesOn old new → now ≡ kept
-    → WatchesOn (record { known = old; seen = kept }) (record { known = new; seen = now })
-watches-still old new kept now goes_on same = watches-on old new kept now goes_on (prefix-same kept now same)
-
-pub watches-same : (w : Watching) → WatchesOn w w
-watches-same w = record { board = refl; row = prefix-same w.known.row w.known.row refl; seen = prefix-same w.seen w.seen refl }
-
-prefix-more : {X : Type 0} (xs ys zs : List X) → IsPrefix xs ys → IsPrefix ys zs → IsPrefix xs zs
-prefix-more xs ys zs p q = (p.0 ++ q.0, sym (append_assoc xs p.0 q.0) ∙ (ap (λ l. l ++ q.0) p.1 ∙ q.1))
-
-pub watches-more : (u v w : Watching) → WatchesOn u v → WatchesOn v w → WatchesOn u w
-watches-more u v w p q = record {
-  board = q.board ∙ p.board;
-  row = prefix-more u.known.row v.known.row w.known.row p.row q.row;
-  seen = prefix-more u.seen v.seen w.seen p.seen q.seen;
-}

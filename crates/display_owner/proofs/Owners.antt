@@ -8,8 +8,6 @@ use Rattle.display_map.specs.Sending.{IsOutstanding, is_landing}
 use Rattle.display_map.proofs.Replays.{state_of-appended, state_of-one_more, replayed-none, replayed-cons}
 use Rattle.display_map.specs.declared.version.Version.{Version}
 use Rattle.version_board.specs.Known.{Known}
-use Rattle.version_board.specs.Rows.{Follows}
-use Rattle.version_board.proofs.RowLemmas.{may_follow}
 use Rattle.display_owner.specs.declared.owner.Owner.{Owner}
 use Rattle.display_owner.specs.Owned.{AreOut, HasTeam, IsNewest, IsOwned}
 use Rattle.display_owner.proofs.Outs.{Job, outs-still}
@@ -83,11 +81,6 @@ pub applied : {E : Type 0} → StaysOver → (o : Owner) (ops : List Operation) 
     → OnOk r (h ≡ appended o.display (map Did ops)) → OnErr r (h ≡ o.display) → IsOwned o → HasTeam h o.crew.out o.crew.workers o.writer
 applied stays o ops h (Ok done) is same owned = owned-did stays o ops h is owned
 applied stays o ops h (Err error) is same owned = owned-same o h same owned
-
--- what is published next may come right after the newest version
-pub may-follow : (newest : Version) (h h' : History) (last : Bool) → IsNewest newest h → h' ≡ appended h (Published last ∷ []) → Follows newest h'
-may-follow newest h h' last it is =
-    subst (λ h. Follows newest h) (sym (is ∙ ap (λ h. appended h (Published last ∷ [])) it.since)) (may_follow newest it.more last it.goes_on it.unpublished)
 
 pub shown : {E : Type 0} → Stays → (o : Owner) (last : Bool) (h : History) (version : Version) (writer : Option Known) (r : Result (Unit {0}) E)
     → h ≡ appended o.display (Published last ∷ []) → version ≡ h → OnOk r (IfSome writer (λ w. w.newest ≡ version)) → IsOwned o

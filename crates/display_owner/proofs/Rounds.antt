@@ -19,9 +19,6 @@ pub record Keeps (first now : Owner) : Type 0 where
   pub owned : IsOwned now
   pub team : IsSameTeam first now
 
-pub keeps-none : (o : Owner) → IsOwned o → Keeps o o
-keeps-none o owned = record { gone = gone-none o.crew.workers o.display o.display refl; owned = owned; team = record { workers = refl; board = refl } }
-
 team-team : (a b c : Owner) → IsSameTeam a b → IsSameTeam b c → IsSameTeam a c
 team-team a b c x y = record { workers = y.workers ∙ x.workers; board = y.board ∙ x.board }
 
@@ -37,9 +34,6 @@ pub keeps-halted : (a b c : Owner) (halt : Halt) → Keeps a b → IsHalted b.cr
 keeps-halted a b c halt kept halted =
     halted-behind a.crew.workers a.display b.display c.display halt kept.gone (subst (λ w. IsHalted w b.display c.display halt) kept.team.workers halted)
 
-pub keeps-team : (a b c : Owner) → Keeps a b → IsSameTeam b c → IsSameTeam a c
-keeps-team a b c kept team = team-team a b c kept.team team
-
 pub sent-gone : (o o' : Owner) (more : Bool) → HasSent o o' more → HasGone o.crew.workers o.display o'.display
 sent-gone o o' true sent = sent.0
 sent-gone o o' false sent = gone-none o.crew.workers o.display o'.display sent.1
@@ -47,19 +41,6 @@ sent-gone o o' false sent = gone-none o.crew.workers o.display o'.display sent.1
 pub landed-gone : (o o' : Owner) (more : Bool) → HasLandedOne o o' more → HasGone o.crew.workers o.display o'.display
 landed-gone o o' true landed = landed.0.gone
 landed-gone o o' false same = gone-none o.crew.workers o.display o'.display same
-
--- room for events gets less
-pub less-room : (o o' : Owner) (more : Bool) → more ≡ true → HasSent o o' more → event_limit - length o'.display.events < event_limit - length o.display.events
-less-room o o' true e sent = let longer = sent.1 in let within = sent.2 in omega (arith, longer, within)
-less-room o o' false e sent = absurd (true≢false (sym e))
-
-pub fewer-out : (o o' : Owner) (more : Bool) → more ≡ true → HasLandedOne o o' more → length o'.crew.out < length o.crew.out
-fewer-out o o' true e landed = landed.1
-fewer-out o o' false e landed = absurd (true≢false (sym e))
-
-pub is-busy : (o o' : Owner) (more : Bool) → more ≡ false → HasSent o o' more → IsBusy o'
-is-busy o o' true e sent = absurd (true≢false e)
-is-busy o o' false e sent = sent.0
 
 -- where a display isn't settled, or its crew is full, and it is busy, a job is out
 none-out : (h : History) (out : List Job) → map (λ j. j.number) out ≡ [] → length out ≡ 0
