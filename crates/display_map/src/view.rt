@@ -49,12 +49,7 @@ impl View {
     }
 
     /// The row of this number, counted from 0; `None` past the last.
-    pub fn row(
-        &self,
-        alloc: Global,
-        row: u32,
-        steps: &mut Steps,
-    ) -> Result<Option<Shown>, NoMemory>
+    pub fn row(&self, alloc: Global, row: u32, steps: &mut Steps) -> Result<Option<Shown>, NoMemory>
         ensures row { IfOk result (λ shown.
             shown_row shown ≡ slice_get (rows_of (present_of self.now)) row) }
         ensures counted { steps.old ≤ steps.new }
