@@ -25,6 +25,14 @@ capped (suc at) (suc k) x [] e = absurd (omega (arith, e))
 capped (suc at) zero x (y ∷ ys) e = absurd (omega (arith, e))
 capped (suc at) (suc k) x (y ∷ ys) e = ap (λ l. y ∷ l) (capped at k x ys (omega (arith, e)))
 
+-- marks that are those of a side
+module _ (ms ns : List BlockMark) (ss : List Stop) (same : ms ≡ ns) where
+  pub side-as : (anchors : List (Mark NoLoad)) → IsSide ns ss anchors → IsSide ms ss anchors
+  side-as anchors side = subst (λ (l : List BlockMark). IsSide l ss anchors) (sym same) side
+
+  pub seen-as : (ks : List Kept) → kept_of ns ss ≡ ks → kept_of ms ss ≡ ks
+  seen-as ks seen = ap (λ (l : List BlockMark). kept_of l ss) same ∙ seen
+
 module _ (ms : List BlockMark) (ss : List Stop) (anchors : List (Mark NoLoad)) (ks : List Kept) (side : IsSide ms ss anchors) (seen : kept_of ms ss ≡ ks) where
   pub marks-count : length ms ≡ length ks
   marks-count = sym (length-kept ms ss side.each) ∙ ap length seen

@@ -18,6 +18,11 @@ rising-less from low [] le r = tt
 rising-less from low (a ∷ bs) le r = (omega (arith, le, r.0), r.1)
 
 module _ {X : Type 0} where
+  -- without places all stays
+  pub nothing-out : (at : ℕ) (xs : List X) → without [] at xs ≡ xs
+  nothing-out at [] = refl
+  nothing-out at (x ∷ xs) = refl
+
   -- the item of the first place is left out
   pub without-here : (a at : ℕ) (bs : List ℕ) (x : X) (xs : List X) → a ≡ at → without (a ∷ bs) at (x ∷ xs) ≡ without bs (at + 1) xs
   without-here a at bs x xs e = ap (λ (b : Bool). cond b (without bs (at + 1) xs) (x ∷ without (a ∷ bs) (at + 1) xs)) (eq-eqb a at e)
@@ -26,10 +31,7 @@ module _ {X : Type 0} where
   without-other a at bs x xs lt = ap (λ (b : Bool). cond b (without bs (at + 1) xs) (x ∷ without (a ∷ bs) (at + 1) xs)) (ne_eqb a at (λ e. omega (arith, lt, e)))
 
   pub without-later : (at : ℕ) (bs : List ℕ) (x : X) (xs : List X) → IsRising (at + 1) bs → without bs at (x ∷ xs) ≡ x ∷ without bs (at + 1) xs
-  without-later at [] x xs r = ap (λ (l : List X). x ∷ l) (sym (none xs)) where
-    none : (xs : List X) → without [] (at + 1) xs ≡ xs
-    none [] = refl
-    none (y ∷ ys) = refl
+  without-later at [] x xs r = ap (λ (l : List X). x ∷ l) (sym (nothing-out (at + 1) xs))
   without-later at (a ∷ bs) x xs r = without-other a at bs x xs (omega (arith, r.0))
 
   -- One place more: what is left is what was left before without the item of that place.
@@ -90,7 +92,7 @@ module _ {X : Type 0} where
   -- of each item it holds, or its place is left out
   pub every-other : (P : X → Type 0) (bs : List ℕ) (at : ℕ) (xs : List X) → IsRising at bs → ((k : ℕ) (x : X) → slice_get xs k ≡ Some x → Member (at + k) bs ⊎ P x) → Every P (without bs at xs)
   every-other P bs at [] r each = tt
-  every-other P [] at (x ∷ xs) r each = (here, subst (Every P) (none xs) (every-other P [] (at + 1) xs tt (λ k y e. back k y (each (suc k) y e)))) where
+  every-other P [] at (x ∷ xs) r each = (here, subst (Every P) (nothing-out (at + 1) xs) (every-other P [] (at + 1) xs tt (λ k y e. back k y (each (suc k) y e)))) where
     here : P x
     here = elim (each 0 x refl) [
       | inl m ↦ absurd m
@@ -99,10 +101,6 @@ module _ {X : Type 0} where
 
     back : (k : ℕ) (y : X) → ⊥ ⊎ P y → ⊥ ⊎ P y
     back k y o = o
-
-    none : (xs : List X) → without [] (at + 1) xs ≡ xs
-    none [] = refl
-    none (y ∷ ys) = refl
   every-other P (a ∷ bs) at (x ∷ xs) r each = elim (cases_lt at a) [
     | inl lt ↦ subst (Every P) (sym (without-other a at bs x xs lt)) (
       here lt,
@@ -146,11 +144,7 @@ module _ {X Y : Type 0} (f : X → Y) where
   map-other bs at [] [] r long each = refl
   map-other bs at [] (y ∷ ys) r long each = absurd (omega (arith, long))
   map-other bs at (x ∷ xs) [] r long each = absurd (omega (arith, long))
-  map-other [] at (x ∷ xs) (y ∷ ys) r long each = ap (λ (l : List Y). f x ∷ l) (sym (ap (map f) (none xs)) ∙ map-other [] (at + 1) xs ys tt (omega (arith, long)) (λ k a b e g. each (suc k) a b e g) ∙ none ys) ∙ ap (λ (z : Y). z ∷ ys) here where
-    none : {Z : Type 0} (zs : List Z) → without [] (at + 1) zs ≡ zs
-    none [] = refl
-    none (z ∷ zs) = refl
-
+  map-other [] at (x ∷ xs) (y ∷ ys) r long each = ap (λ (l : List Y). f x ∷ l) (sym (ap (map f) (nothing-out (at + 1) xs)) ∙ map-other [] (at + 1) xs ys tt (omega (arith, long)) (λ k a b e g. each (suc k) a b e g) ∙ nothing-out (at + 1) ys) ∙ ap (λ (z : Y). z ∷ ys) here where
     here : f x ≡ y
     here = elim (each 0 x y refl refl) [
       | inl m ↦ absurd m

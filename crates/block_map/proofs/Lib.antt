@@ -14,6 +14,7 @@ pub mod KeptSplices
 pub mod LackedIds
 pub mod LeftOut
 pub mod LineStarts
+pub mod MarksAfter
 pub mod MovedMarks
 pub mod PairedSides
 pub mod RisingStops
@@ -24,11 +25,14 @@ pub mod RowsOfBlocks
 pub mod ShownAnew
 pub mod ShownStops
 pub mod ShownTexts
+pub mod SideSteps
 pub mod SideStops
 pub mod SideSynced
+pub mod SortedTests
 pub mod StepSums
 pub mod StopCarries
 pub mod StopEdits
+pub mod StopLooks
 pub mod StopLoops
 pub mod StopMoves
 pub mod StopPlaces
@@ -36,7 +40,7 @@ pub mod StopRemovals
 pub mod StopRuns
 pub mod StopSizes
 pub mod SyncedMaps
-pub mod TakenOut
+pub mod ToldPlaces
 pub mod TwoSides
 pub mod Windows
 pub mod ZoneStarts

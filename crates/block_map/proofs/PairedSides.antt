@@ -19,7 +19,6 @@ use Rattle.block_map.specs.Maps.{Kept, block_of, fresh, kept_le, without}
 use Rattle.block_map.specs.Stops.{Stop}
 use Rattle.block_map.specs.inside.Sides.{ArePaired, BlockMark, IsOf, IsSide, anchor_of, is_unshown, kept, kept_of, unshown_anchors}
 use Rattle.block_map.specs.inside.StopLists.{StopsFit, stop_with, with_stop}
-use Rattle.block_map.proofs.TakenOut.{without_at}
 
 abbrev Lines : Type 0
 Lines = List (List ℕ)
@@ -77,6 +76,10 @@ module _ (m : BlockMark) (s : Stop) (of : IsOf m s) where
   kept-with (suc at) (n ∷ ms) (t ∷ ss) p = ap (λ (l : List Kept). kept n t ∷ l) (kept-with at ms ss p.1)
 
 -- ---- one less
+
+-- the list without the item of an index
+abbrev pub without_at : {X : Type 0} → ℕ → List X → List X
+without_at k xs = take k xs ++ drop (k + 1) xs
 
 pub next-without : {X : Type 0} (at : ℕ) (x : X) (xs : List X) → without_at (suc at) (x ∷ xs) ≡ x ∷ without_at at xs
 next-without at x xs = let e : suc at + 1 ≡ suc (at + 1) = omega arith in ap (λ (n : ℕ). x ∷ (take at xs ++ drop n (x ∷ xs))) e

@@ -241,9 +241,6 @@ module _ (source : Source) (lines : List (List (List ℕ))) where
   upto-all Above (m ∷ ms) = (before-most lines (line_of_kept source Above (fresh m.id m.offset m.load)), upto-all Above ms)
   upto-all Below (m ∷ ms) = (before-most lines (line_of_kept source Below (fresh m.id m.offset m.load) + 1), upto-all Below ms)
 
-  mark_height : BlockMark → ℕ
-  mark_height m = length m.load
-
   heights-of : (side : Side) (ms : List BlockMark) → all_stop_rows (stops_of_marks source lines side ms) ≡ sum_by (λ (m : BlockMark). length m.load) ms
   heights-of side [] = refl
   heights-of side (m ∷ ms) =

@@ -1,37 +1,33 @@
 -- One side after a `sync`: what each call of it asks, and what it makes.
-use Rattle.std.proofs.Common.{◌≡◌, ℕ, ◌-◌, ◌^◌, ◌<◌, ◌≤◌, false, get_or, not, cond, List, [], ◌∷◌, Option, Some, None, length, map, filter, refl, sym, ap, subst, ◌∙◌, arith, inl, inr}
+use Rattle.std.proofs.Common.{◌≡◌, ℕ, ◌^◌, ◌<◌, ◌≤◌, get_or, not, cond, List, [], ◌∷◌, Option, Some, None, length, map, filter, refl, sym, ap, subst, ◌∙◌, arith, inl, inr}
 use Rattle.std.specs.List.{All}
 use Rattle.std.specs.Option.{is_some}
-use Rattle.std.proofs.lemmas.List.{length-map}
-use Rattle.std.proofs.lemmas.List.Elements.{All-head, All-tail}
 use Rattle.cell_units.specs.declared.limits.TheConstants.{ENTRY_LIMIT}
 use Rattle.cell_units.specs.declared.place.Bias.TheVariants.{Right}
 use Rattle.cell_units.specs.declared.place.Shift.{Shift}
 use Rattle.cell_units.specs.declared.place.Side.{Side}
-use Rattle.cell_units.specs.Anchor.{move}
 use Rattle.cell_units.specs.Lawful.{AreBlockLines}
 use Rattle.cell_units.specs.Layers.{Source}
 use Rattle.cell_units.specs.Rows.{HaveRows}
-use Rattle.cell_units.specs.Sorting.{sort_by}
 use Rattle.cell_units.specs.Text.{IsBoundary}
 use Rattle.edit_patch.specs.declared.edit.Edit.{Edit}
 use Rattle.edit_patch.specs.Patch.{IsPatch}
 use Rattle.mark_tree.specs.declared.mark.Mark.{Mark}
-use Rattle.mark_tree.specs.Marks.{IsMarkList, is_met, mark_le, move_mark}
+use Rattle.mark_tree.specs.Marks.{IsMarkList, mark_le, move_mark}
 use Rattle.mark_tree.proofs.Changing.{all-from_every, every-from_all}
-use Rattle.mark_tree.proofs.Moved.{move-before, move-behind}
-use Rattle.mark_tree.proofs.Sorting.{Every, Member, every-member, every-sort, every-weaker, length-sort, sort-member}
+use Rattle.mark_tree.proofs.Sorting.{Every, every-sort, every-weaker}
 use Rattle.sum_core.specs.declared.load.NoLoad.{NoLoad}
 use Rattle.block_map.specs.Maps.{Kept, moved_kept, placed, stop_of}
 use Rattle.block_map.specs.Stops.{Stop}
 use Rattle.block_map.specs.inside.RowMoves.{IsKeptStop, MayBeMoved, carried}
-use Rattle.block_map.specs.inside.SideMoves.{IsSideFollowed, IsUnmet, LeaveCarried, MayStand, bias_of, marks_after, stop_of_mark, stops_of_marks}
+use Rattle.block_map.specs.inside.SideMoves.{IsSideFollowed, IsUnmet, LeaveCarried, MayBeRemade, MayFollow, MayStand, bias_of, marks_after, stop_of_mark, stops_of_marks}
 use Rattle.block_map.specs.inside.Sides.{ArePaired, BlockMark, IsSide, anchor_of, is_unshown, kept, kept_of, shown_at, unshown_anchors}
 use Rattle.block_map.specs.inside.StopLists.{AreRising, StopsFit}
 use Rattle.block_map.specs.inside.Without.{IsRising, without}
 use Rattle.block_map.proofs.AnewPlaces.{in-order}
-use Rattle.block_map.proofs.MovedMarks.{unmet-cases}
-use Rattle.block_map.proofs.PairedSides.{mark_of_kept}
+use Rattle.block_map.proofs.LeftOut.{nothing-out}
+use Rattle.block_map.proofs.MarksAfter.{length-after, order-after}
+use Rattle.block_map.proofs.PairedSides.{mark_of_kept, paired-length}
 use Rattle.block_map.proofs.SideStops.{all-carried, all-kept, heights-after, heights-kept, marks-kept, shown-row, stops-fit, stops-rise}
 use Rattle.block_map.proofs.StopLoops.{got}
 use Rattle.block_map.proofs.StopSizes.{fit-left, rise-left}
@@ -55,23 +51,9 @@ sound-after (Some s) ms a = every-sort mark_le IsSound (map (move_mark s) ms) (e
   each [] a = tt
   each (m ∷ ms) a = ((a.0.0, a.0.1), each ms a.1)
 
-pub length-after : (shift : Option Shift) (ms : List BlockMark) → length (marks_after shift ms) ≡ length ms
-length-after None ms = refl
-length-after (Some s) ms = length-sort mark_le (map (move_mark s) ms) ∙ length-map ms (move_mark s)
-
 every-map : {X Y : Type 0} (f : X → Y) (P : Y → Type 0) (xs : List X) → Every (λ x. P (f x)) xs → Every P (map f xs)
 every-map f P [] a = tt
 every-map f P (x ∷ xs) a = (a.0, every-map f P xs a.1)
-
--- what holds of marks in order holds of them before
-pub moved-offsets : (s : Shift) (ms : List BlockMark) → All (λ m. m.offset < 2 ^ 32) (marks_after (Some s) ms) → All (λ m. m.offset < 2 ^ 32) (map (move_mark s) ms)
-moved-offsets s ms all =
-    let moved : List BlockMark = map (move_mark s) ms in
-    let sorted = every-from_all (λ (m : BlockMark). m.offset < 2 ^ 32) (sort_by mark_le moved) all in
-    all-from_every (λ (m : BlockMark). m.offset < 2 ^ 32) moved (each moved (λ m in'. every-member (λ (m : BlockMark). m.offset < 2 ^ 32) m (sort_by mark_le moved) sorted (sort-member mark_le m moved in'))) where
-      each : (ns : List BlockMark) → ((m : BlockMark) → Member m ns → m.offset < 2 ^ 32) → Every (λ (m : BlockMark). m.offset < 2 ^ 32) ns
-      each [] f = tt
-      each (n ∷ ns) f = (f n (inl refl), each ns (λ m in'. f m (inr in')))
 
 -- where no stop is made anew, no mark is met
 pub all-unmet : (shift : Option Shift) (es : List Edit) (old : List (List (List ℕ))) (side : Side) (ms : List BlockMark) (ss : List Stop) → length ss ≡ length ms
@@ -82,21 +64,6 @@ all-unmet shift es old side ms ss same leave k d lt =
       | inl at ↦ absurd (omega (arith, at.1))
       | inr may ↦ may.unmet
     ]
-
--- and by a replacement that keeps the length they stay
-pub marks-stay : (s : Shift) (ms : List BlockMark) → sort_by mark_le ms ≡ ms → s.count ≡ s.end - s.start → All (IsUnmet (Some s)) ms → marks_after (Some s) ms ≡ ms
-marks-stay s ms sorted even all = ap (sort_by mark_le) (each ms all) ∙ sorted where
-  one : (m : BlockMark) → is_met s m ≡ false → move_mark s m ≡ m
-  one m unmet = elim (unmet-cases s.start s.end m.offset unmet) [
-    | inl lt ↦ let e = move-before m.offset m.bias s.start s.end s.count lt in (λ i. record { offset = e i; bias = m.bias; id = m.id; load = m.load })
-    | inr gt ↦
-        let e : move m.offset m.bias s.start s.end s.count ≡ m.offset = move-behind m.offset m.bias s.start s.end s.count s.ordered gt ∙ omega (arith, even, gt, s.ordered) in
-        (λ i. record { offset = e i; bias = m.bias; id = m.id; load = m.load })
-  ]
-
-  each : (ms : List BlockMark) → All (IsUnmet (Some s)) ms → map (move_mark s) ms ≡ ms
-  each [] all = refl
-  each (m ∷ ms) all = λ i. one m (All-head (IsUnmet (Some s)) m ms all) i ∷ each ms (All-tail (IsUnmet (Some s)) m ms all) i
 
 -- the marks of moved blocks stand where these do
 pub anchors-after : (source : Source) (shift : Option Shift) (ms : List BlockMark) (ss : List Stop) → ArePaired ms ss → All (λ k. IsBoundary source.text k.offset) (moved_kept shift (kept_of ms ss))
@@ -140,14 +107,18 @@ module _ (source : Source) (lines : List (List (List ℕ))) (side : Side) where
   stops-all [] = refl
   stops-all (k ∷ ks) = ap (λ (l : List Stop). stop_of source lines side k ∷ l) (stops-all ks)
 
-module _ (source : Source) (shift : Option Shift) (es : List Edit) (old new : List (List (List ℕ))) (side : Side) (ms : List BlockMark) (ss : List Stop) (anchors : List (Mark NoLoad))
-    (is-side : IsSide ms ss anchors) (before : IsMarkList ms) (after : IsMarkList (marks_after shift ms)) (followed : IsSideFollowed source shift es old new side (kept_of ms ss)) where
-  all : List Stop
-  all = stops_of_marks source new side (marks_after shift ms)
+-- what follows edits that are the same, of blocks that are seen so
+pub follows-as : (source : Source) (shift : Option Shift) (es fs : List Edit) (old new : List (List (List ℕ))) (side : Side) (ks ls : List Kept) → es ≡ fs → ks ≡ ls
+    → IsSideFollowed source shift fs old new side ls → IsSideFollowed source shift es old new side ks
+follows-as source shift es fs old new side ks ls e f followed =
+    subst (λ (l : List Edit). IsSideFollowed source shift l old new side ks) (sym e)
+    (subst (λ (l : List Kept). IsSideFollowed source shift fs old new side l) (sym f) followed)
 
+module _ (source : Source) (shift : Option Shift) (es : List Edit) (old new : List (List (List ℕ))) (side : Side) (ms : List BlockMark) (ss : List Stop) (anchors : List (Mark NoLoad))
+    (is-side : IsSide ms ss anchors) (before : IsMarkList ms) (followed : IsSideFollowed source shift es old new side (kept_of ms ss)) where
   pub all-rise : AreRising 0 (stops_of_marks source new side (marks_after shift ms))
   all-rise =
-      stops-rise source new side (marks_after shift ms) (in-order (marks_after shift ms) after)
+      stops-rise source new side (marks_after shift ms) (order-after shift ms before)
       (every-weaker (λ (m : BlockMark). IsBoundary source.text m.offset) (λ (m : BlockMark). m.offset ≤ length source.text) (λ m b. b.0) (marks_after shift ms)
       (every-from_all (λ (m : BlockMark). IsBoundary source.text m.offset) (marks_after shift ms) (anchors-after source shift ms ss is-side.each followed.anchors)))
 
@@ -197,3 +168,38 @@ module _ (source : Source) (shift : Option Shift) (es : List Edit) (old new : Li
 
     pub left-moved : AreRising 0 ss → MayBeMoved (bias_of side) es (without places 0 ss)
     left-moved rise = record { kept = left-kept; fit = fit-left places ss rise is-side.fits; rising = left-rise; fits = left-fit }
+
+    pub may-remake : AreRising 0 ss → All (λ a. a < length ss) places → MayBeRemade source shift es new side places ms ss
+    may-remake rise within = record {
+      rising = rising;
+      within = within;
+      paired = paired-length ms ss is-side.each;
+      fit = is-side.fits;
+      moved = left-moved rise;
+      others = left-carried;
+      stand = all-stand;
+      is_side = side-after;
+    }
+
+  -- where no stop is made anew
+  module _ (p : IsPatch es) (have : HaveRows old) (leave : LeaveCarried shift es old side ms ss []) where
+    pub carried-stops : map (carried (bias_of side) es) ss ≡ stops_of_marks source new side (marks_after shift ms)
+    carried-stops =
+        ap (map (carried (bias_of side) es)) (sym (nothing-out 0 ss))
+        ∙ left-carried p have [] tt leave
+        ∙ nothing-out 0 (stops_of_marks source new side (marks_after shift ms))
+
+    pub carried-side : IsSide (marks_after shift ms) (map (carried (bias_of side) es) ss) []
+    carried-side = subst (λ (l : List Stop). IsSide (marks_after shift ms) l []) (sym carried-stops) side-after
+
+    pub carried-kept : kept_of (marks_after shift ms) (map (carried (bias_of side) es) ss) ≡ map (placed source new side) (moved_kept shift (kept_of ms ss))
+    carried-kept = ap (kept_of (marks_after shift ms)) carried-stops ∙ kept-after
+
+    pub carried-moved : AreRising 0 ss → MayBeMoved (bias_of side) es ss
+    carried-moved rise = subst (MayBeMoved (bias_of side) es) (nothing-out 0 ss) (left-moved p have [] tt leave rise)
+
+    pub may-follow : length source.text < 2 ^ 32 → MayFollow shift ms
+    may-follow short = record {
+      unmet = all-unmet shift es old side ms ss (paired-length ms ss is-side.each) leave;
+      fits = offsets-after source (marks_after shift ms) short (anchors-after source shift ms ss is-side.each followed.anchors);
+    }

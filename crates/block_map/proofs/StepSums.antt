@@ -31,39 +31,47 @@ gathered-first h anchors edits a b first = omega (arith, first)
 pub gathered-second : (h anchors edits a b c : ℕ) → b ≤ a + 2 * (h + 1) → c ≤ b + anchors * (35 * (h + 1)) → c ≤ a + (35 * anchors + 2 * edits + 2) * (h + 1)
 gathered-second h anchors edits a b c first second = omega (arith, first, second)
 
--- places are gathered
-pub side-first : (h anew anchors edits a b : ℕ) → anchors ≤ anew → b ≤ a + (35 * anchors + 2 * edits + 2) * (h + 1) → b ≤ a + (546 * anew + 342 * edits + 172) * (h + 1)
-side-first h anew anchors edits a b n first = omega (arith, first, mul-le-mul_right (h + 1) n)
-
--- the marks are moved
-pub side-second : (h anew met anchors edits a b c : ℕ) → met ≤ anew → anchors ≤ anew → b ≤ a + (35 * anchors + 2 * edits + 2) * (h + 1) → c ≤ b + 170 * (h + 1) * (met + 1)
-    → c ≤ a + (546 * anew + 342 * edits + 172) * (h + 1)
-side-second h anew met anchors edits a b c m n first second = omega (arith, first, second, mul-le-mul_right (h + 1) m, mul-le-mul_right (h + 1) n)
+-- marks are moved
+pub remade-first : (h met places edits a b : ℕ) → b ≤ a + 170 * (h + 1) * (met + 1) → b ≤ a + (170 * met + 341 * places + 340 * edits + 170) * (h + 1)
+remade-first h met places edits a b first = omega (arith, first)
 
 -- stops are taken out
-pub side-third : (h anew met anchors places edits a b c d : ℕ) → met ≤ anew → anchors ≤ anew → places ≤ anew
-    → b ≤ a + (35 * anchors + 2 * edits + 2) * (h + 1) → c ≤ b + 170 * (h + 1) * (met + 1) → d ≤ c + places * (170 * (h + 1)) → d ≤ a + (546 * anew + 342 * edits + 172) * (h + 1)
-side-third h anew met anchors places edits a b c d m n p first second third =
-    omega (arith, first, second, third, mul-le-mul_right (h + 1) m, mul-le-mul_right (h + 1) n, mul-le-mul_right (h + 1) p)
+pub remade-second : (h met places edits a b c : ℕ) → b ≤ a + 170 * (h + 1) * (met + 1) → c ≤ b + places * (170 * (h + 1)) → c ≤ a + (170 * met + 341 * places + 340 * edits + 170) * (h + 1)
+remade-second h met places edits a b c first second = omega (arith, first, second)
 
 -- the others are carried
-pub side-fourth : (h anew met anchors places edits a b c d e : ℕ) → met ≤ anew → anchors ≤ anew → places ≤ anew
-    → b ≤ a + (35 * anchors + 2 * edits + 2) * (h + 1) → c ≤ b + 170 * (h + 1) * (met + 1) → d ≤ c + places * (170 * (h + 1)) → e ≤ d + 2 * edits * (170 * (h + 1))
-    → e ≤ a + (546 * anew + 342 * edits + 172) * (h + 1)
-side-fourth h anew met anchors places edits a b c d e m n p first second third fourth =
-    omega (arith, first, second, third, fourth, mul-le-mul_right (h + 1) m, mul-le-mul_right (h + 1) n, mul-le-mul_right (h + 1) p)
+pub remade-third : (h met places edits a b c d : ℕ) → b ≤ a + 170 * (h + 1) * (met + 1) → c ≤ b + places * (170 * (h + 1)) → d ≤ c + 2 * edits * (170 * (h + 1))
+    → d ≤ a + (170 * met + 341 * places + 340 * edits + 170) * (h + 1)
+remade-third h met places edits a b c d first second third = omega (arith, first, second, third)
 
 -- and those that were taken out are put in
-pub side-steps : (h anew met anchors places edits a b c d e f : ℕ) → met ≤ anew → anchors ≤ anew → places ≤ anew
-    → b ≤ a + (35 * anchors + 2 * edits + 2) * (h + 1) → c ≤ b + 170 * (h + 1) * (met + 1) → d ≤ c + places * (170 * (h + 1)) → e ≤ d + 2 * edits * (170 * (h + 1)) → f ≤ e + places * (171 * (h + 1))
-    → f ≤ a + (546 * anew + 342 * edits + 172) * (h + 1)
-side-steps h anew met anchors places edits a b c d e f m n p first second third fourth fifth =
-    omega (arith, first, second, third, fourth, fifth, mul-le-mul_right (h + 1) m, mul-le-mul_right (h + 1) n, mul-le-mul_right (h + 1) p)
+pub remade-steps : (h met places edits a b c d e : ℕ) → b ≤ a + 170 * (h + 1) * (met + 1) → c ≤ b + places * (170 * (h + 1)) → d ≤ c + 2 * edits * (170 * (h + 1)) → e ≤ d + places * (171 * (h + 1))
+    → e ≤ a + (170 * met + 341 * places + 340 * edits + 170) * (h + 1)
+remade-steps h met places edits a b c d e first second third fourth = omega (arith, first, second, third, fourth)
 
-pub both-steps : (h above below edits a b c : ℕ) → b ≤ a + (546 * above + 342 * edits + 172) * (h + 1) → c ≤ b + (546 * below + 342 * edits + 172) * (h + 1)
-    → c ≤ a + (546 * (above + below) + 684 * edits + 344) * (h + 1)
+-- marks follow the replacement before
+pub side-settled : (h anew edits a b : ℕ) → b ≤ a + 170 * (h + 1) * (0 + 1) → b ≤ a + (546 * anew + 342 * edits + 342) * (h + 1)
+side-settled h anew edits a b first = omega (arith, first)
+
+-- places are gathered
+pub side-gathered : (h anew anchors edits a b c : ℕ) → anchors ≤ anew → b ≤ a + 170 * (h + 1) * (0 + 1) → c ≤ b + (35 * anchors + 2 * edits + 2) * (h + 1) → c ≤ a + (546 * anew + 342 * edits + 342) * (h + 1)
+side-gathered h anew anchors edits a b c n first second = omega (arith, first, second, mul-le-mul_right (h + 1) n)
+
+-- all stops are carried
+pub side-carried : (h anew anchors edits a b c d : ℕ) → anchors ≤ anew → b ≤ a + 170 * (h + 1) * (0 + 1) → c ≤ b + (35 * anchors + 2 * edits + 2) * (h + 1) → d ≤ c + 2 * edits * (170 * (h + 1))
+    → d ≤ a + (546 * anew + 342 * edits + 342) * (h + 1)
+side-carried h anew anchors edits a b c d n first second third = omega (arith, first, second, third, mul-le-mul_right (h + 1) n)
+
+-- or some are made anew
+pub side-remade : (h anew met anchors places edits a b c d : ℕ) → met ≤ anew → anchors ≤ anew → places ≤ anew → b ≤ a + 170 * (h + 1) * (0 + 1) → c ≤ b + (35 * anchors + 2 * edits + 2) * (h + 1)
+    → d ≤ c + (170 * met + 341 * places + 340 * edits + 170) * (h + 1) → d ≤ a + (546 * anew + 342 * edits + 342) * (h + 1)
+side-remade h anew met anchors places edits a b c d m n p first second third =
+    omega (arith, first, second, third, mul-le-mul_right (h + 1) m, mul-le-mul_right (h + 1) n, mul-le-mul_right (h + 1) p)
+
+pub both-steps : (h above below edits a b c : ℕ) → b ≤ a + (546 * above + 342 * edits + 342) * (h + 1) → c ≤ b + (546 * below + 342 * edits + 342) * (h + 1)
+    → c ≤ a + (546 * (above + below) + 684 * edits + 684) * (h + 1)
 both-steps h above below edits a b c first second = omega (arith, first, second)
 
-pub one-steps : (h above below edits a b : ℕ) → b ≤ a + (546 * above + 342 * edits + 172) * (h + 1)
-    → b ≤ a + (546 * (above + below) + 684 * edits + 344) * (h + 1)
+pub one-steps : (h above below edits a b : ℕ) → b ≤ a + (546 * above + 342 * edits + 342) * (h + 1)
+    → b ≤ a + (546 * (above + below) + 684 * edits + 684) * (h + 1)
 one-steps h above below edits a b first = omega (arith, first)

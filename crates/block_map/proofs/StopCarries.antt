@@ -1,6 +1,6 @@
 -- Stops that edits of rows keep, as all edits carry them.
 use Rattle.std.proofs.Common.{◌≡◌, ℕ, zero, suc, ◌+◌, ◌-◌, ◌<◌, ◌≤◌, Bool, true, false, cond, List, [], ◌∷◌, ◌++◌, Some, length, map, drop, refl, sym, ap, ◌∙◌, arith, inl, inr, ◌⊎◌}
-use Rattle.std.proofs.lemmas.Bool.{cases_lt, false≢true, leb-true, ltb-true}
+use Rattle.std.proofs.lemmas.Bool.{cases_lt, false≢true}
 use Rattle.std.proofs.lemmas.List.{length-map}
 use Rattle.std.proofs.lemmas.List.Sums.{sum_by-cons}
 use Rattle.std.proofs.lemmas.Option.{none-some}
@@ -141,8 +141,3 @@ carried-stop bias es row j lines p is =
     let g = goes bias es 0 0 0 row j lines p (omega arith) is in
     let there : g.0 + 0 - 0 ≡ g.0 = omega arith in
     ap (grown bias es) (g.1.shrinks ∙ ap (λ (r : ℕ). stop_at (r + own bias) lines) (sym there)) ∙ g.1.grows
-
--- a stop before a place is no further on
-pub before-at : (bias : Bias) (place : ℕ) (s : Stop) → stands_before bias place s ≡ true → s.row ≤ place
-before-at Left place s e = omega (arith, ltb-true s.row place e)
-before-at Right place s e = leb-true s.row place e

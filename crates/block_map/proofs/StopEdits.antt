@@ -137,15 +137,6 @@ fits-replaced qs stops are is fit =
 pub count-replaced : (qs : List StopPiece) (stops : List Stop) → stops_from 0 qs ≡ stops → StopsFit stops → length qs < 2 ^ 32
 count-replaced qs stops is fit = omega (arith, length-stops 0 qs, ap length is, fit.count)
 
--- rows of text before a stop, and the rows of one, are some of all
-pub row-le-last : (base : ℕ) (ps : List StopPiece) (n : ℕ) → end_row base (take n ps) ≤ end_row base ps
-row-le-last base ps zero = omega (arith, end-row-rises base ps, start base ps) where
-  start : (base : ℕ) (ps : List StopPiece) → end_row base (take 0 ps) ≡ base
-  start base [] = refl
-  start base (p ∷ ps) = refl
-row-le-last base [] (suc n) = omega arith
-row-le-last base (p ∷ ps) (suc n) = row-le-last (base + p.gap.rows) ps n
-
 -- a gap that puts the splice at an index back puts all back from there on
 pub puts : (ps : List StopPiece) (n base : ℕ) (gap : RowCount) (old : ℕ) → ((p : StopPiece) → slice_get ps n ≡ Some p → base + gap.rows ≡ old + p.gap.rows) → PutsBack base gap old (drop n ps)
 puts [] zero base gap old each = tt

@@ -14,7 +14,7 @@ use Rattle.block_map.specs.inside.StopLists.{AreRising, IsRowFor, MayBePut, Stop
 use Rattle.block_map.specs.inside.Without.{IsRising, without}
 use Rattle.block_map.proofs.EditMoves.{stop_at}
 use Rattle.block_map.proofs.LeftOut.{one-more, put-in}
-use Rattle.block_map.proofs.StopCarries.{IsKeptFrom, before-at, clear-next, fits-less, grown-lines, grown-more, grown-next, rest-of, shrunk-less, shrunk-lines}
+use Rattle.block_map.proofs.StopCarries.{IsKeptFrom, clear-next, fits-less, grown-lines, grown-more, grown-next, rest-of, shrunk-less, shrunk-lines}
 use Rattle.block_map.proofs.StopSizes.{fit-left, rise-left, row-for}
 
 module _ {X : Type 0} where
@@ -153,9 +153,6 @@ module _ (bias : Bias) (es : List Edit) (p : IsPatch es) (ss : List Stop) (i : �
       map-map (moved_stop bias e.new_start e.new_start (added_count e)) (grown bias (take i es)) ss
       ∙ map-same (λ (s : Stop). moved_stop bias e.new_start e.new_start (added_count e) (grown bias (take i es) s)) (grown bias (take (i + 1) es))
       (λ s. sym (ap (λ (l : List Edit). grown bias l s) (take-get es i e is) ∙ grown-next bias (take i es) [] e s)) ss
-
-  pub grown-clear : AreClear bias e.new_start e.new_start (map (grown bias (take i es)) ss)
-  grown-clear = λ k d lt before. before-at bias e.new_start (get_or (map (grown bias (take i es)) ss) k d) before
 
   pub grown-fits : AreRising 0 (map (grown bias es) ss) → StopsFit (map (grown bias es) ss) → StopsFit (map (moved_stop bias e.new_start e.new_start (added_count e)) (map (grown bias (take i es)) ss))
   grown-fits rise fit =

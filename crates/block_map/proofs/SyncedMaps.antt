@@ -26,6 +26,7 @@ use Rattle.block_map.proofs.RowBounds.{end-boundary, start-boundary}
 use Rattle.block_map.proofs.BlockRows.{rows-agree}
 use Rattle.block_map.proofs.RowsOfBlocks.{line-within}
 use Rattle.block_map.proofs.ShownStops.{heights-placed, placed-stops}
+use Rattle.block_map.proofs.SortedTests.{any-sort}
 
 -- ---- moved blocks
 
@@ -44,26 +45,13 @@ heights-moved : (shift : Option Shift) (ks : List Kept) → block_height (moved_
 heights-moved None ks = refl
 heights-moved (Some s) ks = heights-sort s ks
 
-any-insert : (id : ℕ) (k : Kept) (ks : List Kept) → is_kept id (insert_by kept_le k ks) ≡ ((k.id == id) || is_kept id ks)
-any-insert id k [] = refl
-any-insert id k (l ∷ ks) = go (kept_le k l) (any-insert id k ks) where
-  swap : (a b c : Bool) → (b || (a || c)) ≡ (a || (b || c))
-  swap true true c = refl
-  swap true false c = refl
-  swap false true c = refl
-  swap false false c = refl
-
-  go : (b : Bool) → is_kept id (insert_by kept_le k ks) ≡ ((k.id == id) || is_kept id ks) → is_kept id (cond b (k ∷ l ∷ ks) (l ∷ insert_by kept_le k ks)) ≡ ((k.id == id) || ((l.id == id) || is_kept id ks))
-  go true r = refl
-  go false r = ap (λ (b : Bool). (l.id == id) || b) r ∙ swap (k.id == id) (l.id == id) (is_kept id ks)
-
-any-sort : (id : ℕ) (s : Shift) (ks : List Kept) → is_kept id (sort_by kept_le (map (move_kept s) ks)) ≡ is_kept id ks
-any-sort id s [] = refl
-any-sort id s (k ∷ ks) = any-insert id (move_kept s k) (sort_by kept_le (map (move_kept s) ks)) ∙ ap (λ (b : Bool). (k.id == id) || b) (any-sort id s ks)
+any-moving : (id : ℕ) (s : Shift) (ks : List Kept) → is_kept id (map (move_kept s) ks) ≡ is_kept id ks
+any-moving id s [] = refl
+any-moving id s (k ∷ ks) = ap (λ (b : Bool). (k.id == id) || b) (any-moving id s ks)
 
 any-moved : (id : ℕ) (shift : Option Shift) (ks : List Kept) → is_kept id (moved_kept shift ks) ≡ is_kept id ks
 any-moved id None ks = refl
-any-moved id (Some s) ks = any-sort id s ks
+any-moved id (Some s) ks = any-sort kept_le (λ (k : Kept). k.id == id) (map (move_kept s) ks) ∙ any-moving id s ks
 
 any-placed : (id : ℕ) (source : Source) (lines : List (List (List ℕ))) (side : Side) (ks : List Kept) → is_kept id (map (placed source lines side) ks) ≡ is_kept id ks
 any-placed id source lines side [] = refl

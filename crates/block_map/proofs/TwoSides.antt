@@ -14,19 +14,7 @@ use Rattle.mark_tree.proofs.Sorting.{every-insert, length-insert}
 use Rattle.mark_tree.proofs.Changing.{all-from_every, every-from_all}
 use Rattle.block_map.specs.Maps.{BlockState, Kept, added, has_block, kept_le, removed, state_of, without}
 use Rattle.block_map.specs.inside.TwoSides.{IsState, WasAtLine, is_kept, on_side}
-
-any-insert : (k : Kept) (id : ℕ) (ks : List Kept) → is_kept id (insert_by kept_le k ks) ≡ ((k.id == id) || is_kept id ks)
-any-insert k id [] = refl
-any-insert k id (l ∷ ks) = go (kept_le k l) (any-insert k id ks) where
-  swap : (c d r : Bool) → (c || (d || r)) ≡ (d || (c || r))
-  swap true true r = refl
-  swap true false r = refl
-  swap false true r = refl
-  swap false false r = refl
-
-  go : (b : Bool) → is_kept id (insert_by kept_le k ks) ≡ ((k.id == id) || is_kept id ks) → is_kept id (cond b (k ∷ l ∷ ks) (l ∷ insert_by kept_le k ks)) ≡ ((k.id == id) || ((l.id == id) || is_kept id ks))
-  go true r = refl
-  go false r = ap (λ (c : Bool). (l.id == id) || c) r ∙ swap (l.id == id) (k.id == id) (is_kept id ks)
+use Rattle.block_map.proofs.SortedTests.{any-insert}
 
 any-without : (id other : ℕ) (ks : List Kept) → is_kept id ks ≡ false → is_kept id (without other ks) ≡ false
 any-without id other [] e = refl
@@ -63,7 +51,7 @@ on-neither id s e Below = (neither (is_kept id s.above) (is_kept id s.below) e).
 
 -- a new id on one side
 new-apart : (k : Kept) (ks ls : List Kept) → ((id : ℕ) → is_kept id ks ≡ true → is_kept id ls ≡ false) → is_kept k.id ls ≡ false → (id : ℕ) → is_kept id (insert_by kept_le k ks) ≡ true → is_kept id ls ≡ false
-new-apart k ks ls apart new id e = go (k.id == id) refl (sym (any-insert k id ks) ∙ e) where
+new-apart k ks ls apart new id e = go (k.id == id) refl (sym (any-insert kept_le (λ (k : Kept). k.id == id) k ks) ∙ e) where
   go : (b : Bool) → (k.id == id) ≡ b → (b || is_kept id ks) ≡ true → is_kept id ls ≡ false
   go true is f = ap (λ (n : ℕ). is_kept n ls) (sym (eqb-true k.id id is)) ∙ new
   go false is f = apart id f

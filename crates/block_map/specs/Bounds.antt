@@ -57,12 +57,12 @@ SearchesBoth n old new = 5 * new ≤ 5 * old + (n + 10)
 abbrev pub TakesOneEach : (ℕ → ℕ) → ℕ → ℕ → ℕ → Type 0
 TakesOneEach cost n old new = (h : ℕ) → n < 2 * 6 ^ (h + 1) → new ≤ old + (n + cost h)
 
--- on its side a mark and an anchor are put in or taken out, and a stop
+-- on its side the marks follow the last replacement, a mark and an anchor are put in or taken out, and a stop
 abbrev pub altering_side : ℕ → ℕ
-altering_side h = 571 * (h + 1)
+altering_side h = 741 * (h + 1)
 
 abbrev pub altering : ℕ → ℕ
-altering h = 574 * (h + 1)
+altering h = 744 * (h + 1)
 
 -- ---- a `sync`
 
@@ -74,10 +74,15 @@ seeking h = 35 * (h + 1)
 abbrev pub gathering : ℕ → ℕ → ℕ → ℕ
 gathering anchors edits h = (35 * anchors + 2 * edits + 2) * (h + 1)
 
--- of one side so many blocks are shown anew, and so many edits move the others
+-- the replacement moves marks, of which it meets some, so many stops are made anew, and so many edits carry the others
+abbrev pub remaking : ℕ → ℕ → ℕ → ℕ → ℕ
+remaking met anew edits h = (170 * met + 341 * anew + 340 * edits + 170) * (h + 1)
+
+-- of one side the marks follow the replacement before and then this one, so many blocks are shown anew, and so many edits move
+-- the others
 abbrev pub syncing_side : ℕ → ℕ → ℕ → ℕ
-syncing_side anew edits h = (546 * anew + 342 * edits + 172) * (h + 1)
+syncing_side anew edits h = (546 * anew + 342 * edits + 342) * (h + 1)
 
 -- of both sides together
 abbrev pub syncing : ℕ → ℕ → ℕ → ℕ
-syncing anew edits h = (546 * anew + 684 * edits + 344) * (h + 1)
+syncing anew edits h = (546 * anew + 684 * edits + 684) * (h + 1)

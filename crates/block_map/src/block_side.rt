@@ -11,6 +11,7 @@ ghost use Rattle.cell_units.specs.declared.place.Bias.TheVariants.{Right};
 ghost use Rattle.mark_tree.specs.Marks.{mark_with};
 
 use crate::block_lines::BlockLines;
+use crate::block_marks::BlockMarks;
 use crate::marks_by_id::{with_new, without_any, without_known};
 use crate::stops::Stops;
 use cell_units::{Bias, NoMemory, Steps};
@@ -23,7 +24,7 @@ use sum_core::NoLoad;
 /// blocks in order, each with how many rows of text stood before its own when it was shown.
 #[derive(Drop)]
 pub(crate) struct BlockSide {
-    pub(crate) marks: MarkTree<BlockLines>,
+    pub(crate) marks: BlockMarks,
     pub(crate) stops: Stops,
     pub(crate) added: MarkTree<NoLoad>,
 }
@@ -46,7 +47,7 @@ impl BlockSide {
         ensures { result ≡ [] }
     {
         BlockSide {
-            marks: MarkTree::new(alloc),
+            marks: BlockMarks::new(alloc),
             stops: Stops::new(alloc),
             added: MarkTree::new(alloc),
         }
@@ -99,15 +100,16 @@ impl BlockSide {
         ensures counted { steps.old ≤ steps.new }
         ensures steps { SearchesTwice altering_side (length self.old + 1) steps.old steps.new }
     {
+        let settled = self.marks.settled(alloc, steps)?;
         // Marks are in order, of distinct ids.
-        let _marks = self.marks.len();
+        let _marks = settled.len();
         let block = mark(offset, id, lines);
-        let (at, marks) = with_new(&self.marks, alloc, block, steps)?;
+        let (at, marks) = with_new(&settled, alloc, block, steps)?;
         let stops = self.stops.with_none(alloc, at, steps)?;
         let anchor = mark(offset, id, NoLoad);
         let (_, added) = with_new(&self.added, alloc, anchor, steps)?;
         *self = BlockSide {
-            marks,
+            marks: BlockMarks::of(marks),
             stops,
             added,
         };
@@ -122,13 +124,14 @@ impl BlockSide {
         ensures counted { steps.old ≤ steps.new }
         ensures steps { SearchesTwice altering_side (length self.old) steps.old steps.new }
     {
+        let settled = self.marks.settled(alloc, steps)?;
         // Marks are in order, of distinct ids.
-        let _marks = self.marks.len();
-        let (at, marks) = without_known(&self.marks, alloc, id, steps)?;
+        let _marks = settled.len();
+        let (at, marks) = without_known(&settled, alloc, id, steps)?;
         let stops = self.stops.without(alloc, at, steps)?;
         let added = without_any(&self.added, alloc, id, steps)?;
         *self = BlockSide {
-            marks,
+            marks: BlockMarks::of(marks),
             stops,
             added,
         };

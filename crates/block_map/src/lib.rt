@@ -4,6 +4,7 @@
 mod anew;
 mod block_lines;
 mod block_map;
+mod block_marks;
 mod block_side;
 mod given_lines;
 mod laws;

@@ -60,9 +60,9 @@ impl<R: Rows> BlockMap<R> {
         Ok(shown)
     }
 
-    /// The map after it.
+    /// The map after it. This one stays as it is, with its marks moved by the replacements before.
     fn after<P: Layer>(
-        &self,
+        &mut self,
         alloc: Global,
         layer: &P,
         shift: Option<Shift>,
@@ -70,11 +70,12 @@ impl<R: Rows> BlockMap<R> {
         row_edits: &Patch,
         steps: &mut Steps,
     ) -> Result<BlockMap<R>, NoMemory>
-        requires { IsFollowed (P.source layer.now) shift row_edits.now (R.shown rows) self.now }
+        requires { IsFollowed (P.source layer.now) shift row_edits.now (R.shown rows) self.old }
         ensures ok { let source = P.source layer.now in
-            IfOk result (λ m. m ≡ synced source shift (R.shown rows) self.now) }
+            IfOk result (λ m. m ≡ synced source shift (R.shown rows) self.old) }
+        ensures kept { self.new ≡ self.old }
         ensures counted { steps.old ≤ steps.new }
-        ensures steps { SyncsAtMost shift row_edits.now self.now steps.old steps.new }
+        ensures steps { SyncsAtMost shift row_edits.now self.old steps.old steps.new }
     {
         // The layer is lawful.
         let _len = layer.buffer_len();

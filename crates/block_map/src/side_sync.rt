@@ -1,17 +1,23 @@
 //! The blocks of one side after a replacement of the text and edits of rows.
-ghost use Rattle.std.specs.Prelude.{◌≡◌, ◌^◌, ◌<◌, ◌≤◌, [], length, map, IfOk};
+ghost use Rattle.std.specs.Prelude.{◌≡◌, ◌*◌, ◌^◌, ◌<◌, ◌≤◌, [], length, map, IfOk};
 ghost use Rattle.std.specs.List.{All};
+ghost use Rattle.edit_patch.specs.Patch.{IsPatch};
 ghost use Rattle.mark_tree.specs.Bounds.{moving};
 ghost use Rattle.sum_tree.specs.Bounds.{TakesAtMost};
+ghost use Rattle.block_map.specs.Bounds.{putting, remaking};
 ghost use Rattle.block_map.specs.Carried.{SyncsSideAtMost};
 ghost use Rattle.block_map.specs.Maps.{moved_kept, placed};
-ghost use Rattle.block_map.specs.inside.SideMoves.{IsSideFollowed, IsUnmet, bias_of, marks_after, met_count};
+ghost use Rattle.block_map.specs.inside.RowMoves.{MayBeMoved, carried};
+ghost use Rattle.block_map.specs.inside.SideMoves.{IsSideFollowed, MayBeRemade, MayFollow, bias_of, marks_after, met_count, stops_of_marks};
+ghost use Rattle.block_map.specs.inside.Sides.{IsSide, kept_of};
 
 use crate::anew::places_anew;
 use crate::block_lines::BlockLines;
+use crate::block_marks::BlockMarks;
 use crate::block_side::BlockSide;
+use crate::stops::Stops;
 use cell_units::{Bias, Layer, NoMemory, Rows, Shift, Side, Steps};
-use edit_patch::Patch;
+use edit_patch::{Edit, Patch};
 use mark_tree::MarkTree;
 use std::alloc::Global;
 
@@ -25,43 +31,101 @@ fn bias_of(side: Side) -> Bias
     }
 }
 
-/// The marks after a replacement, if there was one. `places` are those of the stops that are made anew: where there is none, no mark
-/// is met, and a replacement that keeps the length of the text moves none.
-fn marks_after(
+/// The marks after a replacement, if there was one.
+fn moved(
     alloc: Global,
-    marks: &MarkTree<BlockLines>,
-    places: &[u32],
+    mut marks: MarkTree<BlockLines>,
     shift: Option<Shift>,
     steps: &mut Steps,
 ) -> Result<MarkTree<BlockLines>, NoMemory>
-    requires offsets { All (λ m. m.offset < 2 ^ 32) (marks_after shift marks.now) }
-    requires unmet { places.now ≡ [] → All (IsUnmet shift) marks.now }
-    ensures ok { IfOk result (λ after. after ≡ marks_after shift marks.now) }
+    requires { All (λ m. m.offset < 2 ^ 32) (marks_after shift marks) }
+    ensures ok { IfOk result (λ after. after ≡ marks_after shift marks) }
     ensures counted { steps.old ≤ steps.new }
-    ensures steps { let met = met_count shift marks.now in
-        TakesAtMost (moving met) (length marks.now) steps.old steps.new }
+    ensures steps { let met = met_count shift marks in
+        TakesAtMost (moving met) (length marks) steps.old steps.new }
 {
     match shift {
-        None => marks.share(),
+        None => Ok(marks),
         Some(shift) => {
-            // Marks are in order.
-            let _count = marks.len();
-            if places.is_empty() && shift.count == shift.end - shift.start {
-                return marks.share();
-            }
-            let mut after = marks.share()?;
-            after.apply(alloc, shift, steps)?;
-            Ok(after)
+            marks.apply(alloc, shift, steps)?;
+            Ok(marks)
         }
     }
+}
+
+/// The blocks where no stop is made anew: edits carry all stops, and the replacement meets no mark.
+fn all_carried(
+    alloc: Global,
+    marks: MarkTree<BlockLines>,
+    stops: &Stops,
+    side: Side,
+    shift: Option<Shift>,
+    edits: &[Edit],
+    steps: &mut Steps,
+) -> Result<BlockSide, NoMemory>
+    requires follow { MayFollow shift marks }
+    requires patch { IsPatch edits.now }
+    requires stops { MayBeMoved (bias_of side) edits.now stops.now }
+    requires side { let carried = map (carried (bias_of side) edits.now) stops.now in
+        IsSide (marks_after shift marks) carried [] }
+    ensures ok { let carried = map (carried (bias_of side) edits.now) stops.now in
+        IfOk result (λ s. s ≡ kept_of (marks_after shift marks) carried) }
+    ensures counted { steps.old ≤ steps.new }
+    ensures steps { let count = length edits.now in
+        TakesAtMost (λ h. 2 * count * putting h) (length stops.now) steps.old steps.new }
+{
+    let mut stops = stops.share()?;
+    stops.carry(alloc, bias_of(side), edits, steps)?;
+    Ok(BlockSide {
+        marks: BlockMarks::behind(marks, shift),
+        stops,
+        added: MarkTree::new(alloc),
+    })
+}
+
+/// The blocks where the stops of some places are made anew, each at the line of its mark, and edits carry the others.
+fn some_anew<P: Layer, R: Rows>(
+    alloc: Global,
+    marks: MarkTree<BlockLines>,
+    stops: &Stops,
+    places: &[u32],
+    side: Side,
+    layer: &P,
+    shift: Option<Shift>,
+    rows: &R,
+    edits: &[Edit],
+    steps: &mut Steps,
+) -> Result<BlockSide, NoMemory>
+    requires offsets { All (λ m. m.offset < 2 ^ 32) (marks_after shift marks) }
+    requires patch { IsPatch edits.now }
+    requires remade { let source = P.source layer.now in let lines = R.shown rows.now in
+        MayBeRemade source shift edits.now lines side places.now marks stops.now }
+    ensures ok { let source = P.source layer.now in let after = marks_after shift marks in
+        let stops = stops_of_marks source (R.shown rows.now) side after in
+        IfOk result (λ s. s ≡ kept_of after stops) }
+    ensures counted { steps.old ≤ steps.new }
+    ensures steps { let met = met_count shift marks in
+        let cost = remaking met (length places.now) (length edits.now) in
+        TakesAtMost cost (length marks) steps.old steps.new }
+{
+    let marks = moved(alloc, marks, shift, steps)?;
+    let mut stops = stops.share()?;
+    stops.take_out(alloc, places, steps)?;
+    stops.carry(alloc, bias_of(side), edits, steps)?;
+    stops.put_in(alloc, places, &marks, layer, rows, side, steps)?;
+    Ok(BlockSide {
+        marks: BlockMarks::of(marks),
+        stops,
+        added: MarkTree::new(alloc),
+    })
 }
 
 impl BlockSide {
     /// The blocks after a replacement of the text, if there was one, each shown at its line of the new layer and rows. Stops are
     /// made anew where the replacement meets the mark, where nothing was shown yet, and at lines of which an edit replaces a row;
-    /// all others move with the edits of rows.
+    /// all others move with the edits of rows. These blocks stay as they are, with their marks moved by the replacements before.
     pub(crate) fn synced<P: Layer, R: Rows>(
-        &self,
+        &mut self,
         alloc: Global,
         side: Side,
         layer: &P,
@@ -72,23 +136,25 @@ impl BlockSide {
         steps: &mut Steps,
     ) -> Result<BlockSide, NoMemory>
         requires { let source = P.source layer.now in let lines = R.shown old.now in
-            IsSideFollowed source shift edits.now lines (R.shown rows.now) side self.now }
+            IsSideFollowed source shift edits.now lines (R.shown rows.now) side self.old }
         ensures ok { let source = P.source layer.now in
-            let moved = moved_kept shift self.now in
+            let moved = moved_kept shift self.old in
             IfOk result (λ s. s ≡ map (placed source (R.shown rows.now) side) moved) }
+        ensures kept { self.new ≡ self.old }
         ensures counted { steps.old ≤ steps.new }
         ensures steps { let lines = R.shown old.now in
-            SyncsSideAtMost shift edits.now lines side self.now steps.old steps.new }
+            SyncsSideAtMost shift edits.now lines side self.old steps.old steps.new }
     {
         // The text's length is a u32, each line has a row, and marks are in order.
         let _len = layer.buffer_len();
         let _lines = old.lines();
-        let _count = self.marks.len();
+        let marks = self.marks.settled(alloc, steps)?;
+        let _count = marks.len();
         let _rising = self.stops.len();
         let edits = edits.edits();
         let places = places_anew(
             alloc,
-            &self.marks,
+            &marks,
             &self.stops,
             &self.added,
             side,
@@ -98,16 +164,20 @@ impl BlockSide {
             steps,
         )?;
         let places = places.as_slice();
-        let marks = marks_after(alloc, &self.marks, places, shift, steps)?;
-        let _after = marks.len();
-        let mut stops = self.stops.share()?;
-        stops.take_out(alloc, places, steps)?;
-        stops.carry(alloc, bias_of(side), edits, steps)?;
-        stops.put_in(alloc, places, &marks, layer, rows, side, steps)?;
-        Ok(BlockSide {
+        if places.is_empty() {
+            return all_carried(alloc, marks, &self.stops, side, shift, edits, steps);
+        }
+        some_anew(
+            alloc,
             marks,
-            stops,
-            added: MarkTree::new(alloc),
-        })
+            &self.stops,
+            places,
+            side,
+            layer,
+            shift,
+            rows,
+            edits,
+            steps,
+        )
     }
 }

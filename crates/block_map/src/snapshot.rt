@@ -1,14 +1,14 @@
 //! What a block map shows at one moment.
-ghost use Rattle.std.specs.Prelude.{◌≡◌, ◌==◌, ◌+◌, ◌-◌, ◌*◌, ◌^◌, ◌<◌, ◌≤◌, if◌then◌else◌, IfOk, Some, length, max, slice_get};
+ghost use Rattle.std.specs.Prelude.{ℕ, ◌≡◌, ◌==◌, ◌+◌, ◌-◌, ◌*◌, ◌^◌, ◌<◌, ◌≤◌, if◌then◌else◌, IfOk, IfSome, IsSome, Some, length, max, slice_get};
 ghost use Rattle.cell_units.specs.declared.place.Bias.TheVariants.{Left};
 ghost use Rattle.cell_units.specs.Rows.{all_rows, line_rows};
 ghost use Rattle.plain_rows.specs.Rows.{head_kind, more_kind};
 ghost use Rattle.sum_tree.specs.Bounds.{way};
-ghost use Rattle.block_map.specs.Between.{IsTextAt, block_row, place_of_row, rows_between};
+ghost use Rattle.block_map.specs.Between.{Between, IsTextAt, block_row, place_of_row, rows_between};
 ghost use Rattle.block_map.specs.Bounds.{TakesBetween, both_ways, finding, locating, reading, zoning};
 ghost use Rattle.block_map.specs.ShownRows.{letter_of, row_of_shown, shown_row};
 ghost use Rattle.block_map.specs.Stops.{rows_upto, texts_at};
-ghost use Rattle.block_map.specs.inside.Seekings.{IsPlace, IsWindow};
+ghost use Rattle.block_map.specs.inside.Seekings.{IsPlace, IsWindow, IsZoneStart};
 ghost use Rattle.block_map.specs.inside.Zones.{IsBetween, IsInZone, text_row, zone, zone_start};
 
 use crate::shown::{Kind, Shown};
@@ -43,20 +43,53 @@ impl<R: Rows> Model for BlockSnapshot<R> {
 }
 
 /// Where a row lies: in the zone of which text row, and how far in it. Before that zone the stops above lines have `above` rows,
-/// and those below lines `below`.
+/// and those below lines `below`. Where the zone is known to have no row of a block it is `plain`.
 #[derive(Clone, Copy)]
 pub(crate) struct Place {
     pub(crate) text_row: u32,
     pub(crate) at: u32,
     pub(crate) above: u32,
     pub(crate) below: u32,
+    pub(crate) plain: bool,
 }
 
-/// The row at which a zone begins, and how many rows the stops above lines have before it.
+/// The row at which a zone begins. Before it there are `blocks` rows of blocks, and `above` of these stand above lines. There are
+/// as many before the zone of each text row from `from` on before `to`.
 #[derive(Clone, Copy)]
 struct ZoneStart {
     row: u32,
+    blocks: u32,
     above: u32,
+    from: u64,
+    to: u64,
+}
+
+impl ZoneStart {
+    /// The place of a row, if it is the first of its zone and the look tells how many rows of blocks stand before that.
+    fn place_of(self, row: u32) -> Option<Place>
+        requires { self.above ≤ self.blocks }
+        ensures told { (t : ℕ) → self.from ≤ t → t < self.to → t + self.blocks ≡ row →
+            IsSome result }
+        ensures place { (b : Between) (t : ℕ) → IsZoneStart b t self →
+            IsBetween b → row < length (rows_between b) →
+            IfSome result (λ p. IsInZone b row p.text_row p.at × IsPlace b p) }
+    {
+        if row < self.blocks {
+            return None;
+        }
+        let text_row = row - self.blocks;
+        let behind = text_row as u64 + 1;
+        if behind <= self.from || self.to < behind {
+            return None;
+        }
+        Some(Place {
+            text_row,
+            at: 0,
+            above: self.above,
+            below: self.blocks - self.above,
+            plain: behind < self.to,
+        })
+    }
 }
 
 impl<R: Rows> BlockSnapshot<R> {
@@ -90,18 +123,21 @@ impl<R: Rows> BlockSnapshot<R> {
     /// Where a zone begins.
     fn zone_start(&self, text_row: u32, steps: &mut Steps) -> ZoneStart
         requires { text_row ≤ length (all_rows self.now.lines) }
-        ensures start { result.row ≡ zone_start self.now text_row }
-        ensures above { result.above ≡ rows_upto Left text_row self.now.above }
+        ensures start { IsZoneStart self.now text_row result }
         ensures counted { steps.old ≤ steps.new }
         ensures steps { TakesBetween both_ways self.now steps.old steps.new }
     {
         // All rows together are a u32.
         let _count = self.text_rows();
-        let above = self.above.rows_upto(text_row, Bias::Left, steps);
-        let below = self.below.rows_upto(text_row, Bias::Right, steps);
+        let above = self.above.look(text_row, Bias::Left, steps);
+        let below = self.below.look(text_row, Bias::Right, steps);
+        let blocks = above.rows + below.rows;
         ZoneStart {
-            row: text_row + above + below,
-            above,
+            row: text_row + blocks,
+            blocks,
+            above: above.rows,
+            from: above.from.max(below.from),
+            to: above.to.min(below.to),
         }
     }
 
@@ -126,32 +162,33 @@ impl<R: Rows> BlockSnapshot<R> {
         'seek: while window.next < window.high {
             room /= 2;
             let guess = window.guess(row, room);
-            window = self.narrowed(window, guess, row, steps);
+            let start = self.zone_start(guess, steps);
+            if let Some(place) = start.place_of(row) {
+                return place;
+            }
+            window = self.narrowed(window, guess, start, row);
         }
         Place {
             text_row: window.low,
             at: row - window.start,
             above: window.above,
             below: window.start - window.low - window.above,
+            plain: false,
         }
     }
 
     /// The window that a look at the start of a zone leaves. A text row farther is at least a row farther: so it is cut at both
     /// ends.
-    fn narrowed(&self, window: Window, guess: u32, row: u32, steps: &mut Steps) -> Window
+    fn narrowed(&self, window: Window, guess: u32, start: ZoneStart, row: u32) -> Window
         requires window { IsWindow self.now row window }
         requires from { window.next ≤ guess }
         requires upto { guess < window.high }
+        requires start { IsZoneStart self.now guess start }
         ensures window { IsWindow self.now row result }
         ensures cut { let before = guess - window.next in
             let behind = window.high - (guess + 1) in
             result.high - result.next ≤ max before behind }
-        ensures counted { steps.old ≤ steps.new }
-        ensures steps { TakesBetween both_ways self.now steps.old steps.new }
     {
-        // Each zone has a row.
-        let _count = self.text_rows();
-        let start = self.zone_start(guess, steps);
         if start.row > row {
             let first = guess - (start.row - row).min(guess);
             return Window {
@@ -279,8 +316,9 @@ impl<R: Rows> BlockSnapshot<R> {
         ensures counted { steps.old ≤ steps.new }
         ensures steps { TakesBetween way self.now steps.old steps.new }
     {
-        // All rows together are a u32.
-        let _count = self.text_rows();
+        if place.plain {
+            return 0;
+        }
         self.above.rows_at(place.text_row, place.above, steps)
     }
 
@@ -291,7 +329,10 @@ impl<R: Rows> BlockSnapshot<R> {
         ensures counted { steps.old ≤ steps.new }
         ensures steps { TakesBetween way self.now steps.old steps.new }
     {
-        // All rows together are a u32.
+        if place.plain {
+            return 0;
+        }
+        // Each text row is a u32.
         let _count = self.text_rows();
         self.below.rows_at(place.text_row + 1, place.below, steps)
     }

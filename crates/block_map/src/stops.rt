@@ -64,18 +64,16 @@ impl Stops {
 
     /// How many rows the stops have that stand before a place between rows of text.
     pub(crate) fn rows_upto(&self, row: u32, bias: Bias, steps: &mut Steps) -> u32
-        requires { row + rows_upto bias row self.now < 2 ^ 32 }
         ensures rows { result ≡ rows_upto bias row self.now }
         ensures counted { steps.old ≤ steps.new }
         ensures steps { TakesAtMost way (length self.now) steps.old steps.new }
     {
-        self.splices.to_upper::<ByRows>(row, bias, steps) - row
+        self.first_behind(row, bias, steps).rows
     }
 
     /// How many rows the stops behind so many rows of text have. `before` is how many the stops before them have.
     pub(crate) fn rows_at(&self, row: u32, before: u32, steps: &mut Steps) -> u32
-        requires fits { row + rows_upto Right row self.now < 2 ^ 32 }
-        requires before { before ≡ rows_upto Left row self.now }
+        requires { before ≡ rows_upto Left row self.now }
         ensures count { result ≡ length (texts_at row self.now) }
         ensures counted { steps.old ≤ steps.new }
         ensures steps { TakesAtMost way (length self.now) steps.old steps.new }
@@ -233,9 +231,31 @@ impl Stops {
 }
 
 impl Stops {
+    /// How many rows the stops have that stand before a place between rows of text, and which places near it have the same stops
+    /// before them. All of it is told by one way down.
+    pub(crate) fn look(&self, row: u32, bias: Bias, steps: &mut Steps) -> Look
+        ensures rows { result.rows ≡ rows_upto bias row self.now }
+        ensures same { (t : ℕ) → result.from ≤ t → t < result.to →
+            rows_upto bias t self.now ≡ result.rows }
+        ensures counted { steps.old ≤ steps.new }
+        ensures steps { TakesAtMost way (length self.now) steps.old steps.new }
+    {
+        // Rows don't fall.
+        let _count = self.len();
+        let found = self.first_behind(row, bias, steps);
+        let next = found.row.unwrap_or(ROWS_END).min(ROWS_END);
+        Look {
+            rows: found.rows,
+            from: first_place(found.before as u64, bias),
+            to: first_place(next, bias),
+        }
+    }
+
     /// The first stop that doesn't stand before a place between rows of text, or the end of all.
     fn first_behind(&self, row: u32, bias: Bias, steps: &mut Steps) -> FirstStop
         ensures within { result.index ≤ length self.now }
+        ensures rows { result.rows ≡ rows_upto bias row self.now }
+        ensures before { result.before ≡ last_row 0 (take result.index self.now) }
         ensures place { (k : ℕ) (s : Stop) → slice_get self.now k ≡ Some s →
             (k < result.index) ↔ (stands_before bias row s ≡ true) }
         ensures row { (d : Stop) →
@@ -247,6 +267,8 @@ impl Stops {
         let found = self.splices.find_lower::<ByRows>(row as u64, bias, steps);
         FirstStop {
             index: found.index,
+            rows: found.before.upper.rows - found.before.lower.rows,
+            before: found.before.lower.rows,
             row: row_in(found.splice, found.before.lower.rows),
         }
     }
@@ -311,11 +333,36 @@ impl Stops {
     }
 }
 
-/// A place among stops, and how many rows of text stand before the stop there, if there is one.
+/// More than there can be rows of text.
+const ROWS_END: u64 = u32::MAX as u64 + 1;
+
+/// How many rows the stops before a place between rows of text have. From one place up to another these are all the stops.
+#[derive(Clone, Copy)]
+pub(crate) struct Look {
+    pub(crate) rows: u32,
+    pub(crate) from: u64,
+    pub(crate) to: u64,
+}
+
+/// A place among stops: how many rows those before it have, the row of text of the last of them, or 0 where there is none, and
+/// that of the stop there, if there is one.
 #[derive(Clone, Copy)]
 struct FirstStop {
     index: u32,
+    rows: u32,
+    before: u32,
     row: Option<u64>,
+}
+
+/// The first place between rows of text that has a stop of a row before it.
+fn first_place(row: u64, bias: Bias) -> u64
+    requires { row < u64.MAX }
+    ensures { (t : ℕ) (s : Stop) → s.row ≡ row → (result ≤ t) ↔ (stands_before bias t s ≡ true) }
+{
+    match bias {
+        Bias::Left => row + 1,
+        Bias::Right => row,
+    }
 }
 
 /// How many rows of text stand before the stop of a splice, if there is one: it has `before` and its gap.

@@ -7,10 +7,11 @@ ghost use Rattle.block_map.specs.Between.{block_row, rows_between};
 ghost use Rattle.block_map.specs.Bounds.{TakesBetween, both_ways, walking};
 ghost use Rattle.block_map.specs.ShownRows.{shown_rows};
 ghost use Rattle.block_map.specs.Stops.{rows_upto, texts_at};
+ghost use Rattle.block_map.specs.inside.Seekings.{IsPlace};
 ghost use Rattle.block_map.specs.inside.Zones.{IsClear, IsInZone, texts_of_kinds};
 
 use crate::shown::Shown;
-use crate::snapshot::{BlockSnapshot, block_row, kind_of};
+use crate::snapshot::{BlockSnapshot, Place, block_row, kind_of};
 use crate::stops::Stops;
 use cell_units::{NoMemory, Rows, Steps, Text};
 use std::alloc::Global;
@@ -67,40 +68,66 @@ impl<R: Rows> BlockSnapshot<R> {
         let above = self.rows_above(place, steps);
         if place.at < above {
             let to = above.min(place.at + (end - row));
-            let text_row = place.text_row;
-            push_blocks(
-                alloc,
-                shown,
-                &self.above,
-                text_row,
-                place.above,
-                place.at,
-                to,
-                steps,
-            )?;
+            self.push_above(alloc, shown, place, to, steps)?;
             return Ok(row + (to - place.at));
         }
         if place.at > above {
-            let below = self.rows_below(place, steps);
             let from = place.at - above - 1;
-            let to = below.min(from + (end - row));
-            let text_row = place.text_row + 1;
-            push_blocks(
-                alloc,
-                shown,
-                &self.below,
-                text_row,
-                place.below,
-                from,
-                to,
-                steps,
-            )?;
+            let to = self.rows_below(place, steps).min(from + (end - row));
+            self.push_below(alloc, shown, place, from, to, steps)?;
             return Ok(row + (to - from));
         }
         let clear = self.clear_to(place.text_row, end - row, steps);
         let next = row + (clear - place.text_row);
         self.push_lines(alloc, shown, place.text_row, row, next)?;
         Ok(next)
+    }
+
+    /// Appends rows of the blocks above the line of a place, from the place itself up to another one of them.
+    fn push_above(
+        &self,
+        alloc: Global,
+        shown: &mut Vec<Shown>,
+        place: Place,
+        to: u32,
+        steps: &mut Steps,
+    ) -> Result<(), NoMemory>
+        requires place { IsPlace self.now place }
+        requires order { place.at ≤ to }
+        requires within { to ≤ length (texts_at place.text_row self.now.above) }
+        ensures rows { let texts = texts_at place.text_row self.now.above in
+            OnOk result (shown_rows shown.new.items ≡ shown_rows shown.old.items
+            ++ map block_row (take (to - place.at) (drop place.at texts))) }
+        ensures counted { steps.old ≤ steps.new }
+        ensures steps { TakesBetween (λ h. (to - place.at) * way h) self.now steps.old steps.new }
+    {
+        let (row, before) = (place.text_row, place.above);
+        push_blocks(alloc, shown, &self.above, row, before, place.at, to, steps)
+    }
+
+    /// Appends rows of the blocks below the line of a place, from one of them up to another.
+    fn push_below(
+        &self,
+        alloc: Global,
+        shown: &mut Vec<Shown>,
+        place: Place,
+        from: u32,
+        to: u32,
+        steps: &mut Steps,
+    ) -> Result<(), NoMemory>
+        requires place { IsPlace self.now place }
+        requires order { from ≤ to }
+        requires within { to ≤ length (texts_at (place.text_row + 1) self.now.below) }
+        ensures rows { let texts = texts_at (place.text_row + 1) self.now.below in
+            OnOk result (shown_rows shown.new.items ≡ shown_rows shown.old.items
+            ++ map block_row (take (to - from) (drop from texts))) }
+        ensures counted { steps.old ≤ steps.new }
+        ensures steps { TakesBetween (λ h. (to - from) * way h) self.now steps.old steps.new }
+    {
+        // Each text row is a u32.
+        let _count = self.text_rows();
+        let (row, before) = (place.text_row + 1, place.below);
+        push_blocks(alloc, shown, &self.below, row, before, from, to, steps)
     }
 
     /// The end of the text rows from one on, at most so many, between which no block stands.

@@ -14,10 +14,10 @@ pub fn worked_rows()
         ≡ block_row (codes "x") ∷ block_row (codes "y") ∷ head (codes "abc") ∷ [] }
     ensures blocks_between { let note = block 0 2 Below (codes "note" ∷ []) in
         let rules = block 2 1 Above (codes "==" ∷ codes "--" ∷ []) in
-        rows_shown (97 ∷ 10 ∷ 98 ∷ []) [] (note ∷ rules ∷ []) (codes "a" ∷ codes "b" ∷ [])
+        rows_shown (codes "a\nb") [] (note ∷ rules ∷ []) (codes "a" ∷ codes "b" ∷ [])
         ≡ head (codes "a") ∷ block_row (codes "note") ∷ block_row (codes "==")
         ∷ block_row (codes "--") ∷ head (codes "b") ∷ [] }
-    ensures block_at_placeholder { let text = 97 ∷ 10 ∷ 98 ∷ 10 ∷ 99 ∷ [] in
+    ensures block_at_placeholder { let text = codes "a\nb\nc" in
         let line = codes "a" ++ placeholder ++ codes "c" in
         let blocks = block 2 1 Above (codes "-- b" ∷ []) ∷ [] in
         rows_shown text (fold 1 4 1 ∷ []) blocks (line ∷ [])

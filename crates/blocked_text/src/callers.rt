@@ -42,12 +42,16 @@ pub fn show<P: Layer, R: Rows>(
     requires equal { length (shown_lines (P.source layer.now)) ≡ length (R.shown rows) }
     requires few { length (all_rows (R.shown rows)) ≤ 2 ^ 31 }
     requires stands { StandsOn (P.source layer.now) (R.shown rows) blocks.old }
+
+    // What is shown, and what is there after it.
     ensures shown { let source = P.source layer.now in
         IfOk result (λ made. IsShown source None (R.shown rows) blocks.old made.blocks) }
     ensures rows { IfOk result (λ made. R.shown made.rows ≡ R.shown rows) }
     ensures blocks { let source = P.source layer.now in
         OnOk result (blocks.new ≡ synced source None (R.shown rows) blocks.old) }
     ensures stands { OnOk result (StandsOn (P.source layer.now) (R.shown rows) blocks.new) }
+
+    // What stays, and the work.
     ensures unchanged { OnErr result (blocks.new ≡ blocks.old) }
     ensures counted { steps.old ≤ steps.new }
 {
@@ -69,6 +73,8 @@ pub fn replace(
     steps: &mut Steps,
 ) -> Result<Replaced, Fault>
     requires stands { StandsUnder text.old.rope text.old.map.standing blocks.old }
+
+    // What is there after it.
     ensures range { OnOk result (IsRange text.old.rope start end) }
     ensures small { OnOk result (length text.new.rope ≤ TEXT_LIMIT) }
     ensures text { let made = replaced_text text.old.rope start end (clean put.now) in
@@ -77,14 +83,20 @@ pub fn replace(
     ensures rows { let old = text.old.map in IfOk result (λ made.
         let standing = standing_after old.standing text.new.lines made.lines in
         text.new.map ≡ record old { standing = standing }) }
+
+    // What is shown.
     ensures shown { let count = length (clean put.now) in let new = text.new in
         let standing = new.map.standing in
         IfOk result (λ made.
         IsShownAfter new.rope start end count standing blocks.old blocks.new made.shown.blocks) }
     ensures stands { OnOk result (StandsUnder text.new.rope text.new.map.standing blocks.new) }
+
+    // When it is refused, and what stays then.
     ensures refused { IfErr result (IsReplaceFault text.old.rope start end (clean put.now)) }
     ensures unchanged { OnErr result (text.new ≡ text.old) }
     ensures kept { OnErr result (blocks.new ≡ blocks.old) }
+
+    // The work.
     ensures counted { steps.old ≤ steps.new }
 {
     let bytes = text.rope.len();
@@ -123,17 +135,23 @@ pub fn land(
     requires since { Fits since.now taken.now text.old.lines }
     requires within { run.first + run.count ≤ length taken.now }
     requires wraps { map (λ cuts. cuts.items) wraps.now ≡ cuts_of_run taken.now run width }
+
+    // What is there after it.
     ensures landed { let old = text.old.map in
         let standing = standing_landed since.now run old.width old.standing in
         width ≡ old.width → OnOk result (text.new.map ≡ record old { standing = standing }) }
     ensures other_width { width ≢ text.old.map.width → text.new.map ≡ text.old.map }
     ensures text { text.new.rope ≡ text.old.rope }
     ensures lines { text.new.lines ≡ text.old.lines }
+
+    // What is shown.
     ensures shown { IfOk result (λ made.
         IsShownOf text.new.rope text.new.map.standing blocks.old made.blocks) }
     ensures blocks { let standing = text.new.map.standing in
         OnOk result (blocks.new ≡ synced_with text.new.rope standing blocks.old) }
     ensures stands { OnOk result (StandsUnder text.new.rope text.new.map.standing blocks.new) }
+
+    // What stays, and the work.
     ensures unchanged { OnErr result (text.new ≡ text.old) }
     ensures kept { OnErr result (blocks.new ≡ blocks.old) }
     ensures counted { steps.old ≤ steps.new }

@@ -1,5 +1,5 @@
 -- What a `sync` makes of the blocks of one side, and what it asks of them.
-use Rattle.std.specs.Prelude.{◌≡◌, ℕ, ◌+◌, ◌<◌, ◌^◌, ◌⊎◌, false, List, count_by, length, map, Option, Some, None, slice_get}
+use Rattle.std.specs.Prelude.{◌≡◌, ℕ, ◌+◌, ◌<◌, ◌^◌, ◌⊎◌, false, List, [], count_by, length, map, Option, Some, None, slice_get}
 use Rattle.std.specs.List.{All, Contains}
 use Rattle.cell_units.specs.declared.place.Bias.{Bias}
 use Rattle.cell_units.specs.declared.place.Bias.TheVariants.{Left, Right}
@@ -15,9 +15,11 @@ use Rattle.mark_tree.specs.Marks.{is_met, move_mark, moved_marks}
 use Rattle.block_map.specs.Follows.{Follows, KeepsLine, block_height}
 use Rattle.block_map.specs.Maps.{Kept, fresh, moved_kept, row_at_line, stop_of}
 use Rattle.block_map.specs.Stops.{Stop}
-use Rattle.block_map.specs.inside.Sides.{BlockMark}
+use Rattle.block_map.specs.inside.RowMoves.{MayBeMoved, carried}
+use Rattle.block_map.specs.inside.Sides.{BlockMark, IsSide}
 use Rattle.block_map.specs.inside.StopLists.{AreRising, StopsFit}
 use Rattle.block_map.specs.inside.TwoSides.{WasAtLine}
+use Rattle.block_map.specs.inside.Without.{IsRising, without}
 
 -- above a line a stop stands before a row, and below it behind one
 abbrev pub bias_of : Side → Bias
@@ -68,6 +70,11 @@ abbrev pub IsUnmet : Option Shift → BlockMark → Type 0
 IsUnmet None m = Unit {0}
 IsUnmet (Some s) m = is_met s m ≡ false
 
+-- Marks may have a replacement yet to follow, if there was one: it meets none of them, and where they go is a u32.
+pub record MayFollow (shift : Option Shift) (ms : List BlockMark) : Type 0 where
+  pub unmet : All (IsUnmet shift) ms
+  pub fits : All (λ m. m.offset < 2 ^ 32) (marks_after shift ms)
+
 -- A stop may be carried by the edits: its block was shown, its mark isn't met, and the edits keep every row of its line.
 pub record MayBeCarried (shift : Option Shift) (es : List Edit) (old : List (List (List ℕ))) (side : Side)
     (m : BlockMark) (s : Stop) : Type 0 where
@@ -81,3 +88,16 @@ abbrev pub LeaveCarried : Option Shift → List Edit → List (List (List ℕ)) 
 LeaveCarried shift es old side ms ss places =
     (k : ℕ) (m : BlockMark) (s : Stop) → slice_get ms k ≡ Some m → slice_get ss k ≡ Some s
     → Contains places k ⊎ MayBeCarried shift es old side m s
+
+-- The stops of some places may be made anew, where edits carry the others: then each mark, moved, has its stop at its line.
+pub record MayBeRemade (source : Source) (shift : Option Shift) (es : List Edit) (lines : List (List (List ℕ)))
+    (side : Side) (places : List ℕ) (ms : List BlockMark) (ss : List Stop) : Type 0 where
+  pub rising : IsRising 0 places
+  pub within : All (λ a. a < length ss) places
+  pub paired : length ss ≡ length ms
+  pub fit : StopsFit ss
+  pub moved : MayBeMoved (bias_of side) es (without places 0 ss)
+  pub others : map (carried (bias_of side) es) (without places 0 ss)
+      ≡ without places 0 (stops_of_marks source lines side (marks_after shift ms))
+  pub stand : MayStand source lines side (marks_after shift ms)
+  pub is_side : IsSide (marks_after shift ms) (stops_of_marks source lines side (marks_after shift ms)) []

@@ -1,15 +1,14 @@
 use Rattle.std.proofs.Common.{◌≡◌, ◌≤◌, ◌^◌, ◌∙◌, ℕ, List, Some, length, ap, arith, subst, sym}
 use Rattle.cell_units.specs.Layers.{plain_source}
-use Rattle.cell_units.specs.Operation.{replaced_text}
 use Rattle.cell_units.specs.Rows.{all_rows}
-use Rattle.cell_units.specs.Text.{IsText, clean}
+use Rattle.cell_units.specs.Text.{clean}
 use Rattle.cell_units.proofs.Characters.{clean-utf8}
 use Rattle.cell_units.proofs.PlainLayers.{plain_well_formed}
 use Rattle.cell_units.proofs.ReplacedRows.{length-replaced_text}
 use Rattle.cell_line.specs.declared.element.Element.{Element}
 use Rattle.edit_patch.specs.declared.edit.Edit.{Edit}
 use Rattle.shifted_lists.specs.Leads.{LeadsBy}
-use Rattle.wrap_map.specs.Standing.{Standing, Wrapped, shown_rows, standing_after}
+use Rattle.wrap_map.specs.Standing.{Standing, shown_rows}
 use Rattle.wrapped_text.specs.Shown.{patch_of}
 use Rattle.wrapped_text.proofs.Texts.{memory-fault}
 use Rattle.block_map.specs.Follows.{IsFollowed}

@@ -45,6 +45,12 @@ returns-in_err-below-clause-steps g c above below first second h few =
     let second' = subst (λ (s : BlockState). HaveAnew c.args.shift es s.lines Below s.below below) (sym c.self.view_is) second in
     both-steps h (length above) (length below) (length es) c.args.steps.now c.synced.new.steps c.synced-2.new.steps (c.synced.ensures.steps above first' h few-above) (c.synced-2.ensures.steps below second' h few-below)
 
+pub invariant_of-self : goal.invariant_of-self
+invariant_of-self g c = subst IsState (λ i. state (g.R.Rows.shown c.self.inside.rows) (sym c.synced.ensures.kept i) c.self.inside.below) c.self.invariant
+
+pub invariant_of-self-2 : goal.invariant_of-self-2
+invariant_of-self-2 g c = subst IsState (λ i. state (g.R.Rows.shown c.self.inside.rows) (sym c.synced.ensures.kept i) (sym c.synced-2.ensures.kept i)) c.self.invariant
+
 pub invariant_of-result : goal.invariant_of-result
 invariant_of-result g c =
     let s = g.P.Layer.source c.args.layer.now in

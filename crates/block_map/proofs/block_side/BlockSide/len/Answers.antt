@@ -5,4 +5,4 @@ use Rattle.block_map.proofs.block_side.BlockSide.len.Goals as goal
 pub returns : goal.returns
 returns c =
     let i = c.self.inside in
-    c.len.ensures.len ∙ marks-count i.marks i.stops i.added c.args.self.now c.self.invariant c.self.view_is
+    c.len.ensures ∙ marks-count i.marks i.stops i.added c.args.self.now c.self.invariant c.self.view_is

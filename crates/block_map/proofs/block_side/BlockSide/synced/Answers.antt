@@ -1,284 +1,187 @@
-use Rattle.std.proofs.Common.{◌≡◌, ℕ, ◌+◌, ◌*◌, ◌^◌, ◌<◌, ◌≤◌, [], List, length, map, sym, ap, subst, ◌∙◌, arith}
+use Rattle.std.proofs.Common.{◌≡◌, ℕ, ◌^◌, ◌<◌, ◌==◌, true, [], ◌∷◌, List, length, map, refl, sym, ap, subst, ◌∙◌, arith}
 use Rattle.std.specs.List.{All, Contains}
-use Rattle.cell_units.specs.declared.place.Bias.{Bias}
+use Rattle.std.proofs.lemmas.Bool.Decides.{nat_tests}
+use Rattle.std.proofs.lemmas.Result.{IfOk-weaker}
 use Rattle.edit_patch.specs.declared.edit.Edit.{Edit}
-use Rattle.mark_tree.specs.declared.mark.Mark.{Mark}
-use Rattle.mark_tree.specs.Marks.{IsMarkList}
-use Rattle.sum_core.specs.declared.load.NoLoad.{NoLoad}
-use Rattle.block_map.specs.Carried.{HaveAnew}
+use Rattle.mark_tree.specs.Bounds.{moving}
+use Rattle.sum_tree.specs.Bounds.{TakesAtMost}
 use Rattle.block_map.specs.Maps.{Kept, moved_kept, placed}
 use Rattle.block_map.specs.Stops.{Stop}
 use Rattle.block_map.specs.inside.Anew.{IsAnewAt}
-use Rattle.block_map.specs.inside.RowMoves.{MayBeMoved, carried}
-use Rattle.block_map.specs.inside.SideMoves.{IsSideFollowed, LeaveCarried, MayStand, bias_of, marks_after, met_count, stops_of_marks}
-use Rattle.block_map.specs.inside.Sides.{BlockMark, IsSide, kept_of}
-use Rattle.block_map.specs.inside.Without.{IsRising, without}
-use Rattle.block_map.proofs.LeftOut.{length-left}
-use Rattle.block_map.proofs.PairedSides.{length-kept, paired-length}
-use Rattle.block_map.proofs.ShownAnew.{anchors-within, met-within, places-within}
-use Rattle.block_map.proofs.StepSums.{side-first, side-fourth, side-second, side-steps, side-third}
-use Rattle.block_map.proofs.SideSynced.{all-stand, all-unmet, anchors-after, kept-after, left-carried, left-moved, length-after, offsets-after, side-after}
+use Rattle.block_map.specs.inside.RowMoves.{carried}
+use Rattle.block_map.specs.inside.SideMoves.{LeaveCarried, bias_of, marks_after, stops_of_marks}
+use Rattle.block_map.specs.inside.Sides.{BlockMark, kept_of}
+use Rattle.block_map.specs.inside.Without.{IsRising}
+use Rattle.block_map.proofs.AlteredSides.{seen-as, side-as}
+use Rattle.block_map.proofs.SideSteps.{carried-within, gathered-within, remade-within, settled-within}
+use Rattle.block_map.proofs.SideSynced.{anchors-after, carried-kept, carried-moved, carried-side, follows-as, kept-after, may-follow, may-remake, offsets-after}
 use Rattle.block_map.proofs.block_side.BlockSide.synced.Goals as goal
 
-pub marks_after-requires-clause-offsets : goal.marks_after-requires-clause-offsets
-marks_after-requires-clause-offsets g c =
-    let s = g.P.Layer.source c.args.layer.now in
-    let ms : List BlockMark = c.self.inside.marks in
-    let ss : List Stop = c.self.inside.stops in
-    let seen = subst (λ (ks : List Kept). IsSideFollowed s c.args.shift c.args.edits.now (g.R.Rows.shown c.args.old.now) (g.R.Rows.shown c.args.rows.now) c.args.side ks) (sym c.self.view_is) c.requires in
-    offsets-after s (marks_after c.args.shift ms) (omega (arith, c.buffer_len-len.ensures.value, c.buffer_len-len.type_inv)) (anchors-after s c.args.shift ms ss c.self.invariant.each seen.anchors)
+no-place : (places : List ℕ) → (length places == 0) ≡ true → places ≡ []
+no-place [] e = refl
+no-place (p ∷ places) e = let none : length (p ∷ places) ≡ 0 = grind (arith, nat_tests) in absurd (omega (arith, none))
 
-pub marks_after-requires-clause-unmet : goal.marks_after-requires-clause-unmet
-marks_after-requires-clause-unmet g c none =
-    let ms : List BlockMark = c.self.inside.marks in
-    let ss : List Stop = c.self.inside.stops in
-    let es : List Edit = c.edits-edits.result.now in
-    let old = g.R.Rows.shown c.args.old.now in
-    let leave = subst (λ (l : List ℕ). LeaveCarried c.args.shift es old c.args.side ms ss l) (sym c.as_slice-places.ensures.value) c.in_ok-places.ensures.others in
-    all-unmet c.args.shift es old c.args.side ms ss (paired-length ms ss c.self.invariant.each) (subst (λ (l : List ℕ). LeaveCarried c.args.shift es old c.args.side ms ss l) none leave)
+pub places_anew-requires-clause-side : goal.places_anew-requires-clause-side
+places_anew-requires-clause-side g c κs lives = side-as c.in_ok-marks.marks c.self.inside.marks c.self.inside.stops c.in_ok-marks.ensures.ok c.self.inside.added c.self.invariant
 
-pub carry-requires-clause-stops : goal.carry-requires-clause-stops
-carry-requires-clause-stops g c =
+pub all_carried-requires-clause-follow : goal.all_carried-requires-clause-follow
+all_carried-requires-clause-follow g c =
     let s = g.P.Layer.source c.args.layer.now in
     let old = g.R.Rows.shown c.args.old.now in
     let new = g.R.Rows.shown c.args.rows.now in
-    let ms : List BlockMark = c.self.inside.marks in
+    let ms : List BlockMark = c.in_ok-marks.marks in
     let ss : List Stop = c.self.inside.stops in
     let es : List Edit = c.edits-edits.result.now in
-    let seen = subst (λ (ks : List Kept). IsSideFollowed s c.args.shift c.args.edits.now old new c.args.side ks) (sym c.self.view_is) c.requires in
-    let followed = subst (λ (l : List Edit). IsSideFollowed s c.args.shift l old new c.args.side (kept_of ms ss)) (sym c.edits-edits.ensures.value) seen in
-    let marks-are : c.in_ok-marks.marks ≡ marks_after c.args.shift ms = c.in_ok-marks.ensures.ok in
-    let after = subst IsMarkList marks-are c.len-after.ensures.lawful in
+    let side = side-as ms c.self.inside.marks ss c.in_ok-marks.ensures.ok c.self.inside.added c.self.invariant in
+    let seen = seen-as ms c.self.inside.marks ss c.in_ok-marks.ensures.ok c.args.self.now c.self.view_is in
+    let followed = follows-as s c.args.shift es c.args.edits.now old new c.args.side (kept_of ms ss) c.args.self.now c.edits-edits.ensures.value seen c.requires in
     let places : List ℕ = c.as_slice-places.result.now in
     let rising = subst (IsRising 0) (sym c.as_slice-places.ensures.value) c.in_ok-places.ensures.rising in
     let leave = subst (λ (l : List ℕ). LeaveCarried c.args.shift es old c.args.side ms ss l) (sym c.as_slice-places.ensures.value) c.in_ok-places.ensures.others in
-    let taken : c.take_out.new.self ≡ without places 0 ss = c.in_ok-take_out.ensures.ok ∙ ap (without places 0) c.in_ok-stops.ensures in
-    subst (λ (l : List Stop). MayBeMoved c.bias_of.result es l) (sym taken)
-    (subst (λ (b : Bias). MayBeMoved b es (without places 0 ss)) (sym c.bias_of.ensures)
-    (left-moved s c.args.shift es old new c.args.side ms ss c.self.inside.added c.self.invariant c.len-count.ensures.lawful after followed c.edits-edits.ensures.normal c.lines-lines.ensures.rows places rising leave c.len-rising.ensures.rising))
+    let none = no-place places (sym c.is_empty.ensures ∙ c.if-is_empty.true) in
+    let leave-none = subst (λ (l : List ℕ). LeaveCarried c.args.shift es old c.args.side ms ss l) none leave in
+    let short : length s.text < 2 ^ 32 = omega (arith, c.buffer_len-len.ensures.value, c.buffer_len-len.type_inv) in
+    may-follow s c.args.shift es old new c.args.side ms ss c.self.inside.added side c.len-count.ensures.lawful followed c.edits-edits.ensures.normal c.lines-lines.ensures.rows leave-none short
 
-pub put_in-requires-clause-within : goal.put_in-requires-clause-within
-put_in-requires-clause-within g c κs lives =
+pub all_carried-requires-clause-stops : goal.all_carried-requires-clause-stops
+all_carried-requires-clause-stops g c =
     let s = g.P.Layer.source c.args.layer.now in
     let old = g.R.Rows.shown c.args.old.now in
     let new = g.R.Rows.shown c.args.rows.now in
-    let ms : List BlockMark = c.self.inside.marks in
+    let ms : List BlockMark = c.in_ok-marks.marks in
     let ss : List Stop = c.self.inside.stops in
     let es : List Edit = c.edits-edits.result.now in
-    let seen = subst (λ (ks : List Kept). IsSideFollowed s c.args.shift c.args.edits.now old new c.args.side ks) (sym c.self.view_is) c.requires in
-    let followed = subst (λ (l : List Edit). IsSideFollowed s c.args.shift l old new c.args.side (kept_of ms ss)) (sym c.edits-edits.ensures.value) seen in
-    let marks-are : c.in_ok-marks.marks ≡ marks_after c.args.shift ms = c.in_ok-marks.ensures.ok in
-    let after = subst IsMarkList marks-are c.len-after.ensures.lawful in
-    let same : length ss ≡ length c.in_ok-marks.marks = omega (arith, paired-length ms ss c.self.invariant.each, length-after c.args.shift ms, ap length marks-are) in
-    subst (λ (l : List ℕ). All (λ a. a < length c.in_ok-marks.marks) l) (sym c.as_slice-places.ensures.value)
-    (subst (λ (n : ℕ). All (λ a. a < n) c.in_ok-places.places.items) same c.in_ok-places.ensures.within)
-
-pub put_in-requires-clause-others : goal.put_in-requires-clause-others
-put_in-requires-clause-others g c κs lives =
-    let s = g.P.Layer.source c.args.layer.now in
-    let old = g.R.Rows.shown c.args.old.now in
-    let new = g.R.Rows.shown c.args.rows.now in
-    let ms : List BlockMark = c.self.inside.marks in
-    let ss : List Stop = c.self.inside.stops in
-    let es : List Edit = c.edits-edits.result.now in
-    let seen = subst (λ (ks : List Kept). IsSideFollowed s c.args.shift c.args.edits.now old new c.args.side ks) (sym c.self.view_is) c.requires in
-    let followed = subst (λ (l : List Edit). IsSideFollowed s c.args.shift l old new c.args.side (kept_of ms ss)) (sym c.edits-edits.ensures.value) seen in
-    let marks-are : c.in_ok-marks.marks ≡ marks_after c.args.shift ms = c.in_ok-marks.ensures.ok in
-    let after = subst IsMarkList marks-are c.len-after.ensures.lawful in
+    let side = side-as ms c.self.inside.marks ss c.in_ok-marks.ensures.ok c.self.inside.added c.self.invariant in
+    let seen = seen-as ms c.self.inside.marks ss c.in_ok-marks.ensures.ok c.args.self.now c.self.view_is in
+    let followed = follows-as s c.args.shift es c.args.edits.now old new c.args.side (kept_of ms ss) c.args.self.now c.edits-edits.ensures.value seen c.requires in
     let places : List ℕ = c.as_slice-places.result.now in
     let rising = subst (IsRising 0) (sym c.as_slice-places.ensures.value) c.in_ok-places.ensures.rising in
     let leave = subst (λ (l : List ℕ). LeaveCarried c.args.shift es old c.args.side ms ss l) (sym c.as_slice-places.ensures.value) c.in_ok-places.ensures.others in
-    let taken : c.take_out.new.self ≡ without places 0 ss = c.in_ok-take_out.ensures.ok ∙ ap (without places 0) c.in_ok-stops.ensures in
-    let moved : map (carried c.bias_of.result es) c.take_out.new.self ≡ map (carried (bias_of c.args.side) es) (without places 0 ss) = λ i. map (carried (c.bias_of.ensures i) es) (taken i) in
-    c.in_ok-carry.ensures.ok ∙ moved ∙ left-carried s c.args.shift es old new c.args.side ms ss c.self.inside.added c.self.invariant c.len-count.ensures.lawful after followed c.edits-edits.ensures.normal c.lines-lines.ensures.rows places rising leave ∙ ap (λ (l : List BlockMark). without places 0 (stops_of_marks s new c.args.side l)) (sym marks-are)
+    let none = no-place places (sym c.is_empty.ensures ∙ c.if-is_empty.true) in
+    let leave-none = subst (λ (l : List ℕ). LeaveCarried c.args.shift es old c.args.side ms ss l) none leave in
+    carried-moved s c.args.shift es old new c.args.side ms ss c.self.inside.added side c.len-count.ensures.lawful followed c.edits-edits.ensures.normal c.lines-lines.ensures.rows leave-none c.len-rising.ensures.rising
 
-pub put_in-requires-clause-marks : goal.put_in-requires-clause-marks
-put_in-requires-clause-marks g c κs lives =
+pub all_carried-requires-clause-side : goal.all_carried-requires-clause-side
+all_carried-requires-clause-side g c =
     let s = g.P.Layer.source c.args.layer.now in
     let old = g.R.Rows.shown c.args.old.now in
     let new = g.R.Rows.shown c.args.rows.now in
-    let ms : List BlockMark = c.self.inside.marks in
+    let ms : List BlockMark = c.in_ok-marks.marks in
     let ss : List Stop = c.self.inside.stops in
     let es : List Edit = c.edits-edits.result.now in
-    let seen = subst (λ (ks : List Kept). IsSideFollowed s c.args.shift c.args.edits.now old new c.args.side ks) (sym c.self.view_is) c.requires in
-    let followed = subst (λ (l : List Edit). IsSideFollowed s c.args.shift l old new c.args.side (kept_of ms ss)) (sym c.edits-edits.ensures.value) seen in
-    let marks-are : c.in_ok-marks.marks ≡ marks_after c.args.shift ms = c.in_ok-marks.ensures.ok in
-    let after = subst IsMarkList marks-are c.len-after.ensures.lawful in
-    subst (MayStand s new c.args.side) (sym marks-are) (all-stand s c.args.shift es old new c.args.side ms ss c.self.inside.added c.self.invariant c.len-count.ensures.lawful after followed)
+    let side = side-as ms c.self.inside.marks ss c.in_ok-marks.ensures.ok c.self.inside.added c.self.invariant in
+    let seen = seen-as ms c.self.inside.marks ss c.in_ok-marks.ensures.ok c.args.self.now c.self.view_is in
+    let followed = follows-as s c.args.shift es c.args.edits.now old new c.args.side (kept_of ms ss) c.args.self.now c.edits-edits.ensures.value seen c.requires in
+    let places : List ℕ = c.as_slice-places.result.now in
+    let rising = subst (IsRising 0) (sym c.as_slice-places.ensures.value) c.in_ok-places.ensures.rising in
+    let leave = subst (λ (l : List ℕ). LeaveCarried c.args.shift es old c.args.side ms ss l) (sym c.as_slice-places.ensures.value) c.in_ok-places.ensures.others in
+    let none = no-place places (sym c.is_empty.ensures ∙ c.if-is_empty.true) in
+    let leave-none = subst (λ (l : List ℕ). LeaveCarried c.args.shift es old c.args.side ms ss l) none leave in
+    carried-side s c.args.shift es old new c.args.side ms ss c.self.inside.added side c.len-count.ensures.lawful followed c.edits-edits.ensures.normal c.lines-lines.ensures.rows leave-none
 
-pub invariant_of-result : goal.invariant_of-result
-invariant_of-result g c =
+pub returns-then-is_empty-clause-ok : goal.returns-then-is_empty-clause-ok
+returns-then-is_empty-clause-ok g c =
     let s = g.P.Layer.source c.args.layer.now in
     let old = g.R.Rows.shown c.args.old.now in
     let new = g.R.Rows.shown c.args.rows.now in
-    let ms : List BlockMark = c.self.inside.marks in
+    let ms : List BlockMark = c.in_ok-marks.marks in
     let ss : List Stop = c.self.inside.stops in
     let es : List Edit = c.edits-edits.result.now in
-    let seen = subst (λ (ks : List Kept). IsSideFollowed s c.args.shift c.args.edits.now old new c.args.side ks) (sym c.self.view_is) c.requires in
-    let followed = subst (λ (l : List Edit). IsSideFollowed s c.args.shift l old new c.args.side (kept_of ms ss)) (sym c.edits-edits.ensures.value) seen in
-    let marks-are : c.in_ok-marks.marks ≡ marks_after c.args.shift ms = c.in_ok-marks.ensures.ok in
-    let after = subst IsMarkList marks-are c.len-after.ensures.lawful in
-    let stops-are : c.put_in.new.self ≡ stops_of_marks s new c.args.side (marks_after c.args.shift ms) = c.in_ok-put_in.ensures.ok ∙ ap (stops_of_marks s new c.args.side) marks-are in
-    subst (λ (l : List (Mark NoLoad)). IsSide c.in_ok-marks.marks c.put_in.new.self l) (sym c.new.ensures)
-    (subst (λ (l : List Stop). IsSide c.in_ok-marks.marks l []) (sym stops-are)
-    (subst (λ (l : List BlockMark). IsSide l (stops_of_marks s new c.args.side (marks_after c.args.shift ms)) []) (sym marks-are) (side-after s c.args.shift es old new c.args.side ms ss c.self.inside.added c.self.invariant c.len-count.ensures.lawful after followed)))
+    let side = side-as ms c.self.inside.marks ss c.in_ok-marks.ensures.ok c.self.inside.added c.self.invariant in
+    let seen = seen-as ms c.self.inside.marks ss c.in_ok-marks.ensures.ok c.args.self.now c.self.view_is in
+    let followed = follows-as s c.args.shift es c.args.edits.now old new c.args.side (kept_of ms ss) c.args.self.now c.edits-edits.ensures.value seen c.requires in
+    let places : List ℕ = c.as_slice-places.result.now in
+    let rising = subst (IsRising 0) (sym c.as_slice-places.ensures.value) c.in_ok-places.ensures.rising in
+    let leave = subst (λ (l : List ℕ). LeaveCarried c.args.shift es old c.args.side ms ss l) (sym c.as_slice-places.ensures.value) c.in_ok-places.ensures.others in
+    let none = no-place places (sym c.is_empty.ensures ∙ c.if-is_empty.true) in
+    let leave-none = subst (λ (l : List ℕ). LeaveCarried c.args.shift es old c.args.side ms ss l) none leave in
+    let after : kept_of (marks_after c.args.shift ms) (map (carried (bias_of c.args.side) es) ss) ≡ map (placed s new c.args.side) (moved_kept c.args.shift c.args.self.now) =
+    carried-kept s c.args.shift es old new c.args.side ms ss c.self.inside.added side c.len-count.ensures.lawful followed c.edits-edits.ensures.normal c.lines-lines.ensures.rows leave-none ∙ ap (λ (ks : List Kept). map (placed s new c.args.side) (moved_kept c.args.shift ks)) seen in
+    IfOk-weaker c.all_carried.result (λ (l : List Kept). l ≡ kept_of (marks_after c.args.shift ms) (map (carried (bias_of c.args.side) es) ss)) (λ (l : List Kept). l ≡ map (placed s new c.args.side) (moved_kept c.args.shift c.args.self.now)) (λ l e. e ∙ after) c.all_carried.ensures.ok
+
+pub some_anew-requires-clause-offsets : goal.some_anew-requires-clause-offsets
+some_anew-requires-clause-offsets g c κs lives =
+    let s = g.P.Layer.source c.args.layer.now in
+    let old = g.R.Rows.shown c.args.old.now in
+    let new = g.R.Rows.shown c.args.rows.now in
+    let ms : List BlockMark = c.in_ok-marks.marks in
+    let ss : List Stop = c.self.inside.stops in
+    let es : List Edit = c.edits-edits.result.now in
+    let side = side-as ms c.self.inside.marks ss c.in_ok-marks.ensures.ok c.self.inside.added c.self.invariant in
+    let seen = seen-as ms c.self.inside.marks ss c.in_ok-marks.ensures.ok c.args.self.now c.self.view_is in
+    let followed = follows-as s c.args.shift es c.args.edits.now old new c.args.side (kept_of ms ss) c.args.self.now c.edits-edits.ensures.value seen c.requires in
+    let short : length s.text < 2 ^ 32 = omega (arith, c.buffer_len-len.ensures.value, c.buffer_len-len.type_inv) in
+    offsets-after s (marks_after c.args.shift ms) short (anchors-after s c.args.shift ms ss side.each followed.anchors)
+
+pub some_anew-requires-clause-remade : goal.some_anew-requires-clause-remade
+some_anew-requires-clause-remade g c κs lives =
+    let s = g.P.Layer.source c.args.layer.now in
+    let old = g.R.Rows.shown c.args.old.now in
+    let new = g.R.Rows.shown c.args.rows.now in
+    let ms : List BlockMark = c.in_ok-marks.marks in
+    let ss : List Stop = c.self.inside.stops in
+    let es : List Edit = c.edits-edits.result.now in
+    let side = side-as ms c.self.inside.marks ss c.in_ok-marks.ensures.ok c.self.inside.added c.self.invariant in
+    let seen = seen-as ms c.self.inside.marks ss c.in_ok-marks.ensures.ok c.args.self.now c.self.view_is in
+    let followed = follows-as s c.args.shift es c.args.edits.now old new c.args.side (kept_of ms ss) c.args.self.now c.edits-edits.ensures.value seen c.requires in
+    let places : List ℕ = c.as_slice-places.result.now in
+    let rising = subst (IsRising 0) (sym c.as_slice-places.ensures.value) c.in_ok-places.ensures.rising in
+    let leave = subst (λ (l : List ℕ). LeaveCarried c.args.shift es old c.args.side ms ss l) (sym c.as_slice-places.ensures.value) c.in_ok-places.ensures.others in
+    let within = subst (λ (l : List ℕ). All (λ a. a < length ss) l) (sym c.as_slice-places.ensures.value) c.in_ok-places.ensures.within in
+    may-remake s c.args.shift es old new c.args.side ms ss c.self.inside.added side c.len-count.ensures.lawful followed c.edits-edits.ensures.normal c.lines-lines.ensures.rows places rising leave c.len-rising.ensures.rising within
 
 pub returns-clause-ok : goal.returns-clause-ok
 returns-clause-ok g c =
     let s = g.P.Layer.source c.args.layer.now in
     let old = g.R.Rows.shown c.args.old.now in
     let new = g.R.Rows.shown c.args.rows.now in
-    let ms : List BlockMark = c.self.inside.marks in
+    let ms : List BlockMark = c.in_ok-marks.marks in
     let ss : List Stop = c.self.inside.stops in
     let es : List Edit = c.edits-edits.result.now in
-    let seen = subst (λ (ks : List Kept). IsSideFollowed s c.args.shift c.args.edits.now old new c.args.side ks) (sym c.self.view_is) c.requires in
-    let followed = subst (λ (l : List Edit). IsSideFollowed s c.args.shift l old new c.args.side (kept_of ms ss)) (sym c.edits-edits.ensures.value) seen in
-    let marks-are : c.in_ok-marks.marks ≡ marks_after c.args.shift ms = c.in_ok-marks.ensures.ok in
-    let after = subst IsMarkList marks-are c.len-after.ensures.lawful in
-    let stops-are : c.put_in.new.self ≡ stops_of_marks s new c.args.side (marks_after c.args.shift ms) = c.in_ok-put_in.ensures.ok ∙ ap (stops_of_marks s new c.args.side) marks-are in
-    (λ i. kept_of (marks-are i) (stops-are i))
-    ∙ kept-after s c.args.shift es old new c.args.side ms ss c.self.inside.added c.self.invariant c.len-count.ensures.lawful after followed
-    ∙ ap (λ (ks : List Kept). map (placed s new c.args.side) (moved_kept c.args.shift ks)) c.self.view_is
-
-pub returns-in_err-places-clause-steps : goal.returns-in_err-places-clause-steps
-returns-in_err-places-clause-steps g c ps have h few =
-    let old = g.R.Rows.shown c.args.old.now in
-    let ms : List BlockMark = c.self.inside.marks in
-    let ss : List Stop = c.self.inside.stops in
-    let side = c.self.invariant in
-    let listed = c.len-count.ensures.lawful in
-    let few-marks : length ms < 2 * 6 ^ (h + 1) = omega (arith, few, ap length c.self.view_is, length-kept ms ss side.each) in
-    let had = subst (λ (ks : List Kept). HaveAnew c.args.shift c.args.edits.now old c.args.side ks ps) (sym c.self.view_is) have in
-    let es : List Edit = c.edits-edits.result.now in
-    let had' = subst (λ (l : List Edit). HaveAnew c.args.shift l old c.args.side (kept_of ms ss) ps) (sym c.edits-edits.ensures.value) had in
-    let unshown = anchors-within c.args.shift es old c.args.side ms ss c.self.inside.added side listed ps had' in
-    subst (λ (l : List Edit). c.places_anew.new.steps ≤ c.args.steps.now + (546 * length ps + 342 * length l + 172) * (h + 1)) c.edits-edits.ensures.value
-    (side-first h (length ps) (length c.self.inside.added) (length es) c.args.steps.now c.places_anew.new.steps unshown (c.places_anew.ensures.steps h few-marks))
+    let side = side-as ms c.self.inside.marks ss c.in_ok-marks.ensures.ok c.self.inside.added c.self.invariant in
+    let seen = seen-as ms c.self.inside.marks ss c.in_ok-marks.ensures.ok c.args.self.now c.self.view_is in
+    let followed = follows-as s c.args.shift es c.args.edits.now old new c.args.side (kept_of ms ss) c.args.self.now c.edits-edits.ensures.value seen c.requires in
+    let after : kept_of (marks_after c.args.shift ms) (stops_of_marks s new c.args.side (marks_after c.args.shift ms)) ≡ map (placed s new c.args.side) (moved_kept c.args.shift c.args.self.now) =
+    kept-after s c.args.shift es old new c.args.side ms ss c.self.inside.added side c.len-count.ensures.lawful followed ∙ ap (λ (ks : List Kept). map (placed s new c.args.side) (moved_kept c.args.shift ks)) seen in
+    IfOk-weaker c.some_anew.result (λ (l : List Kept). l ≡ kept_of (marks_after c.args.shift ms) (stops_of_marks s new c.args.side (marks_after c.args.shift ms))) (λ (l : List Kept). l ≡ map (placed s new c.args.side) (moved_kept c.args.shift c.args.self.now)) (λ l e. e ∙ after) c.some_anew.ensures.ok
 
 pub returns-in_err-marks-clause-steps : goal.returns-in_err-marks-clause-steps
-returns-in_err-marks-clause-steps g c ps have h few =
-    let old = g.R.Rows.shown c.args.old.now in
-    let ms : List BlockMark = c.self.inside.marks in
-    let ss : List Stop = c.self.inside.stops in
-    let side = c.self.invariant in
-    let listed = c.len-count.ensures.lawful in
-    let few-marks : length ms < 2 * 6 ^ (h + 1) = omega (arith, few, ap length c.self.view_is, length-kept ms ss side.each) in
-    let had = subst (λ (ks : List Kept). HaveAnew c.args.shift c.args.edits.now old c.args.side ks ps) (sym c.self.view_is) have in
-    let es : List Edit = c.edits-edits.result.now in
-    let had' = subst (λ (l : List Edit). HaveAnew c.args.shift l old c.args.side (kept_of ms ss) ps) (sym c.edits-edits.ensures.value) had in
-    let met = met-within c.args.shift es old c.args.side ms ss c.self.inside.added side listed ps had' in
-    let unshown = anchors-within c.args.shift es old c.args.side ms ss c.self.inside.added side listed ps had' in
-    subst (λ (l : List Edit). c.marks_after.new.steps ≤ c.args.steps.now + (546 * length ps + 342 * length l + 172) * (h + 1)) c.edits-edits.ensures.value
-    (side-second h (length ps) (met_count c.args.shift ms) (length c.self.inside.added) (length es) c.args.steps.now c.places_anew.new.steps c.marks_after.new.steps met unshown (c.places_anew.ensures.steps h few-marks) (c.marks_after.ensures.steps h few-marks))
+returns-in_err-marks-clause-steps g c =
+    settled-within c.args.shift c.args.edits.now c.args.edits.now (g.R.Rows.shown c.args.old.now) c.args.side c.self.inside.marks c.self.inside.stops c.self.inside.added c.args.self.now c.self.invariant c.self.view_is c.args.steps.now c.settled.new.steps c.settled.ensures.steps
 
-pub returns-in_err-stops-clause-steps : goal.returns-in_err-stops-clause-steps
-returns-in_err-stops-clause-steps g c ps have h few =
+pub returns-in_err-places-clause-steps : goal.returns-in_err-places-clause-steps
+returns-in_err-places-clause-steps g c =
     let old = g.R.Rows.shown c.args.old.now in
-    let ms : List BlockMark = c.self.inside.marks in
+    let ms : List BlockMark = c.in_ok-marks.marks in
     let ss : List Stop = c.self.inside.stops in
-    let side = c.self.invariant in
-    let listed = c.len-count.ensures.lawful in
-    let few-marks : length ms < 2 * 6 ^ (h + 1) = omega (arith, few, ap length c.self.view_is, length-kept ms ss side.each) in
-    let had = subst (λ (ks : List Kept). HaveAnew c.args.shift c.args.edits.now old c.args.side ks ps) (sym c.self.view_is) have in
     let es : List Edit = c.edits-edits.result.now in
-    let had' = subst (λ (l : List Edit). HaveAnew c.args.shift l old c.args.side (kept_of ms ss) ps) (sym c.edits-edits.ensures.value) had in
-    let met = met-within c.args.shift es old c.args.side ms ss c.self.inside.added side listed ps had' in
-    let unshown = anchors-within c.args.shift es old c.args.side ms ss c.self.inside.added side listed ps had' in
-    subst (λ (l : List Edit). c.marks_after.new.steps ≤ c.args.steps.now + (546 * length ps + 342 * length l + 172) * (h + 1)) c.edits-edits.ensures.value
-    (side-second h (length ps) (met_count c.args.shift ms) (length c.self.inside.added) (length es) c.args.steps.now c.places_anew.new.steps c.marks_after.new.steps met unshown (c.places_anew.ensures.steps h few-marks) (c.marks_after.ensures.steps h few-marks))
+    let side = side-as ms c.self.inside.marks ss c.in_ok-marks.ensures.ok c.self.inside.added c.self.invariant in
+    let seen = seen-as ms c.self.inside.marks ss c.in_ok-marks.ensures.ok c.args.self.now c.self.view_is in
+    let first = subst (λ (l : List BlockMark). TakesAtMost (moving 0) (length l) c.args.steps.now c.settled.new.steps) (sym c.in_ok-marks.ensures.ok) c.settled.ensures.steps in
+    gathered-within c.args.shift es c.args.edits.now old c.args.side ms ss c.self.inside.added c.args.self.now side seen c.args.steps.now c.settled.new.steps first c.len-count.ensures.lawful c.edits-edits.ensures.value c.places_anew.new.steps c.places_anew.ensures.steps
 
-pub returns-in_err-take_out-clause-steps : goal.returns-in_err-take_out-clause-steps
-returns-in_err-take_out-clause-steps g c ps have h few =
+pub returns-then-is_empty-clause-steps : goal.returns-then-is_empty-clause-steps
+returns-then-is_empty-clause-steps g c =
     let old = g.R.Rows.shown c.args.old.now in
-    let ms : List BlockMark = c.self.inside.marks in
+    let ms : List BlockMark = c.in_ok-marks.marks in
     let ss : List Stop = c.self.inside.stops in
-    let side = c.self.invariant in
-    let listed = c.len-count.ensures.lawful in
-    let few-marks : length ms < 2 * 6 ^ (h + 1) = omega (arith, few, ap length c.self.view_is, length-kept ms ss side.each) in
-    let had = subst (λ (ks : List Kept). HaveAnew c.args.shift c.args.edits.now old c.args.side ks ps) (sym c.self.view_is) have in
     let es : List Edit = c.edits-edits.result.now in
-    let had' = subst (λ (l : List Edit). HaveAnew c.args.shift l old c.args.side (kept_of ms ss) ps) (sym c.edits-edits.ensures.value) had in
-    let met = met-within c.args.shift es old c.args.side ms ss c.self.inside.added side listed ps had' in
-    let unshown = anchors-within c.args.shift es old c.args.side ms ss c.self.inside.added side listed ps had' in
-    let places : List ℕ = c.as_slice-places.result.now in
-    let rising = subst (IsRising 0) (sym c.as_slice-places.ensures.value) c.in_ok-places.ensures.rising in
-    let within = subst (λ (l : List ℕ). All (λ a. a < length ss) l) (sym c.as_slice-places.ensures.value) c.in_ok-places.ensures.within in
-    let only = subst (λ (l : List ℕ). (k : ℕ) → Contains l k → IsAnewAt c.args.shift es old c.args.side ms ss c.self.inside.added k) (sym c.as_slice-places.ensures.value) c.in_ok-places.ensures.only in
-    let count = places-within c.args.shift es old c.args.side ms ss c.self.inside.added side listed ps had' places rising within only in
-    let few-stops : length c.in_ok-stops.stops < 2 * 6 ^ (h + 1) = omega (arith, few-marks, paired-length ms ss side.each, ap length c.in_ok-stops.ensures) in
-    subst (λ (l : List Edit). c.take_out.new.steps ≤ c.args.steps.now + (546 * length ps + 342 * length l + 172) * (h + 1)) c.edits-edits.ensures.value
-    (side-third h (length ps) (met_count c.args.shift ms) (length c.self.inside.added) (length places) (length es) c.args.steps.now c.places_anew.new.steps c.marks_after.new.steps c.take_out.new.steps met unshown count (c.places_anew.ensures.steps h few-marks) (c.marks_after.ensures.steps h few-marks) (c.take_out.ensures.steps h few-stops))
-
-pub returns-in_err-carry-clause-steps : goal.returns-in_err-carry-clause-steps
-returns-in_err-carry-clause-steps g c ps have h few =
-    let old = g.R.Rows.shown c.args.old.now in
-    let ms : List BlockMark = c.self.inside.marks in
-    let ss : List Stop = c.self.inside.stops in
-    let side = c.self.invariant in
-    let listed = c.len-count.ensures.lawful in
-    let few-marks : length ms < 2 * 6 ^ (h + 1) = omega (arith, few, ap length c.self.view_is, length-kept ms ss side.each) in
-    let had = subst (λ (ks : List Kept). HaveAnew c.args.shift c.args.edits.now old c.args.side ks ps) (sym c.self.view_is) have in
-    let es : List Edit = c.edits-edits.result.now in
-    let had' = subst (λ (l : List Edit). HaveAnew c.args.shift l old c.args.side (kept_of ms ss) ps) (sym c.edits-edits.ensures.value) had in
-    let met = met-within c.args.shift es old c.args.side ms ss c.self.inside.added side listed ps had' in
-    let unshown = anchors-within c.args.shift es old c.args.side ms ss c.self.inside.added side listed ps had' in
-    let places : List ℕ = c.as_slice-places.result.now in
-    let rising = subst (IsRising 0) (sym c.as_slice-places.ensures.value) c.in_ok-places.ensures.rising in
-    let within = subst (λ (l : List ℕ). All (λ a. a < length ss) l) (sym c.as_slice-places.ensures.value) c.in_ok-places.ensures.within in
-    let only = subst (λ (l : List ℕ). (k : ℕ) → Contains l k → IsAnewAt c.args.shift es old c.args.side ms ss c.self.inside.added k) (sym c.as_slice-places.ensures.value) c.in_ok-places.ensures.only in
-    let count = places-within c.args.shift es old c.args.side ms ss c.self.inside.added side listed ps had' places rising within only in
-    let few-stops : length c.in_ok-stops.stops < 2 * 6 ^ (h + 1) = omega (arith, few-marks, paired-length ms ss side.each, ap length c.in_ok-stops.ensures) in
-    let taken : c.take_out.new.self ≡ without places 0 ss = c.in_ok-take_out.ensures.ok ∙ ap (without places 0) c.in_ok-stops.ensures in
-    let few-left : length c.take_out.new.self < 2 * 6 ^ (h + 1) = omega (arith, few-marks, paired-length ms ss side.each, ap length taken, length-left places 0 ss) in
-    subst (λ (l : List Edit). c.carry.new.steps ≤ c.args.steps.now + (546 * length ps + 342 * length l + 172) * (h + 1)) c.edits-edits.ensures.value
-    (side-fourth h (length ps) (met_count c.args.shift ms) (length c.self.inside.added) (length places) (length es) c.args.steps.now c.places_anew.new.steps c.marks_after.new.steps c.take_out.new.steps c.carry.new.steps met unshown count (c.places_anew.ensures.steps h few-marks) (c.marks_after.ensures.steps h few-marks) (c.take_out.ensures.steps h few-stops) (c.carry.ensures.steps h few-left))
-
-pub returns-in_err-put_in-clause-steps : goal.returns-in_err-put_in-clause-steps
-returns-in_err-put_in-clause-steps g c ps have h few =
-    let old = g.R.Rows.shown c.args.old.now in
-    let ms : List BlockMark = c.self.inside.marks in
-    let ss : List Stop = c.self.inside.stops in
-    let side = c.self.invariant in
-    let listed = c.len-count.ensures.lawful in
-    let few-marks : length ms < 2 * 6 ^ (h + 1) = omega (arith, few, ap length c.self.view_is, length-kept ms ss side.each) in
-    let had = subst (λ (ks : List Kept). HaveAnew c.args.shift c.args.edits.now old c.args.side ks ps) (sym c.self.view_is) have in
-    let es : List Edit = c.edits-edits.result.now in
-    let had' = subst (λ (l : List Edit). HaveAnew c.args.shift l old c.args.side (kept_of ms ss) ps) (sym c.edits-edits.ensures.value) had in
-    let met = met-within c.args.shift es old c.args.side ms ss c.self.inside.added side listed ps had' in
-    let unshown = anchors-within c.args.shift es old c.args.side ms ss c.self.inside.added side listed ps had' in
-    let places : List ℕ = c.as_slice-places.result.now in
-    let rising = subst (IsRising 0) (sym c.as_slice-places.ensures.value) c.in_ok-places.ensures.rising in
-    let within = subst (λ (l : List ℕ). All (λ a. a < length ss) l) (sym c.as_slice-places.ensures.value) c.in_ok-places.ensures.within in
-    let only = subst (λ (l : List ℕ). (k : ℕ) → Contains l k → IsAnewAt c.args.shift es old c.args.side ms ss c.self.inside.added k) (sym c.as_slice-places.ensures.value) c.in_ok-places.ensures.only in
-    let count = places-within c.args.shift es old c.args.side ms ss c.self.inside.added side listed ps had' places rising within only in
-    let few-stops : length c.in_ok-stops.stops < 2 * 6 ^ (h + 1) = omega (arith, few-marks, paired-length ms ss side.each, ap length c.in_ok-stops.ensures) in
-    let taken : c.take_out.new.self ≡ without places 0 ss = c.in_ok-take_out.ensures.ok ∙ ap (without places 0) c.in_ok-stops.ensures in
-    let few-left : length c.take_out.new.self < 2 * 6 ^ (h + 1) = omega (arith, few-marks, paired-length ms ss side.each, ap length taken, length-left places 0 ss) in
-    let few-after : length c.in_ok-marks.marks < 2 * 6 ^ (h + 1) = omega (arith, few-marks, length-after c.args.shift ms, ap length c.in_ok-marks.ensures.ok) in
-    subst (λ (l : List Edit). c.put_in.new.steps ≤ c.args.steps.now + (546 * length ps + 342 * length l + 172) * (h + 1)) c.edits-edits.ensures.value
-    (side-steps h (length ps) (met_count c.args.shift ms) (length c.self.inside.added) (length places) (length es) c.args.steps.now c.places_anew.new.steps c.marks_after.new.steps c.take_out.new.steps c.carry.new.steps c.put_in.new.steps met unshown count (c.places_anew.ensures.steps h few-marks) (c.marks_after.ensures.steps h few-marks) (c.take_out.ensures.steps h few-stops) (c.carry.ensures.steps h few-left) (c.put_in.ensures.steps h few-after))
+    let side = side-as ms c.self.inside.marks ss c.in_ok-marks.ensures.ok c.self.inside.added c.self.invariant in
+    let seen = seen-as ms c.self.inside.marks ss c.in_ok-marks.ensures.ok c.args.self.now c.self.view_is in
+    let first = subst (λ (l : List BlockMark). TakesAtMost (moving 0) (length l) c.args.steps.now c.settled.new.steps) (sym c.in_ok-marks.ensures.ok) c.settled.ensures.steps in
+    carried-within c.args.shift es c.args.edits.now old c.args.side ms ss c.self.inside.added c.args.self.now side seen c.args.steps.now c.settled.new.steps first c.len-count.ensures.lawful c.edits-edits.ensures.value c.places_anew.new.steps c.places_anew.ensures.steps c.all_carried.new.steps c.all_carried.ensures.steps
 
 pub returns-clause-steps : goal.returns-clause-steps
-returns-clause-steps g c ps have h few =
+returns-clause-steps g c =
     let old = g.R.Rows.shown c.args.old.now in
-    let ms : List BlockMark = c.self.inside.marks in
+    let ms : List BlockMark = c.in_ok-marks.marks in
     let ss : List Stop = c.self.inside.stops in
-    let side = c.self.invariant in
-    let listed = c.len-count.ensures.lawful in
-    let few-marks : length ms < 2 * 6 ^ (h + 1) = omega (arith, few, ap length c.self.view_is, length-kept ms ss side.each) in
-    let had = subst (λ (ks : List Kept). HaveAnew c.args.shift c.args.edits.now old c.args.side ks ps) (sym c.self.view_is) have in
     let es : List Edit = c.edits-edits.result.now in
-    let had' = subst (λ (l : List Edit). HaveAnew c.args.shift l old c.args.side (kept_of ms ss) ps) (sym c.edits-edits.ensures.value) had in
-    let met = met-within c.args.shift es old c.args.side ms ss c.self.inside.added side listed ps had' in
-    let unshown = anchors-within c.args.shift es old c.args.side ms ss c.self.inside.added side listed ps had' in
+    let side = side-as ms c.self.inside.marks ss c.in_ok-marks.ensures.ok c.self.inside.added c.self.invariant in
+    let seen = seen-as ms c.self.inside.marks ss c.in_ok-marks.ensures.ok c.args.self.now c.self.view_is in
+    let first = subst (λ (l : List BlockMark). TakesAtMost (moving 0) (length l) c.args.steps.now c.settled.new.steps) (sym c.in_ok-marks.ensures.ok) c.settled.ensures.steps in
     let places : List ℕ = c.as_slice-places.result.now in
     let rising = subst (IsRising 0) (sym c.as_slice-places.ensures.value) c.in_ok-places.ensures.rising in
     let within = subst (λ (l : List ℕ). All (λ a. a < length ss) l) (sym c.as_slice-places.ensures.value) c.in_ok-places.ensures.within in
     let only = subst (λ (l : List ℕ). (k : ℕ) → Contains l k → IsAnewAt c.args.shift es old c.args.side ms ss c.self.inside.added k) (sym c.as_slice-places.ensures.value) c.in_ok-places.ensures.only in
-    let count = places-within c.args.shift es old c.args.side ms ss c.self.inside.added side listed ps had' places rising within only in
-    let few-stops : length c.in_ok-stops.stops < 2 * 6 ^ (h + 1) = omega (arith, few-marks, paired-length ms ss side.each, ap length c.in_ok-stops.ensures) in
-    let taken : c.take_out.new.self ≡ without places 0 ss = c.in_ok-take_out.ensures.ok ∙ ap (without places 0) c.in_ok-stops.ensures in
-    let few-left : length c.take_out.new.self < 2 * 6 ^ (h + 1) = omega (arith, few-marks, paired-length ms ss side.each, ap length taken, length-left places 0 ss) in
-    let few-after : length c.in_ok-marks.marks < 2 * 6 ^ (h + 1) = omega (arith, few-marks, length-after c.args.shift ms, ap length c.in_ok-marks.ensures.ok) in
-    subst (λ (l : List Edit). c.put_in.new.steps ≤ c.args.steps.now + (546 * length ps + 342 * length l + 172) * (h + 1)) c.edits-edits.ensures.value
-    (side-steps h (length ps) (met_count c.args.shift ms) (length c.self.inside.added) (length places) (length es) c.args.steps.now c.places_anew.new.steps c.marks_after.new.steps c.take_out.new.steps c.carry.new.steps c.put_in.new.steps met unshown count (c.places_anew.ensures.steps h few-marks) (c.marks_after.ensures.steps h few-marks) (c.take_out.ensures.steps h few-stops) (c.carry.ensures.steps h few-left) (c.put_in.ensures.steps h few-after))
+    remade-within c.args.shift es c.args.edits.now old c.args.side ms ss c.self.inside.added c.args.self.now side seen c.args.steps.now c.settled.new.steps first c.len-count.ensures.lawful c.edits-edits.ensures.value c.places_anew.new.steps c.places_anew.ensures.steps places rising within only c.some_anew.new.steps c.some_anew.ensures.steps

@@ -10,18 +10,6 @@ pub overflow_add-text_row : goal.overflow_add-text_row
 overflow_add-text_row g c =
     omega (arith, within-count c.args.self.now c.text_rows-count.ensures.lawful c.args.line c.args.row c.requires.line c.requires.row, c.rows_before.ensures, ap (λ (b : Between). rows_before b.lines c.args.line) c.self.view_is, c.text_rows-count.ensures.count, c.text_rows-count.type_inv)
 
-pub rows_upto-above-requires : goal.rows_upto-above-requires
-rows_upto-above-requires g c =
-    let t = c.rows_before.result + c.args.row in
-    let le : t ≤ length (all_rows c.args.self.now.lines) = omega (arith, within-count c.args.self.now c.text_rows-count.ensures.lawful c.args.line c.args.row c.requires.line c.requires.row, c.rows_before.ensures, ap (λ (b : Between). rows_before b.lines c.args.line) c.self.view_is) in
-    omega (arith, sums-fit c.args.self.now c.text_rows-count.ensures.lawful Right Right t le, ap (λ (b : Between). rows_upto Right t b.above) c.self.view_is)
-
-pub rows_upto-below-requires : goal.rows_upto-below-requires
-rows_upto-below-requires g c =
-    let t = c.rows_before.result + c.args.row in
-    let le : t ≤ length (all_rows c.args.self.now.lines) = omega (arith, within-count c.args.self.now c.text_rows-count.ensures.lawful c.args.line c.args.row c.requires.line c.requires.row, c.rows_before.ensures, ap (λ (b : Between). rows_before b.lines c.args.line) c.self.view_is) in
-    omega (arith, sums-fit c.args.self.now c.text_rows-count.ensures.lawful Right Right t le, ap (λ (b : Between). rows_upto Right t b.below) c.self.view_is)
-
 pub overflow_add-result : goal.overflow_add-result
 overflow_add-result g c =
     let t = c.rows_before.result + c.args.row in
