@@ -2,63 +2,16 @@
 use crate::laid::Laid;
 use crate::plain::{IDS, LINES_COUNT, PlainBlocks, PlainRow, lines_given};
 use crate::read::{letter_of, texts};
-use crate::script::repeated;
 use crate::seen::Seen;
 use block_map::Shown;
-use cell_units::{Fault, NoMemory, Refusal, Side};
+use cell_units::{NoMemory, Refusal};
 use made_input::Generator;
 use std::alloc::Global;
 use std::test::Fail;
-
-/// The texts that are put in.
-const WORDS: [&str; 10] = [
-    "",
-    "a",
-    " ",
-    "bb cc",
-    "\n",
-    "dd\nee ff",
-    "\tg",
-    "hh ii jj kk",
-    "\n\n",
-    "nnnnnnnnnn",
-];
-
-/// The widths that are set.
-const WIDTHS: [u32; 6] = [0, 4, 5, 8, 12, 30];
-
-/// One of the texts.
-fn word(generator: &mut Generator) -> &'static str {
-    WORDS
-        .get(generator.below(10) as usize)
-        .copied()
-        .unwrap_or("")
-}
-
-/// One of the widths.
-fn width(generator: &mut Generator) -> u32 {
-    WIDTHS
-        .get(generator.below(6) as usize)
-        .copied()
-        .unwrap_or(0)
-}
-
-/// One of the sides.
-fn side(generator: &mut Generator) -> Side {
-    if generator.below(2) == 0 {
-        Side::Above
-    } else {
-        Side::Below
-    }
-}
-
-/// Whether a call answered what the plain lists do.
-fn answers(answer: Result<(), Fault>, refusal: Option<Refusal>) -> bool {
-    match refusal {
-        None => answer == Ok(()),
-        Some(refusal) => answer == Err(Fault::Refused(refusal)),
-    }
-}
+use test_parts::lists::answers;
+use test_parts::steps::{History, first_difference};
+use test_parts::told::repeated;
+use test_parts::words::{drawn_range, drawn_side, drawn_text, drawn_width};
 
 /// Whether a row is as it has to be.
 fn is_row(shown: &Shown, row: &PlainRow) -> bool {
@@ -122,37 +75,27 @@ fn has_rows_together(
 
 /// A text with blocks and the same by plain lists, changed together.
 #[derive(Drop)]
-struct History {
+struct Blocked {
     laid: Laid,
     plain: PlainBlocks,
     generator: Generator,
 }
 
-impl History {
+impl Blocked {
     /// A text without blocks.
-    fn new(alloc: Global, text: &str, seed: u64) -> Result<History, Fail> {
-        Ok(History {
+    fn new(alloc: Global, text: &str, seed: u64) -> Result<Blocked, Fail> {
+        Ok(Blocked {
             laid: Laid::new(alloc, text)?,
             plain: PlainBlocks::new(alloc, text.as_bytes())?,
             generator: Generator::new(seed),
         })
     }
 
-    /// Takes so many turns. It gives the first after which the two don't agree.
-    fn first_difference(&mut self, turns: u32) -> Result<Option<u32>, NoMemory> {
-        for turn in 0..turns {
-            if !self.turns_alike()? || !self.shows_alike()? {
-                return Ok(Some(turn));
-            }
-        }
-        Ok(None)
-    }
-
-    /// Makes a random change of both, shows it, and tells whether the answers agree.
-    fn turns_alike(&mut self) -> Result<bool, NoMemory> {
+    /// Makes a random change of both, and tells whether the answers agree.
+    fn answers_alike(&mut self) -> Result<bool, NoMemory> {
         match self.generator.below(20) {
             0 => {
-                let width = width(&mut self.generator);
+                let width = drawn_width(&mut self.generator);
                 Ok(self.laid.set_width(width).is_ok())
             }
             1 | 2 => {
@@ -176,11 +119,11 @@ impl History {
     /// Adds a block, which may be refused.
     fn inserts_alike(&mut self) -> Result<bool, NoMemory> {
         let id = self.generator.below(IDS);
-        let side = side(&mut self.generator);
+        let side = drawn_side(&mut self.generator);
         let offset = self.generator.below(self.plain.len().saturating_add(2));
         let lines = self.generator.below(LINES_COUNT);
         let refusal = self.plain.insert(id, side, offset, lines)?;
-        let given = texts(self.laid.alloc(), lines_given(lines))?;
+        let given = texts(self.laid.alloc, lines_given(lines))?;
         let answer = self.laid.insert(id, side, offset, given.as_slice());
         Ok(answers(answer, refusal))
     }
@@ -196,12 +139,8 @@ impl History {
     /// Replaces a range, which may be backwards or past the end, and is short where the text is.
     fn edits_alike(&mut self) -> Result<bool, NoMemory> {
         let len = self.plain.len();
-        let start = self.generator.below(len.saturating_add(1));
-        let most = (len / 4).max(6);
-        let end = start
-            .wrapping_add(self.generator.below(most))
-            .wrapping_sub(1);
-        let word = word(&mut self.generator);
+        let (start, end) = drawn_range(&mut self.generator, len, (len / 4).max(6));
+        let word = drawn_text(&mut self.generator);
         let answer = self.laid.edit(start, end, word);
         if start > end || end > len {
             return Ok(answers(answer, Some(Refusal::BadRange)));
@@ -213,7 +152,7 @@ impl History {
     /// Shows both, and tells whether they show the same rows. Of one turn in eight it asks for each by itself.
     fn shows_alike(&mut self) -> Result<bool, NoMemory> {
         self.laid.show()?;
-        let seen = self.laid.seen()?;
+        let seen = self.laid.seen_now()?;
         let rows = self.plain.rows(&seen)?;
         let rows = rows.as_slice();
         let count = seen.row_count();
@@ -232,10 +171,15 @@ impl History {
     }
 }
 
+impl History for Blocked {
+    fn turns_alike(&mut self) -> Result<bool, NoMemory> {
+        Ok(self.answers_alike()? && self.shows_alike()?)
+    }
+}
+
 /// Takes so many turns over a text. It gives the first after which the map and the lists don't agree.
 fn differ_at(alloc: Global, text: &str, seed: u64, turns: u32) -> Result<Option<u32>, Fail> {
-    let mut history = History::new(alloc, text, seed)?;
-    Ok(history.first_difference(turns)?)
+    Ok(first_difference(Blocked::new(alloc, text, seed)?, turns)?)
 }
 
 /// After each of 250 random edits, landings, widths and blocks, refused ones among them, the map shows the rows of the plain

@@ -11,7 +11,7 @@ use text_rope::Rope;
 /// A text with its maps and its blocks, and a run of lines that is out. Proofs see nothing of it: whoever changes it owes nothing.
 #[derive(Drop)]
 pub(crate) struct Laid {
-    alloc: Global,
+    pub alloc: Global,
     late: LateBlocks,
 }
 
@@ -32,7 +32,7 @@ impl Laid {
     }
 
     /// An equal one, of which no run is out.
-    pub(crate) fn share(&self) -> Result<Laid, NoMemory> {
+    pub(crate) fn share_all(&self) -> Result<Laid, NoMemory> {
         let blocked = self.late.blocked.share()?;
         let late = LateBlocks::new(self.alloc, blocked)?;
         Ok(Laid {
@@ -41,13 +41,8 @@ impl Laid {
         })
     }
 
-    /// The allocator of what it makes.
-    pub(crate) fn alloc(&self) -> Global {
-        self.alloc
-    }
-
     /// What was shown last.
-    pub(crate) fn seen(&self) -> Result<Seen, NoMemory> {
+    pub(crate) fn seen_now(&self) -> Result<Seen, NoMemory> {
         Seen::of(self.alloc, &self.late.blocked.shown)
     }
 

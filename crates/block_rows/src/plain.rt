@@ -1,7 +1,8 @@
 //! What has to be shown, by plain lists: a text by its bytes, the blocks in it, and all rows one by one.
 use crate::seen::Seen;
-use cell_units::{NoMemory, Refusal, Side};
+use cell_units::{Bias, NoMemory, Refusal, Side};
 use std::alloc::Global;
+use test_parts::lists::{count_of, moved, replaced, row_at};
 
 /// The ids that blocks are given are below this.
 pub(crate) const IDS: u32 = 40;
@@ -64,18 +65,12 @@ impl PlainBlocks {
 
     /// The number of bytes of the text.
     pub(crate) fn len(&self) -> u32 {
-        u32::try_from(self.text.len()).unwrap_or(u32::MAX)
+        count_of(self.text.len())
     }
 
-    /// The row of an offset: how many line feeds stand before it.
+    /// The row of an offset.
     fn row_of(&self, offset: u32) -> u32 {
-        let mut row: u32 = 0;
-        for byte in self.text.get(..offset as usize).unwrap_or(&[]) {
-            if *byte == b'\n' {
-                row = row.wrapping_add(1);
-            }
-        }
-        row
+        row_at(&self.text, offset)
     }
 
     /// Adds a block, behind all that come before it.
@@ -123,14 +118,10 @@ impl PlainBlocks {
 
     /// Puts a text in the place of a range, and moves the blocks.
     pub(crate) fn edit(&mut self, start: u32, end: u32, put: &[u8]) -> Result<(), NoMemory> {
-        let mut text = Vec::new(self.alloc);
-        text.extend_from_slice(self.text.get(..start as usize).unwrap_or(&[]))?;
-        text.extend_from_slice(put)?;
-        text.extend_from_slice(self.text.get(end as usize..).unwrap_or(&[]))?;
-        self.text = text;
-        let count = u32::try_from(put.len()).unwrap_or(u32::MAX);
+        self.text = replaced(self.alloc, &self.text, start, end, put)?;
+        let count = count_of(put.len());
         for block in self.blocks.as_mut_slice() {
-            block.offset = moved(block.offset, start, end, count);
+            block.offset = moved(block.offset, Bias::Right, start, end, count);
         }
         self.put_in_order();
         Ok(())
@@ -195,17 +186,4 @@ fn push_line(
         })?;
     }
     Ok(())
-}
-
-/// Where an anchor goes that stays behind what is inserted at it.
-fn moved(offset: u32, start: u32, end: u32, count: u32) -> u32 {
-    if offset < start {
-        return offset;
-    }
-    if offset <= end {
-        return start.wrapping_add(count);
-    }
-    offset
-        .wrapping_add(count)
-        .wrapping_sub(end.wrapping_sub(start))
 }

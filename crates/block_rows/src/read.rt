@@ -3,6 +3,7 @@ use crate::seen::Seen;
 use block_map::{Kind, Shown};
 use cell_units::{NoMemory, Text};
 use std::alloc::Global;
+use test_parts::told::{number, pair};
 
 /// The letter that is printed for a row of the kind.
 pub(crate) fn letter_of(kind: Kind) -> char {
@@ -50,18 +51,7 @@ fn all_told(alloc: Global, rows: Vec<Shown>) -> Result<String, NoMemory> {
 
 /// The line and the text row in it that stand at a row, or `none`.
 pub(crate) fn text_at(seen: &Seen, row: u32) -> Result<String, NoMemory> {
-    match seen.text_at(row) {
-        Some((line, row)) => Ok(format!(in seen.alloc(); "{line} {row}")?),
-        None => number(seen.alloc(), None),
-    }
-}
-
-/// A number, or `none`.
-pub(crate) fn number(alloc: Global, number: Option<u32>) -> Result<String, NoMemory> {
-    match number {
-        Some(number) => Ok(format!(in alloc; "{number}")?),
-        None => Ok(String::from_str(alloc, "none")?),
-    }
+    pair(seen.alloc(), seen.text_at(row))
 }
 
 /// These lines as texts.

@@ -1,11 +1,13 @@
 //! What is done to a text with blocks and asked of it, step by step, and what is answered, in words.
 use crate::laid::Laid;
-use crate::read::{number, row, rows, text_at, texts};
+use crate::read::{row, rows, text_at, texts};
 use crate::seen::Seen;
 use cell_line::Run;
-use cell_units::{Fault, NoMemory, Refusal, Side, Text};
+use cell_units::{Fault, NoMemory, Side, Text};
 use std::alloc::Global;
 use std::test::Fail;
+use test_parts::steps::{self, Played};
+use test_parts::told::{accepted, number, refused, repeated};
 
 /// A change, or a question.
 #[derive(Clone, Copy)]
@@ -50,8 +52,7 @@ pub(crate) enum Step<'a> {
 
 /// Takes the steps one by one over a text of which each line stands in one row. It gives their answers, with `; ` between them.
 pub(crate) fn play(alloc: Global, text: &str, steps: &[Step]) -> Result<String, Fail> {
-    let mut laid = Laid::new(alloc, text)?;
-    Ok(take_steps(&mut laid, steps)?)
+    Ok(steps::play(Laid::new(alloc, text)?, steps)?)
 }
 
 /// The same, and then other steps over an equal text, and others again over the first one. It gives the answers of the last two,
@@ -63,47 +64,54 @@ pub(crate) fn play_apart(
     apart: &[Step],
     behind: &[Step],
 ) -> Result<String, Fail> {
-    let mut laid = Laid::new(alloc, text)?;
-    Ok(take_apart(&mut laid, before, apart, behind)?)
+    let laid = Laid::new(alloc, text)?;
+    Ok(steps::play_apart(laid, before, apart, behind)?)
 }
 
-/// Takes the first steps, the second ones over an equal text, and then the third.
-fn take_apart(
-    laid: &mut Laid,
+/// The same, with the last steps but one over the text, and the last asked of what was shown before them, and of what is shared of
+/// it.
+pub(crate) fn play_behind(
+    alloc: Global,
+    text: &str,
     before: &[Step],
     apart: &[Step],
     behind: &[Step],
-) -> Result<String, NoMemory> {
-    let _told = take_steps(laid, before)?;
-    let mut all = take_shared(laid, apart)?;
-    let told = take_steps(laid, behind)?;
-    all.push_str(" / ")?;
-    all.push_str(told.as_str())?;
-    Ok(all)
+) -> Result<String, Fail> {
+    let laid = Laid::new(alloc, text)?;
+    Ok(steps::play_behind(laid, before, apart, behind)?)
 }
 
-/// Takes steps one by one.
-fn take_steps(laid: &mut Laid, steps: &[Step]) -> Result<String, NoMemory> {
-    let mut all = String::new(laid.alloc());
-    for step in steps {
-        if all.len() > 0 {
-            all.push_str("; ")?;
-        }
-        let told = take_step(laid, step)?;
-        all.push_str(told.as_str())?;
+impl<'a> Played<Step<'a>> for Laid {
+    type Seen = Seen;
+
+    fn alloc(&self) -> Global {
+        self.alloc
     }
-    Ok(all)
-}
 
-/// Takes steps over an equal text with equal maps.
-fn take_shared(laid: &Laid, steps: &[Step]) -> Result<String, NoMemory> {
-    let mut shared = laid.share()?;
-    take_steps(&mut shared, steps)
+    fn share(&self) -> Result<Laid, NoMemory> {
+        self.share_all()
+    }
+
+    fn take_step(&mut self, step: &Step<'a>) -> Result<String, NoMemory> {
+        take_step(self, step)
+    }
+
+    fn seen(&self) -> Result<Seen, NoMemory> {
+        self.seen_now()
+    }
+
+    fn share_seen(seen: &Seen) -> Result<Seen, NoMemory> {
+        seen.share()
+    }
+
+    fn look(_alloc: Global, seen: &Seen, step: &Step<'a>) -> Result<String, NoMemory> {
+        look(seen, step)
+    }
 }
 
 /// The answer to a step.
 fn take_step(laid: &mut Laid, step: &Step) -> Result<String, NoMemory> {
-    let alloc = laid.alloc();
+    let alloc = laid.alloc;
     match step {
         Step::Block(id, side, offset, lines) => {
             let lines = texts(alloc, lines)?;
@@ -130,7 +138,7 @@ fn take_step(laid: &mut Laid, step: &Step) -> Result<String, NoMemory> {
 
 /// The answer to a step that adds and removes no block.
 fn change(laid: &mut Laid, step: &Step) -> Result<String, NoMemory> {
-    let alloc = laid.alloc();
+    let alloc = laid.alloc;
     match step {
         Step::Show => done(alloc, laid.show()),
         Step::Edit(start, end, text) => accepted(alloc, laid.edit(*start, *end, text)),
@@ -138,13 +146,13 @@ fn change(laid: &mut Laid, step: &Step) -> Result<String, NoMemory> {
         Step::Wrap => counted(alloc, laid.wrap_next()?),
         Step::Take => counted(alloc, laid.take()?),
         Step::Land => done(alloc, laid.land()),
-        _ => look(&laid.seen()?, step),
+        _ => look(&laid.seen_now()?, step),
     }
 }
 
 /// Adds a block of one line for each of so many ids, above and below by turns, up to the first that is refused.
 fn insert_each(laid: &mut Laid, count: u32) -> Result<(), Fault> {
-    let lines = same_lines(laid.alloc(), 1)?;
+    let lines = same_lines(laid.alloc, 1)?;
     for id in 0..count {
         let side = if id % 2 == 0 {
             Side::Above
@@ -170,15 +178,6 @@ fn look(seen: &Seen, step: &Step) -> Result<String, NoMemory> {
     }
 }
 
-/// A text, so often.
-pub(crate) fn repeated(alloc: Global, text: &str, count: usize) -> Result<String, NoMemory> {
-    let mut all = String::new(alloc);
-    for _ in 0..count {
-        all.push_str(text)?;
-    }
-    Ok(all)
-}
-
 /// So many lines `x`.
 fn same_lines(alloc: Global, count: usize) -> Result<Vec<Text>, NoMemory> {
     let mut lines = Vec::new(alloc);
@@ -197,21 +196,4 @@ fn counted(alloc: Global, run: Option<Run>) -> Result<String, NoMemory> {
 fn done(alloc: Global, answer: Result<(), NoMemory>) -> Result<String, NoMemory> {
     answer?;
     refused(alloc, Ok(()))
-}
-
-/// `ok`, or the refusal.
-fn refused(alloc: Global, answer: Result<(), Refusal>) -> Result<String, NoMemory> {
-    match answer {
-        Ok(()) => Ok(String::from_str(alloc, "ok")?),
-        Err(refusal) => Ok(format!(in alloc; "{refusal:?}")?),
-    }
-}
-
-/// `ok`, or the refusal.
-fn accepted(alloc: Global, answer: Result<(), Fault>) -> Result<String, NoMemory> {
-    match answer {
-        Ok(()) => refused(alloc, Ok(())),
-        Err(Fault::Refused(refusal)) => refused(alloc, Err(refusal)),
-        Err(Fault::NoMemory) => Err(NoMemory),
-    }
 }

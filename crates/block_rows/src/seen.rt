@@ -30,6 +30,11 @@ impl Seen {
         })
     }
 
+    /// An equal one.
+    pub(crate) fn share(&self) -> Result<Seen, NoMemory> {
+        Seen::of(self.alloc, &self.shown)
+    }
+
     /// The allocator of what it makes.
     pub(crate) fn alloc(&self) -> Global {
         self.alloc

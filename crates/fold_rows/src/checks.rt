@@ -1,12 +1,12 @@
 //! What is compared of a text under its maps and the same by plain lists.
-use crate::laid::Replaced;
-use crate::looks;
-use crate::plain::{
-    Origin, Placed, PlainFold, PlainLine, PlainText, ShownByte, WrittenOut, boundaries_of, moved,
-};
-use cell_units::{Bias, Fault, Layer, NoMemory, Piece, PieceKind, Refusal};
+use crate::plain::{PlainFold, PlainLine, PlainText, WrittenOut};
+use cell_units::{Bias, Layer, NoMemory, Piece, PieceKind};
 use fold_map::FoldSnapshot;
 use std::alloc::Global;
+use test_parts::checks::{has_places, has_points, leads_back};
+use test_parts::inlaid::{Origin, ShownByte};
+use test_parts::looks;
+use test_parts::told::Stretch;
 
 /// What has to be shown, and its lines.
 #[derive(Drop)]
@@ -16,6 +16,11 @@ pub(crate) struct Shown {
 }
 
 impl Shown {
+    /// The bytes that are shown.
+    pub(crate) fn bytes(&self) -> &[ShownByte] {
+        &self.all.bytes
+    }
+
     pub(crate) fn of(plain: &PlainText) -> Result<Shown, NoMemory> {
         let all = plain.written_out()?;
         let lines = plain.lines(&all)?;
@@ -43,53 +48,13 @@ impl Change {
 
     /// Of a fold.
     pub(crate) fn of_fold(plain: &PlainText, start: u32, end: u32) -> Change {
-        let rows = (plain.row(start), plain.row(end));
+        let rows = (plain.inlaid.row(start), plain.inlaid.row(end));
         Change {
             before: rows,
             after: rows,
             fold: Some(PlainFold { start, end }),
         }
     }
-}
-
-/// Whether a call answered what the plain lists do.
-pub(crate) fn answers(answer: Result<(), Fault>, refusal: Option<Refusal>) -> bool {
-    match refusal {
-        None => answer == Ok(()),
-        Some(refusal) => answer == Err(Fault::Refused(refusal)),
-    }
-}
-
-/// The byte with its offset moved by a replacement of the text, if there was one.
-fn moved_byte(shown: ShownByte, edit: Replaced) -> ShownByte {
-    let Some((start, end, count)) = edit else {
-        return shown;
-    };
-    ShownByte {
-        offset: moved(shown.offset, Bias::Right, start, end, count),
-        ..shown
-    }
-}
-
-/// Whether all before a replacement is the same in both, and all behind it the same, moved. None leads from bytes to the same.
-pub(crate) fn leads(old: &Shown, new: &Shown, answer: Replaced, edit: Replaced) -> bool {
-    let before = old.all.bytes.as_slice();
-    let after = new.all.bytes.as_slice();
-    let (start, end, count) = answer.unwrap_or((0, 0, 0));
-    let come = start.wrapping_add(count) as usize;
-    let behind = before.len().saturating_sub(end as usize);
-    for at in 0..start as usize {
-        if before.get(at) != after.get(at) {
-            return false;
-        }
-    }
-    for at in 0..behind {
-        let shown = before.get(at.wrapping_add(end as usize)).copied();
-        if shown.map(|s| moved_byte(s, edit)) != after.get(at.wrapping_add(come)).copied() {
-            return false;
-        }
-    }
-    after.len() == behind.wrapping_add(come)
 }
 
 /// Whether the places from one to another meet just the lines that have one of these rows.
@@ -110,7 +75,7 @@ pub(crate) fn answers_change(
     plain: &PlainText,
     old: &Shown,
     new: &Shown,
-    answer: Replaced,
+    answer: Stretch,
     change: Change,
 ) -> bool {
     let Some((start, end, count)) = answer else {
@@ -152,81 +117,40 @@ fn lines_to(shown: &Shown, place: u32) -> usize {
     count
 }
 
-/// Whether a layer shows what the plain lists do, wherever it is asked.
+/// Whether a layer shows what the plain lists do, wherever it is asked. That it may go to another thread is proved here, over any
+/// layer below.
 pub(crate) fn agrees<L: Layer>(
     alloc: Global,
     layer: &FoldSnapshot<L>,
     plain: &PlainText,
     shown: &Shown,
 ) -> Result<bool, NoMemory> {
+    agrees_everywhere(alloc, layer, plain, shown)
+}
+
+/// The same of any layer.
+fn agrees_everywhere<L: Layer>(
+    alloc: Global,
+    layer: &L,
+    plain: &PlainText,
+    shown: &Shown,
+) -> Result<bool, NoMemory> {
     let placed = plain.placed(&shown.all)?;
     Ok(
-        has_places(layer, plain.len(), &placed)
+        has_places(layer, plain.inlaid.len(), &placed)
             && leads_back(layer, &placed)
             && has_points(layer, &shown.all.bytes)
             && has_lines(alloc, layer, shown)?,
     )
 }
 
-/// Whether each boundary has the places that are reckoned, and no other offset has one, nor one past the end.
-fn has_places<L: Layer>(layer: &FoldSnapshot<L>, length: u32, placed: &[Placed]) -> bool {
-    let mut found: usize = 0;
-    for offset in 0..length.saturating_add(2) {
-        if looks::places(layer, offset).is_some() {
-            found = found.wrapping_add(1);
-        }
-    }
-    for one in placed {
-        if looks::places(layer, one.offset) != Some((one.left, one.right)) {
-            return false;
-        }
-    }
-    found == placed.len()
-}
-
-/// Whether each place leads back to the boundaries that have it, and one past the end to none.
-fn leads_back<L: Layer>(layer: &FoldSnapshot<L>, placed: &[Placed]) -> bool {
-    for place in 0..layer.length().saturating_add(2) {
-        let (least, greatest) = boundaries_of(placed, place);
-        if layer.back(place, Bias::Left) != least || layer.back(place, Bias::Right) != greatest {
-            return false;
-        }
-    }
-    true
-}
-
-/// Whether each place stands on the line and behind the bytes that are counted.
-fn has_points<L: Layer>(layer: &FoldSnapshot<L>, all: &[ShownByte]) -> bool {
-    let mut place: u32 = 0;
-    let mut line: u32 = 0;
-    let mut column: u32 = 0;
-    for shown in all {
-        if looks::point(layer, place) != Some((line, column)) {
-            return false;
-        }
-        place = place.wrapping_add(1);
-        column = column.wrapping_add(1);
-        if shown.ends_line() {
-            line = line.wrapping_add(1);
-            column = 0;
-        }
-    }
-    layer.length() == place
-        && layer.lines() == line.wrapping_add(1)
-        && looks::point(layer, place) == Some((line, column))
-}
-
 /// Whether each line begins and ends where it does by the plain lists, spans the same rows and has the same pieces.
-fn has_lines<L: Layer>(
-    alloc: Global,
-    layer: &FoldSnapshot<L>,
-    shown: &Shown,
-) -> Result<bool, NoMemory> {
+fn has_lines<L: Layer>(alloc: Global, layer: &L, shown: &Shown) -> Result<bool, NoMemory> {
     let mut number: u32 = 0;
     for line in &shown.lines {
         let start = line.start as usize;
         let bytes = shown.all.bytes.get(start..line.end as usize).unwrap_or(&[]);
-        if looks::line_start(layer, number) != Some(line.start)
+        if looks::line_begin(layer, number) != Some(line.start)
             || looks::span(layer, number) != Some((line.first, line.last))
             || !has_pieces(alloc, layer, number, bytes, &shown.all.joined)?
         {
@@ -240,7 +164,7 @@ fn has_lines<L: Layer>(
 /// Whether the pieces of a line are these bytes, cut where one that belongs to something else follows.
 fn has_pieces<L: Layer>(
     alloc: Global,
-    layer: &FoldSnapshot<L>,
+    layer: &L,
     line: u32,
     bytes: &[ShownByte],
     joined: &[PlainFold],

@@ -1,15 +1,21 @@
 //! Random changes of a text under its maps, each beside the same change of plain lists.
-use crate::checks::{Change, Shown, agrees, answers, answers_change, leads};
-use crate::laid::{Laid, Replaced};
-use crate::plain::{IDS, PlainText, WORDS, bytes_of, given};
-use cell_units::{Bias, Fault, NoMemory};
+use crate::checks::{Change, Shown, agrees, answers_change};
+use crate::laid::Laid;
+use crate::plain::PlainText;
+use cell_units::NoMemory;
 use made_input::Generator;
 use std::alloc::Global;
 use std::test::Fail;
+use test_parts::checks::leads;
+use test_parts::inlaid::IDS;
+use test_parts::lists::{answers, count_of};
+use test_parts::steps::{History, first_difference};
+use test_parts::told::Stretch;
+use test_parts::words::{GIVEN_COUNT, cleaned, drawn_bias, drawn_range, given};
 
 /// A text under its maps and the same by plain lists, changed together.
 #[derive(Drop)]
-struct History {
+struct Folded {
     laid: Laid,
     plain: PlainText,
     shown: Shown,
@@ -19,12 +25,12 @@ struct History {
     generator: Generator,
 }
 
-impl History {
+impl Folded {
     /// An empty text.
-    fn new(alloc: Global, seed: u64) -> Result<History, Fail> {
+    fn new(alloc: Global, seed: u64) -> Result<Folded, Fail> {
         let plain = PlainText::new(alloc)?;
         let shown = Shown::of(&plain)?;
-        Ok(History {
+        Ok(Folded {
             laid: Laid::new(alloc, "")?,
             plain,
             shown,
@@ -32,36 +38,6 @@ impl History {
             last: Change::at_row(0),
             generator: Generator::new(seed),
         })
-    }
-
-    /// Takes so many turns, and lets both go. It gives the first after which they don't agree.
-    fn difference(mut self, turns: u32) -> Result<Option<u32>, NoMemory> {
-        self.first_difference(turns)
-    }
-
-    /// Takes so many turns. It gives the first after which the two don't agree.
-    fn first_difference(&mut self, turns: u32) -> Result<Option<u32>, NoMemory> {
-        for turn in 0..turns {
-            if !self.agrees_once_more()? {
-                return Ok(Some(turn));
-            }
-        }
-        Ok(None)
-    }
-
-    /// Makes a random change of both, or shows both, and tells whether they agree.
-    fn agrees_once_more(&mut self) -> Result<bool, NoMemory> {
-        match self.generator.below(20) {
-            0..=3 => Ok(self.insert()),
-            4 | 5 => Ok(self.remove()),
-            6..=9 => Ok(self.fold()),
-            10 | 11 => Ok(self.unfold()),
-            12 | 13 => {
-                let answer = self.laid.sync()?;
-                self.shows_both(answer, None)
-            }
-            _ => self.edit(),
-        }
     }
 
     /// Notes a change that was accepted.
@@ -72,16 +48,14 @@ impl History {
 
     fn insert(&mut self) -> bool {
         let id = self.generator.below(IDS);
-        let offset = self.generator.below(self.plain.len().saturating_add(2));
-        let bias = if self.generator.below(2) == 0 {
-            Bias::Left
-        } else {
-            Bias::Right
-        };
-        let word = self.generator.below(WORDS);
-        let refusal = self.plain.insert(id, offset, bias, word);
+        let offset = self
+            .generator
+            .below(self.plain.inlaid.len().saturating_add(2));
+        let bias = drawn_bias(&mut self.generator);
+        let word = self.generator.below(GIVEN_COUNT);
+        let refusal = self.plain.inlaid.insert(id, offset, bias, word);
         if refusal.is_none() {
-            let change = Change::at_row(self.plain.row(offset));
+            let change = Change::at_row(self.plain.inlaid.row(offset));
             self.note(change);
         }
         answers(self.laid.insert(id, offset, bias, given(word)), refusal)
@@ -89,18 +63,20 @@ impl History {
 
     fn remove(&mut self) -> bool {
         let id = self.generator.below(IDS);
-        if let Some(offset) = self.plain.offset_of(id) {
-            let change = Change::at_row(self.plain.row(offset));
+        if let Some(offset) = self.plain.inlaid.offset_of(id) {
+            let change = Change::at_row(self.plain.inlaid.row(offset));
             self.note(change);
         }
-        let refusal = self.plain.remove(id);
+        let refusal = self.plain.inlaid.remove(id);
         answers(self.laid.remove(id), refusal)
     }
 
     /// Folds a range, which may be empty, backwards or past the end.
     fn fold(&mut self) -> bool {
         let id = self.generator.below(IDS);
-        let start = self.generator.below(self.plain.len().saturating_add(2));
+        let start = self
+            .generator
+            .below(self.plain.inlaid.len().saturating_add(2));
         let end = start.wrapping_add(self.generator.below(12)).wrapping_sub(2);
         let refusal = self.plain.fold(id, start, end);
         if refusal.is_none() {
@@ -122,16 +98,15 @@ impl History {
 
     /// Replaces a short range, which may be backwards or past the end.
     fn edit(&mut self) -> Result<bool, NoMemory> {
-        let start = self.generator.below(self.plain.len().saturating_add(1));
-        let end = start.wrapping_add(self.generator.below(5)).wrapping_sub(1);
-        let word = self.generator.below(WORDS);
-        let before = (self.plain.row(start), self.plain.row(end));
+        let (start, end) = drawn_range(&mut self.generator, self.plain.inlaid.len(), 5);
+        let word = self.generator.below(GIVEN_COUNT);
+        let before = (self.plain.inlaid.row(start), self.plain.inlaid.row(end));
         let refusal = self.plain.edit(start, end, word)?;
-        let count = bytes_of(word);
+        let count = count_of(cleaned(word).len());
         match self.laid.edit(start, end, given(word)) {
             Ok(answer) => {
                 let come = start.wrapping_add(count);
-                let after = (self.plain.row(start), self.plain.row(come));
+                let after = (self.plain.inlaid.row(start), self.plain.inlaid.row(come));
                 self.note(Change {
                     before,
                     after,
@@ -145,7 +120,7 @@ impl History {
 
     /// Whether a snapshot shows what is written out, and the replacement leads to it from what was shown before. Where there was
     /// one change, it answers that; where there was none, there is none.
-    fn shows_both(&mut self, answer: Replaced, edit: Replaced) -> Result<bool, NoMemory> {
+    fn shows_both(&mut self, answer: Stretch, edit: Stretch) -> Result<bool, NoMemory> {
         let shown = Shown::of(&self.plain)?;
         let is_exact = match self.changes {
             0 => answer.is_none(),
@@ -153,18 +128,33 @@ impl History {
             _ => true,
         };
         let agree = is_exact
-            && leads(&self.shown, &shown, answer, edit)
-            && agrees(self.laid.alloc(), &self.laid.shown, &self.plain, &shown)?;
+            && leads(self.shown.bytes(), shown.bytes(), answer, edit)
+            && agrees(self.laid.alloc, &self.laid.shown, &self.plain, &shown)?;
         self.shown = shown;
         self.changes = 0;
         Ok(agree)
     }
 }
 
+impl History for Folded {
+    fn turns_alike(&mut self) -> Result<bool, NoMemory> {
+        match self.generator.below(20) {
+            0..=3 => Ok(self.insert()),
+            4 | 5 => Ok(self.remove()),
+            6..=9 => Ok(self.fold()),
+            10 | 11 => Ok(self.unfold()),
+            12 | 13 => {
+                let answer = self.laid.sync()?;
+                self.shows_both(answer, None)
+            }
+            _ => self.edit(),
+        }
+    }
+}
+
 /// Takes so many turns over an empty text. It gives the first after which the maps and the lists don't agree.
 fn differ_at(alloc: Global, seed: u64, turns: u32) -> Result<Option<u32>, Fail> {
-    let history = History::new(alloc, seed)?;
-    Ok(history.difference(turns)?)
+    Ok(first_difference(Folded::new(alloc, seed)?, turns)?)
 }
 
 /// After each of 2,000 random changes in four histories, refused ones among them, the maps agree with the text that is written out.

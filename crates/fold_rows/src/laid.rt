@@ -1,17 +1,15 @@
 //! A text under inlays and folds, which is changed and shown.
-use cell_units::{Bias, Fault, NoMemory, Shift, Steps};
+use cell_units::{Bias, Fault, NoMemory, Steps};
 use folded_text::{FoldedText, Shown};
 use std::alloc::Global;
 use std::test::Fail;
+use test_parts::told::{Stretch, numbers};
 use text_rope::Rope;
-
-/// What a snapshot answers: the start and the end of what is replaced, and how many bytes come for it.
-pub(crate) type Replaced = Option<(u32, u32, u32)>;
 
 /// A text with its maps, and what is shown of it.
 #[derive(Drop)]
 pub(crate) struct Laid {
-    alloc: Global,
+    pub alloc: Global,
     text: FoldedText,
     pub shown: Shown,
     /// How many nodes the last change opened or made.
@@ -34,7 +32,7 @@ impl Laid {
     }
 
     /// An equal one.
-    pub(crate) fn share(&self) -> Result<Laid, NoMemory> {
+    pub(crate) fn share_all(&self) -> Result<Laid, NoMemory> {
         let text = self.text.share()?;
         let shown = self.shown.share()?;
         Ok(Laid {
@@ -43,11 +41,6 @@ impl Laid {
             shown,
             steps: Steps::new(),
         })
-    }
-
-    /// The allocator of what it makes.
-    pub(crate) fn alloc(&self) -> Global {
-        self.alloc
     }
 
     /// Adds an inlay, which is shown from the next snapshot on.
@@ -82,32 +75,27 @@ impl Laid {
     }
 
     /// Shows what is there.
-    pub(crate) fn sync(&mut self) -> Result<Replaced, NoMemory> {
+    pub(crate) fn sync(&mut self) -> Result<Stretch, NoMemory> {
         self.steps = Steps::new();
         let (shown, answer) = self.text.show(self.alloc, &mut self.steps)?;
         self.shown = shown;
-        Ok(replaced(answer))
+        Ok(numbers(answer))
     }
 
     /// Puts a text in the place of a range, and shows what is there then.
-    pub(crate) fn edit(&mut self, start: u32, end: u32, text: &str) -> Result<Replaced, Fault> {
+    pub(crate) fn edit(&mut self, start: u32, end: u32, text: &str) -> Result<Stretch, Fault> {
         self.steps = Steps::new();
         let (shown, answer) = self
             .text
             .replace(self.alloc, start, end, text, &mut self.steps)?;
         self.shown = shown;
-        Ok(replaced(answer))
+        Ok(numbers(answer))
     }
 
     /// How many nodes the last change opened or made.
     pub(crate) fn nodes(&self) -> Result<u64, NoMemory> {
         counted(self.alloc, &self.steps)
     }
-}
-
-/// The three numbers of what is replaced.
-fn replaced(answer: Option<Shift>) -> Replaced {
-    answer.map(|shift| (shift.start, shift.end, shift.count))
 }
 
 /// The number that a counter has, which it only prints.

@@ -9,8 +9,6 @@ mod histories;
 #[cfg(test)]
 mod laid;
 #[cfg(test)]
-mod looks;
-#[cfg(test)]
 mod moves;
 #[cfg(test)]
 mod plain;

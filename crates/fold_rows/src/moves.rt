@@ -2,8 +2,9 @@
 use crate::script::Step::{
     Edit, Fold, FoldChain, Line, Lines, Places, Show, Span, Sync, TookAtMost, Unfold,
 };
-use crate::script::{play, repeated};
+use crate::script::play;
 use std::test::Fail;
+use test_parts::told::repeated;
 
 /// A byte that is hidden changes, and the placeholder is replaced by itself.
 #[test]

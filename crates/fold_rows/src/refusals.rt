@@ -2,10 +2,11 @@
 use crate::script::Step::{
     Fold, FoldEach, Insert, Length, Line, Lines, Places, Remove, Show, Sync, Unfold,
 };
-use crate::script::{play, repeated};
+use crate::script::play;
 use cell_units::Bias::Left;
 use cell_units::limits::ENTRY_LIMIT;
 use std::test::Fail;
+use test_parts::told::repeated;
 
 /// An id that is there, a range that is none, one that is backwards, one past the end, and an id that isn't there.
 #[test]

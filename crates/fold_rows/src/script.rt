@@ -1,10 +1,13 @@
 //! What is done to a text under inlays and folds and asked of it, step by step, and what is answered, in words.
-use crate::laid::{Laid, Replaced};
-use crate::looks;
+use crate::laid::Laid;
 use cell_units::{Bias, Fault, Layer, NoMemory, Piece, PieceKind};
 use fold_map::FoldSnapshot;
+use folded_text::Shown;
 use std::alloc::Global;
 use std::test::Fail;
+use test_parts::looks;
+use test_parts::steps::{self, Played};
+use test_parts::told::{accepted, edited, number, pair, replaced};
 
 /// A change, or a question.
 #[derive(Clone, Copy)]
@@ -44,8 +47,7 @@ pub(crate) enum Step<'a> {
 
 /// Takes the steps one by one over a text without inlays and folds. It gives their answers, with `; ` between them.
 pub(crate) fn play(alloc: Global, text: &str, steps: &[Step]) -> Result<String, Fail> {
-    let laid = Laid::new(alloc, text)?;
-    Ok(laid.take_all(steps)?)
+    Ok(steps::play(Laid::new(alloc, text)?, steps)?)
 }
 
 /// The same, and then other steps over an equal text with equal maps, and others again over the first ones. It gives the answers
@@ -58,70 +60,22 @@ pub(crate) fn play_apart(
     behind: &[Step],
 ) -> Result<String, Fail> {
     let laid = Laid::new(alloc, text)?;
-    Ok(laid.take_all_apart(before, apart, behind)?)
+    Ok(steps::play_apart(laid, before, apart, behind)?)
 }
 
-/// So many times one text.
-pub(crate) fn repeated(alloc: Global, text: &str, count: usize) -> Result<String, NoMemory> {
-    let mut all = String::new(alloc);
-    for _ in 0..count {
-        all.push_str(text)?;
-    }
-    Ok(all)
-}
+impl<'a> Played<Step<'a>> for Laid {
+    type Seen = Shown;
 
-impl Laid {
-    /// Takes the steps one by one.
-    fn take(&mut self, steps: &[Step]) -> Result<String, NoMemory> {
-        let mut all = String::new(self.alloc());
-        for step in steps {
-            if all.len() > 0 {
-                all.push_str("; ")?;
-            }
-            let told = self.take_step(step)?;
-            all.push_str(told.as_str())?;
-        }
-        Ok(all)
+    fn alloc(&self) -> Global {
+        self.alloc
     }
 
-    /// The same, and lets it go. Who calls it has no `Laid` to let go, which takes the prover minutes.
-    fn take_all(mut self, steps: &[Step]) -> Result<String, NoMemory> {
-        self.take(steps)
+    fn share(&self) -> Result<Laid, NoMemory> {
+        self.share_all()
     }
 
-    /// Takes the steps over an equal one.
-    fn take_shared(&self, steps: &[Step]) -> Result<String, NoMemory> {
-        self.share()?.take_all(steps)
-    }
-
-    /// Takes the first steps, the second ones over an equal one, and then the third.
-    fn take_apart(
-        &mut self,
-        before: &[Step],
-        apart: &[Step],
-        behind: &[Step],
-    ) -> Result<String, NoMemory> {
-        let _told = self.take(before)?;
-        let mut all = self.take_shared(apart)?;
-        let told = self.take(behind)?;
-        all.push_str(" / ")?;
-        all.push_str(told.as_str())?;
-        Ok(all)
-    }
-
-    /// The same, and lets it go.
-    fn take_all_apart(
-        mut self,
-        before: &[Step],
-        apart: &[Step],
-        behind: &[Step],
-    ) -> Result<String, NoMemory> {
-        self.take_apart(before, apart, behind)
-    }
-
-    /// The answer to a step.
-    fn take_step(&mut self, step: &Step) -> Result<String, NoMemory> {
-        let alloc = self.alloc();
+    fn take_step(&mut self, step: &Step<'a>) -> Result<String, NoMemory> {
+        let alloc = self.alloc;
         match step {
             Step::Fold(id, start, end) => accepted(alloc, self.fold(*id, *start, *end)),
             Step::FoldEach(count, apart) => accepted(alloc, self.fold_each(*count, *apart, 1)),
@@ -144,6 +98,20 @@ impl Laid {
         }
     }
 
+    fn seen(&self) -> Result<Shown, NoMemory> {
+        self.shown.share()
+    }
+
+    fn share_seen(seen: &Shown) -> Result<Shown, NoMemory> {
+        seen.share()
+    }
+
+    fn look(alloc: Global, seen: &Shown, step: &Step<'a>) -> Result<String, NoMemory> {
+        look(alloc, seen, step)
+    }
+}
+
+impl Laid {
     /// Folds so many bytes of each stretch of so many, up to the first fold that is refused.
     fn fold_each(&mut self, count: u32, apart: u32, bytes: u32) -> Result<(), Fault> {
         for id in 0..count {
@@ -154,44 +122,24 @@ impl Laid {
     }
 }
 
-/// The answer to a question.
+/// The answer to a question. That its layer may go to another thread is proved here, over any layer below.
 fn look<L: Layer>(alloc: Global, layer: &FoldSnapshot<L>, step: &Step) -> Result<String, NoMemory> {
+    told(alloc, layer, step)
+}
+
+/// The same of any layer.
+fn told<L: Layer>(alloc: Global, layer: &L, step: &Step) -> Result<String, NoMemory> {
     match step {
         Step::Length => number(alloc, Some(layer.length())),
         Step::Lines => number(alloc, Some(layer.lines())),
         Step::Line(line) => looks::line_text(alloc, layer, *line),
         Step::Pieces(line) => pieces(alloc, looks::pieces(alloc, layer, *line)?),
-        Step::Start(line) => number(alloc, looks::line_start(layer, *line)),
+        Step::Start(line) => number(alloc, looks::line_begin(layer, *line)),
         Step::Span(line) => pair(alloc, looks::span(layer, *line)),
         Step::Places(offset) => pair(alloc, looks::places(layer, *offset)),
         Step::Point(place) => pair(alloc, looks::point(layer, *place)),
         Step::Back(place, bias) => number(alloc, layer.back(*place, *bias)),
         _ => number(alloc, None),
-    }
-}
-
-/// `ok`, or the refusal.
-fn accepted(alloc: Global, answer: Result<(), Fault>) -> Result<String, NoMemory> {
-    match answer {
-        Ok(()) => Ok(String::from_str(alloc, "ok")?),
-        Err(Fault::Refused(refusal)) => Ok(format!(in alloc; "{refusal:?}")?),
-        Err(Fault::NoMemory) => Err(NoMemory),
-    }
-}
-
-/// What is replaced, or the refusal.
-fn edited(alloc: Global, answer: Result<Replaced, Fault>) -> Result<String, NoMemory> {
-    match answer {
-        Ok(shift) => replaced(alloc, shift),
-        Err(fault) => accepted(alloc, Err(fault)),
-    }
-}
-
-/// The start and the end of what is replaced, and how many bytes come for it, or `none`.
-pub(crate) fn replaced(alloc: Global, shift: Replaced) -> Result<String, NoMemory> {
-    match shift {
-        Some((start, end, count)) => Ok(format!(in alloc; "{start}..{end} by {count}")?),
-        None => Ok(String::from_str(alloc, "none")?),
     }
 }
 
@@ -220,20 +168,4 @@ fn pieces(alloc: Global, pieces: Option<Vec<Piece>>) -> Result<String, NoMemory>
 /// `yes` or `no`.
 fn yes_or_no(alloc: Global, answer: bool) -> Result<String, NoMemory> {
     Ok(String::from_str(alloc, if answer { "yes" } else { "no" })?)
-}
-
-/// Two numbers, or `none`.
-fn pair(alloc: Global, pair: Option<(u32, u32)>) -> Result<String, NoMemory> {
-    match pair {
-        Some((first, second)) => Ok(format!(in alloc; "{first} {second}")?),
-        None => Ok(String::from_str(alloc, "none")?),
-    }
-}
-
-/// A number, or `none`.
-fn number(alloc: Global, number: Option<u32>) -> Result<String, NoMemory> {
-    match number {
-        Some(number) => Ok(format!(in alloc; "{number}")?),
-        None => Ok(String::from_str(alloc, "none")?),
-    }
 }

@@ -13,8 +13,6 @@ mod laid;
 #[cfg(test)]
 mod moves;
 #[cfg(test)]
-mod plain;
-#[cfg(test)]
 mod refusals;
 #[cfg(test)]
 mod rows;

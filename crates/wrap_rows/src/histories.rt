@@ -1,8 +1,7 @@
 //! Random changes of a text under its maps, each beside the same change of plain lists.
 use crate::plain::{PlainLine, PlainRun, PlainText};
 use crate::read::{
-    Replaced, mark, marks, numbers, row_count, row_text, rows_before, rows_of, waiting,
-    waiting_beside,
+    mark, marks, row_count, row_text, rows_before, rows_of, waiting, waiting_beside,
 };
 use crate::script::{lines_of, unwrapped};
 use cell_line::Run;
@@ -11,40 +10,10 @@ use edit_patch::Patch;
 use made_input::Generator;
 use std::alloc::Global;
 use std::test::Fail;
+use test_parts::steps::{History, first_difference};
+use test_parts::told::{Stretch, numbers};
+use test_parts::words::{drawn_range, drawn_text, drawn_width};
 use wrapped_text::{LateText, Shown};
-
-/// The texts that are put in.
-const WORDS: [&str; 10] = [
-    "",
-    "a",
-    " ",
-    "bb cc",
-    "\n",
-    "dd\nee ff",
-    "\tg",
-    "hh ii jj kk",
-    "  m",
-    "nnnnnnnnnn",
-];
-
-/// The widths that are set.
-const WIDTHS: [u32; 6] = [0, 4, 5, 8, 12, 30];
-
-/// One of the texts.
-fn word(generator: &mut Generator) -> &'static str {
-    WORDS
-        .get(generator.below(10) as usize)
-        .copied()
-        .unwrap_or("")
-}
-
-/// One of the widths.
-fn width(generator: &mut Generator) -> u32 {
-    WIDTHS
-        .get(generator.below(6) as usize)
-        .copied()
-        .unwrap_or(0)
-}
 
 /// The first line of a run, and how many there are.
 fn plain_run(run: Option<Run>) -> PlainRun {
@@ -107,7 +76,7 @@ fn has_edits(patch: &Patch, edits: &[[u32; 4]]) -> bool {
 
 /// A text under its maps and the same by plain lists, changed together.
 #[derive(Drop)]
-struct History {
+struct Wrapped {
     alloc: Global,
     late: LateText,
     plain: PlainText,
@@ -117,10 +86,10 @@ struct History {
     generator: Generator,
 }
 
-impl History {
+impl Wrapped {
     /// A text, of which each line stands in one row.
-    fn new(alloc: Global, text: &str, seed: u64) -> Result<History, Fail> {
-        Ok(History {
+    fn new(alloc: Global, text: &str, seed: u64) -> Result<Wrapped, Fail> {
+        Ok(Wrapped {
             alloc,
             late: unwrapped(alloc, text, 5)?,
             plain: PlainText::new(alloc, text.as_bytes(), 5)?,
@@ -128,30 +97,6 @@ impl History {
             width: 0,
             generator: Generator::new(seed),
         })
-    }
-
-    /// Takes so many turns. It gives the first after which the two don't agree.
-    fn first_difference(&mut self, turns: u32) -> Result<Option<u32>, NoMemory> {
-        for turn in 0..turns {
-            if !self.turns_alike()? || !self.shows_alike()? {
-                return Ok(Some(turn));
-            }
-        }
-        Ok(None)
-    }
-
-    /// Makes a random change of both, and tells whether the answers agree.
-    fn turns_alike(&mut self) -> Result<bool, NoMemory> {
-        match self.generator.below(20) {
-            0 => {
-                let width = width(&mut self.generator);
-                self.plain.set_width(width);
-                Ok(self.late.text.set_width(width).is_ok())
-            }
-            1 | 2 | 3 | 4 => self.takes_alike(),
-            5 | 6 | 7 | 8 => self.lands_alike(),
-            _ => self.edits_alike(),
-        }
     }
 
     /// Takes the first lines that wait.
@@ -178,12 +123,8 @@ impl History {
     /// Replaces a range, which may be backwards or past the end, and is short where the text is.
     fn edits_alike(&mut self) -> Result<bool, NoMemory> {
         let len = self.plain.len();
-        let start = self.generator.below(len.saturating_add(1));
-        let most = (len / 4).max(6);
-        let end = start
-            .wrapping_add(self.generator.below(most))
-            .wrapping_sub(1);
-        let word = word(&mut self.generator);
+        let (start, end) = drawn_range(&mut self.generator, len, (len / 4).max(6));
+        let word = drawn_text(&mut self.generator);
         if start > end || end > len {
             let refusal = self.edit(start, end, word);
             return Ok(refusal == Err(Fault::Refused(Refusal::BadRange)));
@@ -193,7 +134,7 @@ impl History {
     }
 
     /// Puts a text in the place of a range, and tells which rows this replaced.
-    fn edit(&mut self, start: u32, end: u32, word: &str) -> Result<Replaced, Fault> {
+    fn edit(&mut self, start: u32, end: u32, word: &str) -> Result<Stretch, Fault> {
         let alloc = self.alloc;
         let change = self
             .late
@@ -223,10 +164,25 @@ impl History {
     }
 }
 
+impl History for Wrapped {
+    fn turns_alike(&mut self) -> Result<bool, NoMemory> {
+        let answers_alike = match self.generator.below(20) {
+            0 => {
+                let width = drawn_width(&mut self.generator);
+                self.plain.set_width(width);
+                self.late.text.set_width(width).is_ok()
+            }
+            1 | 2 | 3 | 4 => self.takes_alike()?,
+            5 | 6 | 7 | 8 => self.lands_alike()?,
+            _ => self.edits_alike()?,
+        };
+        Ok(answers_alike && self.shows_alike()?)
+    }
+}
+
 /// Takes so many turns over a text. It gives the first after which the map and the lists don't agree.
 fn differ_at(alloc: Global, text: &str, seed: u64, turns: u32) -> Result<Option<u32>, Fail> {
-    let mut history = History::new(alloc, text, seed)?;
-    Ok(history.first_difference(turns)?)
+    Ok(first_difference(Wrapped::new(alloc, text, seed)?, turns)?)
 }
 
 /// After each of 500 random edits, landings and widths, refused ones among them, the map agrees with the plain lines.

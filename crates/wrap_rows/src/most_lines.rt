@@ -4,12 +4,13 @@ ghost use Rattle.cell_line.specs.Lines.{FitsU32};
 ghost use Rattle.cell_line.specs.Worked.{wide};
 ghost use Rattle.wrapped_text.specs.Shown.{HaveRoom};
 
-use crate::script::{landed, number};
+use crate::script::landed;
 use cell_line::{Element, Lines};
 use cell_units::{NoMemory, Rows, Steps, Text};
 use edit_patch::Patch;
 use std::alloc::Global;
 use std::test::Fail;
+use test_parts::told::number;
 use wrap_map::WrapMap;
 use wrapped_text::wraps;
 

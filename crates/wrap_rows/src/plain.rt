@@ -1,15 +1,11 @@
 //! What has to be shown, by plain lists: each line by its bytes, with a stamp of its own and the width at which it stands.
 use cell_units::NoMemory;
 use std::alloc::Global;
+use test_parts::lists::count_of;
 use wrap_map::MarkRun;
 
 /// The most lines that are taken at a time.
 const MOST: u32 = 128;
-
-/// A count as a u32, which all here are.
-fn count_of(count: usize) -> u32 {
-    u32::try_from(count).unwrap_or(u32::MAX)
-}
 
 /// A byte of a line, and how many cells it takes.
 #[derive(Clone, Copy)]

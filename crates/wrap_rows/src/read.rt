@@ -2,18 +2,10 @@
 ghost use Rattle.std.specs.Prelude.{◌+◌, ◌≤◌};
 
 use cell_line::Run;
-use cell_units::{NoMemory, Rows, Shift, Steps};
+use cell_units::{NoMemory, Rows, Steps};
 use std::alloc::Global;
 use wrap_map::MarkRun;
 use wrapped_text::{Shown, WrappedText};
-
-/// What an edit replaced: the first row, the row behind the last, and how many rows came for them.
-pub(crate) type Replaced = Option<(u32, u32, u32)>;
-
-/// The three numbers of what is replaced.
-pub(crate) fn numbers(shift: Option<Shift>) -> Replaced {
-    shift.map(|s| (s.start, s.end, s.count))
-}
 
 /// The number of rows.
 pub(crate) fn row_count(shown: &Shown) -> u32 {

@@ -1,13 +1,14 @@
 //! What is done to a text under its maps and asked of it, step by step, and what is answered, in words.
 use crate::read::{
-    Replaced, mark, marks, numbers, row_count, row_text, rows_before, rows_of, waiting,
-    waiting_beside,
+    mark, marks, row_count, row_text, rows_before, rows_of, waiting, waiting_beside,
 };
 use cell_line::{Lines, Run};
-use cell_units::{Fault, NoMemory, Refusal, Rows, Steps};
+use cell_units::{NoMemory, Rows, Steps};
 use edit_patch::Patch;
 use std::alloc::Global;
 use std::test::Fail;
+use test_parts::steps::{self, Played};
+use test_parts::told::{edited, number, numbers, pair, refused};
 use text_rope::Rope;
 use wrapped_text::{LateText, Shown, WrappedText};
 
@@ -41,8 +42,7 @@ pub(crate) enum Step<'a> {
 
 /// Takes the steps one by one over a text of which each line stands in one row. It gives their answers, with `; ` between them.
 pub(crate) fn play(alloc: Global, text: &str, width: u32, steps: &[Step]) -> Result<String, Fail> {
-    let mut played = Played::new(alloc, text, width)?;
-    Ok(played.take(steps)?)
+    Ok(steps::play(Laid::new(alloc, text, width)?, steps)?)
 }
 
 /// The same, and then other steps over equal maps, and others again over the first ones. It gives the answers of the last two,
@@ -55,8 +55,8 @@ pub(crate) fn play_apart(
     apart: &[Step],
     behind: &[Step],
 ) -> Result<String, Fail> {
-    let mut played = Played::new(alloc, text, width)?;
-    Ok(played.take_apart(before, apart, behind)?)
+    let laid = Laid::new(alloc, text, width)?;
+    Ok(steps::play_apart(laid, before, apart, behind)?)
 }
 
 /// The same, with the last steps but one over the text, and the last over the snapshot from before them and one that is shared.
@@ -68,8 +68,8 @@ pub(crate) fn play_behind(
     apart: &[Step],
     behind: &[Step],
 ) -> Result<String, Fail> {
-    let mut played = Played::new(alloc, text, width)?;
-    Ok(played.take_behind(before, apart, behind)?)
+    let laid = Laid::new(alloc, text, width)?;
+    Ok(steps::play_behind(laid, before, apart, behind)?)
 }
 
 /// So many lines of one text.
@@ -93,78 +93,27 @@ pub(crate) fn unwrapped(alloc: Global, text: &str, width: u32) -> Result<LateTex
 
 /// A text to which steps are taken.
 #[derive(Drop)]
-struct Played {
+struct Laid {
     alloc: Global,
     late: LateText,
 }
 
-impl Played {
-    fn new(alloc: Global, text: &str, width: u32) -> Result<Played, Fail> {
-        let late = unwrapped(alloc, text, width)?;
-        Ok(Played { alloc, late })
+impl<'a> Played<Step<'a>> for Laid {
+    type Seen = Shown;
+
+    fn alloc(&self) -> Global {
+        self.alloc
     }
 
-    /// Takes the steps one by one.
-    fn take(&mut self, steps: &[Step]) -> Result<String, NoMemory> {
-        let mut all = String::new(self.alloc);
-        for step in steps {
-            if all.len() > 0 {
-                all.push_str("; ")?;
-            }
-            let told = self.take_step(step)?;
-            all.push_str(told.as_str())?;
-        }
-        Ok(all)
-    }
-
-    /// Takes the steps over an equal text with equal maps.
-    fn take_shared(&self, steps: &[Step]) -> Result<String, NoMemory> {
+    fn share(&self) -> Result<Laid, NoMemory> {
         let late = LateText::new(self.alloc, self.late.text.share()?)?;
-        let mut shared = Played {
+        Ok(Laid {
             alloc: self.alloc,
             late,
-        };
-        shared.take(steps)
+        })
     }
 
-    /// Takes the first steps, the second ones over an equal one, and then the third.
-    fn take_apart(
-        &mut self,
-        before: &[Step],
-        apart: &[Step],
-        behind: &[Step],
-    ) -> Result<String, NoMemory> {
-        let _told = self.take(before)?;
-        let mut all = self.take_shared(apart)?;
-        let told = self.take(behind)?;
-        all.push_str(" / ")?;
-        all.push_str(told.as_str())?;
-        Ok(all)
-    }
-
-    /// Takes the first steps, then the second ones, and asks the third of what was shown before these.
-    fn take_behind(
-        &mut self,
-        before: &[Step],
-        apart: &[Step],
-        behind: &[Step],
-    ) -> Result<String, NoMemory> {
-        let _told = self.take(before)?;
-        let shown = self.late.text.map.snapshot()?;
-        let copy = Rows::share(&shown)?;
-        let mut all = self.take(apart)?;
-        for shown in [shown.share()?, copy] {
-            for step in behind {
-                let told = look(self.alloc, &shown, step)?;
-                all.push_str(" / ")?;
-                all.push_str(told.as_str())?;
-            }
-        }
-        Ok(all)
-    }
-
-    /// The answer to a step.
-    fn take_step(&mut self, step: &Step) -> Result<String, NoMemory> {
+    fn take_step(&mut self, step: &Step<'a>) -> Result<String, NoMemory> {
         let alloc = self.alloc;
         match step {
             Step::Edit(start, end, text) => self.edit(*start, *end, text),
@@ -179,17 +128,33 @@ impl Played {
         }
     }
 
+    fn seen(&self) -> Result<Shown, NoMemory> {
+        let shown = self.late.text.map.snapshot()?;
+        Rows::share(&shown)
+    }
+
+    fn share_seen(seen: &Shown) -> Result<Shown, NoMemory> {
+        seen.share()
+    }
+
+    fn look(alloc: Global, seen: &Shown, step: &Step<'a>) -> Result<String, NoMemory> {
+        look(alloc, seen, step)
+    }
+}
+
+impl Laid {
+    fn new(alloc: Global, text: &str, width: u32) -> Result<Laid, Fail> {
+        let late = unwrapped(alloc, text, width)?;
+        Ok(Laid { alloc, late })
+    }
+
     /// Puts a text in the place of a range.
     fn edit(&mut self, start: u32, end: u32, text: &str) -> Result<String, NoMemory> {
         let alloc = self.alloc;
-        match self
+        let change = self
             .late
-            .replace(alloc, start, end, text, &mut Steps::new())
-        {
-            Ok(change) => replaced(alloc, numbers(change.rows)),
-            Err(Fault::Refused(refusal)) => refused(alloc, Err(refusal)),
-            Err(Fault::NoMemory) => Err(NoMemory),
-        }
+            .replace(alloc, start, end, text, &mut Steps::new());
+        edited(alloc, change.map(|change| numbers(change.rows)))
     }
 
     /// Wraps all lines, and tells in how many runs.
@@ -224,22 +189,6 @@ fn look(alloc: Global, shown: &Shown, step: &Step) -> Result<String, NoMemory> {
             None => number(alloc, None),
         },
         _ => number(alloc, None),
-    }
-}
-
-/// `ok`, or the refusal.
-fn refused(alloc: Global, answer: Result<(), Refusal>) -> Result<String, NoMemory> {
-    match answer {
-        Ok(()) => Ok(String::from_str(alloc, "ok")?),
-        Err(refusal) => Ok(format!(in alloc; "{refusal:?}")?),
-    }
-}
-
-/// The start and the end of what is replaced, and how many rows come for it, or `none`.
-pub(crate) fn replaced(alloc: Global, answer: Replaced) -> Result<String, NoMemory> {
-    match answer {
-        Some((start, end, count)) => Ok(format!(in alloc; "{start}..{end} by {count}")?),
-        None => number(alloc, None),
     }
 }
 
@@ -286,20 +235,4 @@ fn mark_runs(alloc: Global, shown: &Shown) -> Result<String, NoMemory> {
         return number(alloc, None);
     }
     Ok(all)
-}
-
-/// Two numbers, or `none`.
-fn pair(alloc: Global, pair: Option<(u32, u32)>) -> Result<String, NoMemory> {
-    match pair {
-        Some((first, second)) => Ok(format!(in alloc; "{first} {second}")?),
-        None => number(alloc, None),
-    }
-}
-
-/// A number, or `none`.
-pub(crate) fn number(alloc: Global, number: Option<u32>) -> Result<String, NoMemory> {
-    match number {
-        Some(number) => Ok(format!(in alloc; "{number}")?),
-        None => Ok(String::from_str(alloc, "none")?),
-    }
 }

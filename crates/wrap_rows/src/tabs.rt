@@ -1,11 +1,11 @@
 //! Lines of a text at a tab size, and which of them are new.
-use crate::read::numbers;
-use crate::script::{number, replaced, unwrapped};
+use crate::script::unwrapped;
 use cell_line::Lines;
 use cell_units::{Fault, NoMemory, Refusal, Steps};
 use std::alloc::Global;
 use std::test::Fail;
 use tab_map::{TabMap, TabSnapshot};
+use test_parts::told::{number, numbers, replaced};
 use text_rope::Rope;
 use wrapped_text::LateText;
 

@@ -1,5 +1,5 @@
-use Rattle.folded_text.proofs.Sent.{sent}
-use Rattle.fold_rows.proofs.histories.History.shows_both.Goals as goal
+use Rattle.inlay_map.proofs.Sent.{sent}
+use Rattle.fold_rows.proofs.histories.Folded.shows_both.Goals as goal
 
 pub agrees-requires-send-L : goal.agrees-requires-send-L
 agrees-requires-send-L c κs = search sent depth 60 fits 20000

@@ -1,5 +1,5 @@
-use Rattle.folded_text.proofs.Sent.{sent}
-use Rattle.fold_rows.proofs.laid.Laid.share.Goals as goal
+use Rattle.inlay_map.proofs.Sent.{sent}
+use Rattle.fold_rows.proofs.laid.Laid.share_all.Goals as goal
 
 pub share-requires-2-send-L : goal.share-requires-2-send-L
 share-requires-2-send-L c κs = search sent depth 60 fits 20000

@@ -1,5 +1,5 @@
-use Rattle.folded_text.proofs.Sent.{sent}
-use Rattle.fold_rows.proofs.laid.Laid.take_step.Goals as goal
+use Rattle.inlay_map.proofs.Sent.{sent}
+use Rattle.inlay_rows.proofs.script.LaidPlayedStep.look.Goals as goal
 
 pub look-requires-send-L : goal.look-requires-send-L
 look-requires-send-L c κs = search sent depth 60 fits 20000
