@@ -4,7 +4,7 @@ use Rattle.std.specs.Option.{option_map_or}
 use Rattle.std.specs.Prelude.{slice_get}
 use Rattle.std.specs.Str.{chars}
 use Rattle.clap.specs.Lexer.{long_of, short_of}
-use Rattle.clap.specs.Walk.{Held, Outcome, Row, Rule, Step, Text, Waiting, Walk, after_flag, after_step, arg_by_id, arg_by_index, bundle_met, idle, is_pending, long_met, long_or_other, next, option, option_word, plain_word, positional_held, reacted, settled, started, short_or_plain, short_word, takes_several, value, walked}
+use Rattle.clap.specs.Walk.{Held, Row, Step, Waiting, Walk, after_flag, after_step, bundle_met, idle, is_pending, long_met, long_or_other, next, option, option_word, plain_word, reacted, settled, started, short_or_plain, short_word, value, walked}
 use Rattle.clap.specs.Kinds.{Kinds, or_else}
 use Rattle.clap.specs.Faults.{flag_word_fault, flags_fault, long_fault, bundle_fault, settle_fault, step_fault, turn_fault, use_fault}
 use Rattle.clap.specs.declared.error.kind.ErrorKind.TheVariants.{InvalidValue, UnknownArgument}

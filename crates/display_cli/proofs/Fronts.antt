@@ -5,14 +5,14 @@ use Rattle.std.proofs.lemmas.List.{append-nil, take-append-le, length-drop, leng
 use Rattle.std.proofs.Math.Seq.{take-add}
 use Rattle.cell_units.specs.Text.{line_feed}
 use Rattle.display_cli.specs.declared.outside.Part.{Part}
-use Rattle.display_cli.specs.Outside.{Faults, Read, InputState, SinkState, HasRisen, HasPartRisen, IsGiven, Appends, Takes, TakesFront, Refuses}
+use Rattle.display_cli.specs.Outside.{Read, InputState, SinkState, HasRisen, IsGiven, Appends, Takes, TakesFront, Refuses}
 use Rattle.display_cli.specs.Ended.{AreReadsOf}
 use Rattle.display_cli.specs.Output.{printed}
 use Rattle.display_cli.specs.declared.stop.Stop.{Stop}
 use Rattle.display_cli.specs.declared.stop.Stop.TheVariants as stops
 use Rattle.display_cli.specs.declared.read.Unread.{Unread}
 use Rattle.display_cli.specs.declared.read.Unread.TheVariants as ends
-use Rattle.display_cli.specs.inside.Reading.{HasFront, IsUnread, IsUnwritten, ReadsOnce, ReadsName}
+use Rattle.display_cli.specs.inside.Reading.{HasFront, IsUnwritten, ReadsOnce, ReadsName}
 
 pub appends-more : (a b c : Option (List ℕ)) (x y : List ℕ) → Appends a b x → Appends b c y → Appends a c (x ++ y)
 appends-more None b c x y p q = tt
@@ -81,18 +81,11 @@ unwritten-behind a b c p x q whole stops.JournalFull before it e = absurd it
 unwritten-behind a b c p x q whole stops.Memory before it e =
     (front-behind a b c p x q whole before it.0 e, it.1 ∙ before.passed)
 
--- there was no memory for the next line
-pub unwritten-memory : (a b : SinkState) (p q whole : List ℕ) → Takes p a b → p ++ q ≡ whole → IsUnwritten whole a b stops.Memory
-unwritten-memory a b p q whole before e = (front-all a b p q whole before e, before.passed)
-
 -- lines of an answer that were written, before those that are left
 pub record AreWritten (all left : List (List ℕ)) (old new : SinkState) : Type 0 where
   pub front : List ℕ
   pub taken : Takes front old new
   pub is_front : front ++ printed left ≡ printed all
-
-pub written-none : (all : List (List ℕ)) (a : SinkState) → AreWritten all all a a
-written-none all a = record { front = []; taken = takes-none a; is_front = refl }
 
 -- the next line, and the lines behind it
 line-first : (left rest : List (List ℕ)) (line : List ℕ) → Some line ≡ slice_get left 0 → rest ≡ drop 1 left
@@ -121,11 +114,6 @@ pub none-first : (left : List (List ℕ)) → None ≡ slice_get left 0 → left
 none-first [] e = refl
 none-first (l ∷ ls) e = cc
 
-pub written-all : (all left : List (List ℕ)) (a b : SinkState) → AreWritten all left a b → None ≡ slice_get left 0 → Takes (printed all) a b
-written-all all left a b before none =
-    takes-same a b before.front (printed all)
-    (sym (append-nil before.front) ∙ (ap (λ l. before.front ++ printed l) (sym (none-first left none)) ∙ before.is_front)) before.taken
-
 -- one line is left less
 pub one-fewer : (left rest : List (List ℕ)) (line : List ℕ) → Some line ≡ slice_get left 0 → rest ≡ drop 1 left → 1 + length rest ≡ length left
 one-fewer [] rest line is e = cc
@@ -152,22 +140,6 @@ front-more (Some b) old before room rest new n at e le front given is =
     let counted : length new ≡ length old + n = ap length joined ∙ (length-take (length old + n) b ∙ (omega arith)) in
     (omega arith, joined ∙ ap (λ k. take k b) (sym counted))
 
-pub front-long : (told : Option (List ℕ)) (read : List ℕ) (limit : ℕ) → HasFront told read → limit < length read
-    → IfSome told (λ b. limit < length b)
-front-long None read limit front more = tt
-front-long (Some b) read limit front more = let most = front.0 in omega arith
-
-pub front-nothing : (told : Option (List ℕ)) → HasFront told []
-front-nothing None = tt
-front-nothing (Some b) = (omega arith, refl)
-
--- why a name wasn't read, behind reads that passed
-pub unread-behind : (part : Part) (t u : Option (List ℕ)) (limit : ℕ) (a b c : Faults) (e : Unread) → t ≡ u → b ≡ a
-    → IsUnread part t limit b c e → IsUnread part u limit a c e
-unread-behind part t u limit a b c ends.Failed same e why = let P : Faults → Type 0 = λ f. HasPartRisen part f c in subst P e why
-unread-behind part t u limit a b c ends.TooLong same e why = let P : Option (List ℕ) → Type 0 = λ o. IfSome o (λ b. limit < length b) in subst P same why
-unread-behind part t u limit a b c ends.NoMemory same e why = why ∙ e
-
 -- ---- reads in order
 
 -- where reads that begin at a byte end
@@ -193,16 +165,6 @@ pub record ReadsUpTo (part : Part) (name : List ℕ) (end : ℕ) (old new : Inpu
   pub in_order : AreReadsOf part name 0 reads
   pub end_is : end ≡ reads_end 0 reads
   pub passed : new.faults ≡ old.faults
-
-pub up-to-none : (part : Part) (name : List ℕ) (s : InputState) (end : ℕ) → end ≡ 0 → ReadsUpTo part name end s s
-up-to-none part name s end e = record {
-  tells = λ any. refl;
-  reads = [];
-  made = sym (append-nil s.reads);
-  in_order = tt;
-  end_is = e;
-  passed = refl;
-}
 
 -- whatever became of one more read, the reads are in order
 pub reads-once-more : (part : Part) (name : List ℕ) (end : ℕ) (result : Result ℕ Unread) (a b c : InputState)
@@ -233,6 +195,3 @@ up-to-more part name end n new_end result a b c before once is grows passed =
           ∙ sym (reads_end-snoc 0 before.reads (record { part = part; name = name; at = end; count = once.count }))));
       passed = passed ∙ before.passed;
     }
-
-pub reads-up-to : (part : Part) (name : List ℕ) (end : ℕ) (a b : InputState) → ReadsUpTo part name end a b → ReadsName part name a b
-reads-up-to part name end a b it = record { tells = it.tells; reads = it.reads; made = it.made; in_order = it.in_order }

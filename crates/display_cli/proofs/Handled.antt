@@ -24,7 +24,7 @@ use Rattle.cell_units.specs.declared.fault.Fault.{Fault}
 use Rattle.cell_units.specs.declared.fault.Fault.TheVariants as faults
 use Rattle.edit_script.specs.Commands.{Command, Ask, Settle, command_of, meaning}
 use Rattle.edit_script.specs.Printed.{command_lines, query_lines, refusal_text, row_line, rows_from}
-use Rattle.edit_script.specs.Verdict.{Verdict, Refused, Accepted, verdict, refused_or, command_refusal, query_refusal, line_limit, IsLineRefused}
+use Rattle.edit_script.specs.Verdict.{Verdict, Refused, Accepted, verdict, refused_or, command_refusal, query_refusal, line_limit}
 use Rattle.edit_script.specs.Verdict as verdicts
 use Rattle.edit_script.proofs.Verdicts.{verdict-read, verdict-unread, change-refusal, change-ops, change-silent}
 use Rattle.display_cli.specs.declared.stop.Stop.{Stop}

@@ -1,11 +1,11 @@
 -- A run whose owner was opened, from its opening to its last watch line.
-use Rattle.std.proofs.Common.{◌≡◌, ℕ, ◌<◌, ◌≤◌, All, List, [], ◌∷◌, length, map, Option, Some, None, Result, Ok, Err, refl, sym, ap, ◌∙◌, subst, arith}
+use Rattle.std.proofs.Common.{◌≡◌, ℕ, ◌≤◌, All, List, [], ◌∷◌, length, map, Option, Some, None, Result, Ok, Err, refl, sym, ap, ◌∙◌, subst, arith}
 use Rattle.std.specs.Prelude.{IfSome, OnOk, replicate}
 use Rattle.std.proofs.lemmas.List.{length-map, length-replicate}
 use Rattle.std.proofs.lemmas.List.Elements.{All-nil, All-cons, All-head, All-tail, All-map, All-replicate}
 use Rattle.logbook.specs.Pages.{Book}
-use Rattle.display_map.specs.Events.{Event, event_limit}
-use Rattle.display_map.specs.Replay.{History, versions_of}
+use Rattle.display_map.specs.Events.{Event}
+use Rattle.display_map.specs.Replay.{History}
 use Rattle.version_board.specs.Known.{Known}
 use Rattle.display_owner.specs.declared.owner.Owner.{Owner}
 use Rattle.display_owner.specs.declared.opening.Opened.{Opened}
@@ -21,10 +21,10 @@ use Rattle.display_cli.specs.Outside.{SinkState}
 use Rattle.display_cli.specs.Entries.{numbered_lines}
 use Rattle.display_cli.specs.Output.{no_lines}
 use Rattle.display_cli.specs.Ended.{Course}
-use Rattle.display_cli.specs.inside.Going.{IsReady, IsGoing, HasEnded, PlaysAll, at}
+use Rattle.display_cli.specs.inside.Going.{IsGoing, HasEnded, PlaysAll, at}
 use Rattle.display_cli.specs.inside.Left.{AreBoards, HasLeft, HasLeftBy, board_of}
 use Rattle.display_cli.specs.inside.Opening.{EndsWatch, HasRun, IsNoteOf}
-use Rattle.display_cli.proofs.Played.{going-fresh, published-fresh, room-fresh}
+use Rattle.display_cli.proofs.Played.{going-fresh}
 use Rattle.display_cli.proofs.Headline.{run-watched}
 
 -- ---- boards
@@ -33,10 +33,6 @@ pub boards-all : {X : Type 0} (f : X → Book) (board : Book) (xs : List X) → 
 boards-all f board [] all = All-nil (λ x. f x ≡ board)
 boards-all f board (x ∷ xs) all =
     All-cons (λ x. f x ≡ board) x xs (All-head (λ b. b ≡ board) (f x) (map f xs) all) (boards-all f board xs (All-tail (λ b. b ≡ board) (f x) (map f xs) all))
-
-pub boards-none : {X : Type 0} (f : X → Book) (xs : List X) → map f xs ≡ [] → length xs ≡ 0
-boards-none f [] none = refl
-boards-none f (x ∷ xs) none = cc
 
 boards-replicate : (known : Known) (n : ℕ) → All (λ b. b ≡ known.board) (map (λ k. k.board) (replicate n known))
 boards-replicate known n = All-map (λ b. b ≡ known.board) (λ (k : Known). k.board) (replicate n known) (All-replicate (λ k. k.board ≡ known.board) n known refl)
@@ -55,21 +51,9 @@ are-boards o p new old readers e f g are =
     let P : Option Book → Type 0 = λ o. AreBoards o new in
     let Q : List Book → Type 0 = λ l. AreBoards p l in subst P (sym e) (subst Q (sym (f ∙ g)) are)
 
-pub no-boards : (o : Option Book) → AreBoards o []
-no-boards None = refl
-no-boards (Some board) = All-nil (λ b. b ≡ board)
-
 -- ---- what was opened
 
 module _ (display : History) (fresh : display.events ≡ []) (workers readers : ℕ) (opened : Opened) (has : HasOpened display workers readers opened) where
-  pub opened-ready : IsReady opened.owner
-  opened-ready =
-      let P : History → Type 0 = λ h. 1 ≤ versions_of h.events in
-      record { owned = has.owned; published = subst P (sym has.display) (published-fresh display fresh) }
-
-  pub opened-room : length opened.owner.display.events < event_limit
-  opened-room = let P : History → Type 0 = λ h. length h.events < event_limit in subst P (sym has.display) (room-fresh display fresh)
-
   pub opened-boards : AreBoards (board_of opened.owner.writer) (map (λ reader. reader.board) opened.readers.items)
   opened-boards = by opened.owner.writer has.known (λ none. has.none (has.board.0 none))
     where

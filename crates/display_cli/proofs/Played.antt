@@ -10,7 +10,7 @@ use Rattle.cell_units.specs.Cutting.{cut_lines, onto_line}
 use Rattle.display_map.specs.Events.{Event}
 use Rattle.display_map.specs.Events.{Published}
 use Rattle.display_map.specs.Events.{event_limit}
-use Rattle.display_map.specs.Replay.{History, state_of, present_of, versions_of, is_settled, appended}
+use Rattle.display_map.specs.Replay.{History, state_of, present_of, is_settled, appended}
 use Rattle.display_owner.specs.Beside.{outstanding}
 use Rattle.edit_script.specs.declared.asked.Form.{Form}
 use Rattle.edit_script.specs.Verdict.{is_blank}
@@ -152,9 +152,6 @@ module _ (h : History) (fresh : h.events ≡ []) where
         written = takes-none sink;
         tallied = refl;
       })
-
-  pub published-fresh : 1 ≤ versions_of (h.events ++ Published false ∷ [])
-  published-fresh = let P : List Event → Type 0 = λ events. 1 ≤ versions_of (events ++ Published false ∷ []) in subst P (sym fresh) (omega arith)
 
   pub room-fresh : length (h.events ++ Published false ∷ []) < event_limit
   room-fresh = let P : List Event → Type 0 = λ events. length (events ++ Published false ∷ []) < event_limit in subst P (sym fresh) (omega arith)

@@ -23,11 +23,6 @@ published-more old new more e some =
 pub ready-more : (old new : Owner) (more : List Event) → new.display ≡ appended old.display more → IsReady old → IsOwned new → IsReady new
 ready-more old new more e ready owned = record { owned = owned; published = published-more old.display new.display more e ready.published }
 
-pub ready-same : (old new : Owner) → new.display ≡ old.display → IsReady old → IsOwned new → IsReady new
-ready-same old new e ready owned =
-    let P : History → Type 0 = λ h. 1 ≤ versions_of h.events in
-    record { owned = owned; published = subst P (sym e) ready.published }
-
 published-steps : (h : History) (steps : List Step) → 1 ≤ versions_of h.events → 1 ≤ versions_of (behind_all h steps).events
 published-steps h [] some = some
 published-steps h (step ∷ steps) some = published-steps (behind h step) steps (published-more h (behind h step) (events_of step) refl some)

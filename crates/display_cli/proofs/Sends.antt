@@ -31,14 +31,6 @@ if-none : {X : Type 0} (b : Bool) (x : X) → (if b then None else Some x) ≡ N
 if-none true x e = refl
 if-none false x e = cc
 
-and-left : (a b : Bool) → (a && b) ≡ true → a ≡ true
-and-left true b e = refl
-and-left false b e = e
-
-and-right : (a b : Bool) → (a && b) ≡ true → b ≡ true
-and-right true b e = e
-and-right false b e = cc
-
 or-left : (a b : Bool) → (a || b) ≡ false → a ≡ false
 or-left true b e = e
 or-left false b e = refl

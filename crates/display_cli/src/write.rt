@@ -53,10 +53,14 @@ pub(crate) fn write_answer<K: Sink>(
     steps: &mut Steps,
 ) -> Result<u64, Stop>
     requires { length answer.old < 2 ^ 64 }
+    // What is written.
     ensures lines { IfOk result (λ lines. lines ≡ length answer.old) }
     ensures written { OnOk result (Takes (printed answer.old) (K.state out.old) (K.state out.new)) }
+    // What of it is written where it stops.
     ensures stopped { IfErr result
         (IsUnwritten (printed answer.old) (K.state out.old) (K.state out.new)) }
+    // The work.
+    ensures counted { steps.old ≤ steps.new }
 {
     let mut lines: u64 = 0;
     while let Some(line) = answer.next_line(alloc, steps)? {

@@ -31,6 +31,8 @@ pub fn open<R: Wait>(
     requires events { display.events ≡ [] }
     requires workers { (1 ≤ workers) × (workers ≤ 16) }
     requires readers { readers ≤ 8 }
+
+    // The owner, and where there is none what comes back.
     ensures opened { IfOk result (HasOpened display workers readers) }
     ensures workers { IfOk result (λ o. vec_len o.workers ≡ workers) }
     ensures unopened { IfErr result (IsUnopened display) }

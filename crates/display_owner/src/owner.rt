@@ -61,9 +61,13 @@ impl Owner {
     pub fn note_line(&mut self, number: u64) -> Result<(), NoMemory>
         requires room { length self.old.display.events + 1 ≤ event_limit }
         requires owned { IsOwned self.old }
+
+        // What is recorded, and what stays.
         ensures noted { OnOk result
             (self.new.display ≡ appended self.old.display (Line number ∷ [])) }
         ensures unchanged { OnErr result (self.new.display ≡ self.old.display) }
+
+        // The crew.
         ensures owned { IsOwned self.new }
         ensures team { IsSameTeam self.old self.new }
     {
@@ -75,6 +79,8 @@ impl Owner {
     pub fn apply(&mut self, change: &Change) -> Result<(), Fault>
         requires room { length self.old.display.events + length (ops_of change.now) ≤ event_limit }
         requires owned { IsOwned self.old }
+
+        // What is done, and when it is refused.
         ensures accepted { OnOk result
             (change_refusal (present_of self.old.display) change.now ≡ None) }
         ensures done { OnOk result
@@ -82,6 +88,8 @@ impl Owner {
         ensures refused { IfErr result
             (IsRefusedAs (change_refusal (present_of self.old.display) change.now)) }
         ensures unchanged { OnErr result (self.new.display ≡ self.old.display) }
+
+        // The crew.
         ensures owned { IsOwned self.new }
         ensures team { IsSameTeam self.old self.new }
     {
@@ -93,13 +101,19 @@ impl Owner {
     pub fn publish<R: Wait>(&mut self, rt: &R, last: bool) -> Result<(), NoMemory>
         requires room { length self.old.display.events + 1 ≤ event_limit }
         requires owned { IsOwned self.old }
+
+        // What is published and shown.
         ensures published { OnOk result
             (self.new.display ≡ appended self.old.display (Published last ∷ [])) }
         ensures shown { OnOk result
             (IfSome self.new.writer (λ writer. writer.newest ≡ self.new.display)) }
         ensures owned { OnOk result (last ≡ false → IsOwned self.new) }
+
+        // Where it is not shown.
         ensures unshown { OnErr result ((self.new.display ≡ self.old.display)
             ⊎ (self.new.display ≡ appended self.old.display (Published last ∷ []))) }
+
+        // The crew.
         ensures crew { self.new.crew ≡ self.old.crew }
         ensures team { IsSameTeam self.old self.new }
     {
@@ -126,10 +140,14 @@ impl Owner {
     /// Sends runs until no line waits, or two jobs for each worker are out.
     pub fn send_runs<R: Wait>(&mut self, rt: &R) -> Result<(), Halt>
         requires { IsOwned self.old }
+
+        // What is reached.
         ensures gone { OnOk result
             (HasGone self.old.crew.workers self.old.display self.new.display) }
         ensures owned { OnOk result (IsOwned self.new) }
         ensures busy { OnOk result (IsBusy self.new) }
+
+        // Where it halts, and the crew.
         ensures halted { IfErr result
             (IsHalted self.old.crew.workers self.old.display self.new.display) }
         ensures team { IsSameTeam self.old self.new }
@@ -142,11 +160,15 @@ impl Owner {
     /// job itself, and waits for a worker only where no job waits.
     pub fn settle<R: Wait, G: Gate>(&mut self, rt: &R, gate: &G) -> Result<(), Halt>
         requires { IsOwned self.old }
+
+        // What is reached.
         ensures gone { OnOk result
             (HasGone self.old.crew.workers self.old.display self.new.display) }
         ensures owned { OnOk result (IsOwned self.new) }
         ensures busy { OnOk result (IsBusy self.new) }
         ensures settled { OnOk result (is_settled (present_of self.new.display) ≡ true) }
+
+        // Where it halts, and the crew.
         ensures halted { IfErr result
             (IsHalted self.old.crew.workers self.old.display self.new.display) }
         ensures team { IsSameTeam self.old self.new }
@@ -161,11 +183,15 @@ impl Owner {
     /// Settles, and lands the results of all jobs that are out.
     pub fn finish<R: Wait, G: Gate>(&mut self, rt: &R, gate: &G) -> Result<(), Halt>
         requires { IsOwned self.old }
+
+        // What is reached.
         ensures gone { OnOk result
             (HasGone self.old.crew.workers self.old.display self.new.display) }
         ensures owned { OnOk result (IsOwned self.new) }
         ensures settled { OnOk result (is_settled (present_of self.new.display) ≡ true) }
         ensures landed { OnOk result (outstanding (state_of self.new.display) ≡ 0) }
+
+        // Where it halts, and the crew.
         ensures halted { IfErr result
             (IsHalted self.old.crew.workers self.old.display self.new.display) }
         ensures team { IsSameTeam self.old self.new }

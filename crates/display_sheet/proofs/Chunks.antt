@@ -1,9 +1,9 @@
 -- Where an element stands in chunks, and where the first elements end.
-use Rattle.std.proofs.Common.{◌≡◌, ℕ, ◌+◌, ◌-◌, ◌*◌, ◌<◌, ◌≤◌, zero, suc, List, [], ◌∷◌, ◌++◌, length, take, drop, set, get_or, refl, sym, ap, ◌∙◌, arith, length-append, append-nil, append_assoc}
+use Rattle.std.proofs.Common.{◌≡◌, ℕ, ◌+◌, ◌-◌, ◌*◌, ◌<◌, ◌≤◌, zero, suc, List, [], ◌∷◌, ◌++◌, length, take, drop, set, get_or, sym, ap, ◌∙◌, arith, length-append, append-nil, append_assoc}
 use Rattle.std.specs.Prelude.{slice_range}
 use Rattle.std.proofs.Math.Nat.{suc-mul, zero-mul}
 use Rattle.std.proofs.Math.Seq.{take-add, take-append-add, take-nil}
-use Rattle.std.proofs.lemmas.List.{length-drop, length-take-le, get_or-append_right, get_or_append_left, set-append_left, set-append_right, take-append-le, take_all}
+use Rattle.std.proofs.lemmas.List.{length-drop, length-take-le, get_or-append_right, get_or_append_left, set-append_left, set-append_right, take-append-le}
 use Rattle.std.proofs.lemmas.List.Concat.{flat_map-append}
 use Rattle.display_sheet.specs.Chunks.{AreChunks, joined}
 

@@ -1,5 +1,5 @@
 -- A source with folds as a layer: from a place back to an offset, and the point of a place.
-use Rattle.std.proofs.Common.{◌≡◌, ℕ, ◌-◌, ◌<◌, ◌≤◌, ◌↔◌, ◌^◌, List, length, map, Option, Some, None, sym, ap, ◌∙◌, subst, arith}
+use Rattle.std.proofs.Common.{◌≡◌, ℕ, ◌-◌, ◌<◌, ◌≤◌, ◌↔◌, ◌^◌, List, length, Option, Some, None, sym, ap, ◌∙◌, subst, arith}
 use Rattle.cell_units.specs.declared.place.Bias.{Bias}
 use Rattle.cell_units.specs.declared.place.Bias.TheVariants.{Left, Right}
 use Rattle.cell_units.specs.BufferLines.{line_start}
@@ -13,10 +13,8 @@ use Rattle.cell_units.proofs.BufferLines.{line_count-is}
 use Rattle.cell_units.proofs.ReplacedRows.{row_of-lt}
 use Rattle.text_rope.proofs.RowStarts.{row_start_is}
 use Rattle.sum_core.specs.declared.load.NoLoad.{NoLoad}
-use Rattle.splice_tree.specs.Splices.{Piece, measured, to_upper}
-use Rattle.fold_map.specs.Amounts.{bytes_of}
+use Rattle.splice_tree.specs.Splices.{Piece}
 use Rattle.fold_map.proofs.Positions.{unfold-same}
-use Rattle.fold_map.proofs.SpotsBack.{carried}
 use Rattle.fold_map.specs.declared.amount.Amount.{Amount}
 use Rattle.fold_map.specs.Snapshots.{IsSnapshot, with_folds}
 use Rattle.fold_map.specs.Splices.{AreSplices}

@@ -98,7 +98,7 @@ impl<L: Layer> FoldMap<L> {
         requires fits { fold_refusal self.old.current id start end ≡ None →
             PlacesFit (with_fold (fold_with id start end) self.old.current) }
 
-        // What is there after it.
+        // What is there after it, and what is accepted.
         ensures ok { OnOk result (self.new ≡ folded_up (fold_with id start end) self.old) }
         ensures accepted { OnOk result (fold_refusal self.old.current id start end ≡ None) }
 
@@ -126,7 +126,7 @@ impl<L: Layer> FoldMap<L> {
         // Every place of what is shown then is a u32.
         requires fits { PlacesFit (without id self.old.current) }
 
-        // What is there after it.
+        // What is there after it, and what is accepted.
         ensures ok { (f : Fold) → Contains self.old.current.folds f → f.id ≡ id →
             OnOk result (self.new ≡ opened_up f self.old) }
         ensures accepted { OnOk result (unfold_refusal self.old.current id ≡ None) }
@@ -164,12 +164,16 @@ impl<L: Layer> FoldMap<L> {
     ) -> Result<(FoldSnapshot<L>, Option<Shift>), NoMemory>
         requires follows { let replaced = option_map reach_of shift in
             Follows self.old.current (L.source layer) replaced (option_map reach_of below) }
+
+        // What is shown, and what is there after it.
         ensures synced { let replaced = option_map reach_of shift in
             let lower = option_map reach_of below in
             IfOk result (λ r.
             IsSynced (L.source layer) replaced lower self.old r.0 (option_map reach_of r.1)) }
         ensures ok { let replaced = option_map reach_of shift in
             OnOk result (self.new ≡ synced (L.source layer) replaced self.old) }
+
+        // What stays, and the work.
         ensures err { OnErr result (self.new ≡ self.old) }
         ensures counted { steps.old ≤ steps.new }
         ensures steps { let current = self.old.current in

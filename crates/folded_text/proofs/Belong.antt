@@ -25,25 +25,13 @@ use Rattle.inlay_map.proofs.MapStates.{accepted-is, added-differs, kept-turned, 
 use Rattle.inlay_map.proofs.MetRows.{found-fits}
 use Rattle.inlay_map.proofs.MovedInlays.{contained-found}
 use Rattle.fold_map.specs.Maps as folding
-use Rattle.fold_map.specs.Maps.{FoldState, fold_with, folded_up, opened_up, with_fold, without}
+use Rattle.fold_map.specs.Maps.{FoldState, opened_up, with_fold, without}
 use Rattle.fold_map.specs.Snapshots.{PlacesFit, fold_refusal, unfold_refusal}
 use Rattle.fold_map.proofs.StateFolds as fold_states
 use Rattle.fold_map.proofs.StateFolds.{added-lawful, removed-lawful}
 use Rattle.folded_text.specs.Shown.{BelongTogether}
 use Rattle.folded_text.proofs.Reaches.{never-none}
 use Rattle.folded_text.proofs.Texts.{places-fit}
-
--- ---- at first
-
-pub belong-new : (text : List ℕ) → BelongTogether text (inlaid.state_of text) (folding.state_of (inlaid.source_after text None (inlaid.state_of text).current))
-belong-new text = record {
-  text = refl;
-  same = refl;
-  below = refl;
-  leads = ∣ refl ∣₁;
-  ordered = λ s e. absurd (cc);
-  settled = λ e. refl;
-}
 
 -- ---- inlays
 
@@ -140,9 +128,6 @@ module _ (text : List ℕ) (inlays : InlayState) (folds : FoldState) (b : Belong
   pub without-fits : (id : ℕ) → PlacesFit (without id s)
   without-fits id = places-fit (without id s) (without-formed id) short
 
-pub belong-folded : (text : List ℕ) (inlays : InlayState) (folds : FoldState) (f : Fold) → BelongTogether text inlays folds → BelongTogether text inlays (folded_up f folds)
-belong-folded text inlays folds f b = record { text = b.text; same = b.same; below = b.below; leads = b.leads; ordered = b.ordered; settled = b.settled }
-
 pub belong-opened : (text : List ℕ) (inlays : InlayState) (folds : FoldState) (id : ℕ) (after : FoldState) → BelongTogether text inlays folds → unfold_refusal folds.current id ≡ None
     → ((f : Fold) → Contains folds.current.folds f → f.id ≡ id → after ≡ opened_up f folds) → BelongTogether text inlays after
 belong-opened text inlays folds id after b e is =
@@ -171,10 +156,3 @@ pub belong-after_unfold : {X Y : Type 0} (text : List ℕ) (inlays : InlayState)
     → OnOk r (unfold_refusal folds.current id ≡ None) → OnErr r (after ≡ folds) → BelongTogether text inlays after
 belong-after_unfold text inlays folds id after (Ok x) b ok accepted err = belong-opened text inlays folds id after b accepted ok
 belong-after_unfold text inlays folds id after (Err e) b ok accepted err = subst (λ (m : FoldState). BelongTogether text inlays m) (sym err) b
-
--- equal maps, over the text that the inlays have
-pub belong-shared : (text : List ℕ) (inlays inlays' : InlayState) (folds folds' : FoldState) → inlays' ≡ inlays → folds' ≡ folds → BelongTogether text inlays folds
-    → BelongTogether inlays'.current.text inlays' folds'
-belong-shared text inlays inlays' folds folds' e d b =
-    subst (λ (p : InlayState × FoldState). BelongTogether p.0.current.text p.0 p.1) (λ i. (sym e i, sym d i))
-    (record { text = refl; same = b.same; below = b.below; leads = b.leads; ordered = b.ordered; settled = b.settled })

@@ -18,7 +18,7 @@ use Rattle.inlay_map.specs.Maps.{InlayState}
 use Rattle.inlay_map.proofs.InlaidSources.{well-formed}
 use Rattle.fold_map.specs.Maps.{FoldState}
 use Rattle.fold_map.specs.Synced as folded
-use Rattle.fold_map.specs.Synced.{Follows, MeetsTouched, StandAfter, folds_after, source_after}
+use Rattle.fold_map.specs.Synced.{Follows, MeetsTouched, source_after}
 use Rattle.fold_map.proofs.MapTokens.{layer-is, place-size}
 use Rattle.folded_text.specs.Shown.{BelongTogether, IsReplaced, IsReplacedIfAny, IsShown, folds_shown, inlays_shown}
 use Rattle.folded_text.proofs.Reaches.{ReachesOver, answer-reaches, meets-rows, never-none}

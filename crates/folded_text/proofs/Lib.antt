@@ -1,5 +1,4 @@
 pub mod Belong
 pub mod Follows
 pub mod Reaches
-pub mod Sent
 pub mod Texts

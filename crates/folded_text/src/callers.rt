@@ -21,6 +21,8 @@ pub fn show(
 ) -> Result<(FoldSnapshot<InlaySnapshot>, Option<Shift>), NoMemory>
     requires belong { BelongTogether inlays.old.current.text inlays.old folds.old }
     requires text { IsReplacedIfAny inlays.old.current.text rope (option_map reach_of shift) }
+
+    // What is there after it, and what is shown.
     ensures inlays { let replaced = option_map reach_of shift in
         OnOk result (inlays.new ≡ inlays_shown rope replaced inlays.old) }
     ensures folds { let replaced = option_map reach_of shift in
@@ -28,6 +30,8 @@ pub fn show(
     ensures belong { OnOk result (BelongTogether rope inlays.new folds.new) }
     ensures shown { let replaced = option_map reach_of shift in IfOk result (λ made.
         IsShown rope replaced inlays.old folds.old made.0 (option_map reach_of made.1)) }
+
+    // What stays, and the work.
     ensures err { OnErr result (folds.new ≡ folds.old) }
     ensures counted { steps.old ≤ steps.new }
 {

@@ -85,7 +85,7 @@ impl FoldedText {
         text: &str,
         steps: &mut Steps,
     ) -> Result<(), Fault>
-        // What is there after it, and what stays.
+        // What is there after it, what is accepted, and what stays.
         ensures ok { let inlay = inlay_with id offset bias text.now in
             OnOk result (self.new.inlays ≡ added inlay self.old.inlays) }
         ensures accepted { let before = self.old.inlays.current in
@@ -107,7 +107,7 @@ impl FoldedText {
 
     /// Takes the inlay of an id away. It is shown up to the next snapshot.
     pub fn remove(&mut self, alloc: Global, id: u32, steps: &mut Steps) -> Result<(), Fault>
-        // What is there after it, and what stays.
+        // What is there after it, what is accepted, and what stays.
         ensures ok { (i : Inlay) → Contains self.old.inlays.current.inlays i → i.id ≡ id →
             OnOk result (self.new.inlays ≡ removed i self.old.inlays) }
         ensures accepted { OnOk result (remove_refusal self.old.inlays.current id ≡ None) }
@@ -135,7 +135,7 @@ impl FoldedText {
         end: u32,
         steps: &mut Steps,
     ) -> Result<(), Fault>
-        // What is there after it, and what stays.
+        // What is there after it, what is accepted, and what stays.
         ensures ok { let fold = fold_with id start end in
             OnOk result (self.new.folds ≡ folded_up fold self.old.folds) }
         ensures accepted { OnOk result (fold_refusal self.old.folds.current id start end ≡ None) }
@@ -156,7 +156,7 @@ impl FoldedText {
 
     /// Takes the fold of an id off. What it hides is hidden up to the next snapshot.
     pub fn unfold(&mut self, alloc: Global, id: u32, steps: &mut Steps) -> Result<(), Fault>
-        // What is there after it, and what stays.
+        // What is there after it, what is accepted, and what stays.
         ensures ok { (f : Fold) → Contains self.old.folds.current.folds f → f.id ≡ id →
             OnOk result (self.new.folds ≡ opened_up f self.old.folds) }
         ensures accepted { OnOk result (unfold_refusal self.old.folds.current id ≡ None) }

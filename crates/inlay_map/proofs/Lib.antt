@@ -22,6 +22,7 @@ pub mod Refusals
 pub mod ReplacedTexts
 pub mod Respliced
 pub mod RowsShown
+pub mod Sent
 pub mod ShownBoundaries
 pub mod ShownFeeds
 pub mod SpliceLists

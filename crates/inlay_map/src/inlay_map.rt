@@ -94,7 +94,7 @@ impl InlayMap {
         text: &str,
         steps: &mut Steps,
     ) -> Result<(), Fault>
-        // What is there after it.
+        // What is there after it, and what is accepted.
         ensures ok { OnOk result (self.new ≡ added (inlay_with id offset bias text.now) self.old) }
         ensures accepted { OnOk result (add_refusal self.old.current id offset text.now ≡ None) }
 
@@ -123,7 +123,7 @@ impl InlayMap {
 
     /// Takes the inlay of this id off the text. `UnknownId` where there is none.
     pub fn remove(&mut self, alloc: Global, id: u32, steps: &mut Steps) -> Result<(), Fault>
-        // What is there after it.
+        // What is there after it, and what is accepted.
         ensures ok { (i : Inlay) → Contains self.old.current.inlays i → i.id ≡ id →
             OnOk result (self.new ≡ removed i self.old) }
         ensures accepted { OnOk result (remove_refusal self.old.current id ≡ None) }

@@ -31,15 +31,6 @@ pub record LeadsOn {A : Type 0} (writing : ℕ → List A → List ℕ) (drawing
   pub written : now ++ writing done (times (count - done) drawing state).value ≡ before ++ writing 0 (times count drawing start).value
   pub behind : (times (count - done) drawing state).state ≡ (times count drawing start).state
 
-pub leads_from_start : {A : Type 0} (writing : ℕ → List A → List ℕ) (drawing : Drawing A) (count : ℕ) (before : List ℕ) (start : ℕ)
-    → LeadsOn writing drawing count 0 before start before start
-leads_from_start {A} writing drawing count before start =
-    let e : count ≡ count - 0 = omega arith in
-    record {
-      written = ap (λ (n : ℕ). before ++ writing 0 (times n drawing start).value) (sym e);
-      behind = ap (λ (n : ℕ). (times n drawing start).state) (sym e);
-    }
-
 -- `piece n` is what is written of one of which n came before
 pub leads_over_one : {A : Type 0} (writing : ℕ → List A → List ℕ) (piece : ℕ → A → List ℕ) (drawing : Drawing A) (count done : ℕ) (before : List ℕ) (start : ℕ) (now : List ℕ) (state : ℕ) (next : List ℕ) (behind : ℕ)
     → ((value : A) (rest : List A) → writing done (value ∷ rest) ≡ piece done value ++ writing (done + 1) rest)

@@ -263,13 +263,6 @@ script_line_short number text_length state fits =
     let P : Drawing ScriptLine → Type 0 = λ drawing. IsShort 80 (drawing choice.state).value.bytes in
     if_both P (nat_le choice.value 3) _ _ (edit_short text_length choice.state) (other_short choice.value number text_length choice.state fits)
 
-pub script_line-length : (number text_length state : ℕ) → (script_line number text_length state).value.text_length ≤ text_length + 9
-unfolding script_line
-script_line-length number text_length state =
-    let choice = draw 10 state in
-    let P : Drawing ScriptLine → Type 0 = λ drawing. (drawing choice.state).value.text_length ≤ text_length + 9 in
-    if_both P (nat_le choice.value 3) _ _ (edit-length text_length choice.state) (omega arith)
-
 pub script_short : (count number text_length state : ℕ) → number + count < 2 ^ 64 → IsShort (count * 81) (script_lines count number text_length state).value
 unfolding script_lines
 script_short zero number text_length state fits = short_within 0 (0 * 81) [] (omega arith) short_nil

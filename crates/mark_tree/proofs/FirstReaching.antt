@@ -1,5 +1,5 @@
 -- Where the first thing stands that reaches an offset: at the place asked, or where a cursor stands that sought by end.
-use Rattle.std.proofs.Common.{◌≡◌, ℕ, zero, suc, ◌+◌, ◌-◌, ◌<◌, ◌≤◌, List, Some, [], ◌∷◌, length, take, drop, refl, sym, ap, subst, arith}
+use Rattle.std.proofs.Common.{◌≡◌, ℕ, zero, suc, ◌+◌, ◌-◌, ◌<◌, ◌≤◌, List, Some, [], ◌∷◌, length, take, drop, sym, ap, subst, arith}
 use Rattle.std.specs.List.{All, slice_get}
 use Rattle.std.specs.Ordering.{nat_cmp}
 use Rattle.std.proofs.lemmas.List.{length-drop, drop-drop}
@@ -76,20 +76,4 @@ module _ {P : Type 0} where
         within = in';
         short = subst (λ n. All (λ q. end_at q < offset) (take n (drop at ps))) (sym back) (All-nil (λ q. end_at q < offset));
         long = subst (All (λ q. offset ≤ end_at q)) (sym (there-first at ps p is)) (All-cons (λ q. offset ≤ end_at q) p [] far (All-nil (λ q. offset ≤ end_at q)));
-      }
-
-  past-all : (at : ℕ) (ps : List (Placed P)) → length ps ≤ at → drop at ps ≡ []
-  past-all zero [] few = refl
-  past-all zero (p ∷ ps) few = absurd (omega arith)
-  past-all (suc at) [] few = refl
-  past-all (suc at) (p ∷ ps) few = past-all at ps (omega arith)
-
-  pub reaching-past : (at offset : ℕ) (ps : List (Placed P)) → at ≤ length ps → length ps ≤ at → IsFirstReaching at offset ps at
-  reaching-past at offset ps in' past =
-      let back : at - at ≡ 0 = omega arith in
-      record {
-        from = omega arith;
-        within = in';
-        short = subst (λ n. All (λ q. end_at q < offset) (take n (drop at ps))) (sym back) (All-nil (λ q. end_at q < offset));
-        long = subst (λ l. All (λ q. offset ≤ end_at q) (take 1 l)) (sym (past-all at ps past)) (All-nil (λ q. offset ≤ end_at q));
       }

@@ -131,10 +131,6 @@ module _ {P : Type 0} where
   pub none-behind : (offset : ℕ) (ps : List (Placed P)) (at : ℕ) → length ps ≤ at → All (λ p. offset ≤ p.offset) (drop at ps)
   none-behind offset ps at past k d lt = absurd (omega (arith, length-drop at ps))
 
-  -- what lies before an offset lies before one that isn't less
-  pub before-more : (a b : ℕ) (ps : List (Placed P)) → a ≤ b → All (λ p. p.offset < a) ps → All (λ p. p.offset < b) ps
-  before-more a b ps le all k d lt = omega (arith, all k d lt)
-
   -- what a cursor is on that stands at a number
   item-on : (es : List (Entry P)) (at place : ℕ) → place ≡ min at (length es) + 1 → last_of es place ≡ slice_get es (min at (length es))
   item-on es at place is = ap (last_of es) (is ∙ add-one (min at (length es)))

@@ -97,10 +97,13 @@ impl<P: Load> MarkTree<P> {
     /// The places of the marks that a replacement meets: from that of the first one at or behind its start, before that of
     /// the first one behind its end.
     pub fn places_met(&self, shift: Shift, steps: &mut Steps) -> Places
+        // The two places.
         ensures from { result.from ≡ position_or_len (λ m. nat_le shift.start m.offset) self.now }
         ensures to { result.to ≡ position_or_len (λ m. nat_le (shift.end + 1) m.offset) self.now }
         ensures order { result.from ≤ result.to }
         ensures within { result.to ≤ length self.now }
+
+        // The work.
         ensures counted { steps.old ≤ steps.new }
         ensures steps { TakesAtMost both_ends (length self.now) steps.old steps.new }
     {
@@ -224,8 +227,12 @@ impl<P: Load> MarkTree<P> {
     /// Takes the mark at place `at`, counted from 0, off the tree.
     pub fn take(&mut self, alloc: Global, at: u32, steps: &mut Steps) -> Result<Mark<P>, NoMemory>
         requires { at < length self.old }
+
+        // The list after it, and the mark that it had.
         ensures ok { OnOk result (self.new ≡ take at self.old ++ drop (at + 1) self.old) }
         ensures mark { IfOk result (λ m. slice_get self.old at ≡ Some m) }
+
+        // What stays, and the work.
         ensures err { OnErr result (self.new ≡ self.old) }
         ensures counted { steps.old ≤ steps.new }
         ensures steps { TakesAtMost taking (length self.old) steps.old steps.new }

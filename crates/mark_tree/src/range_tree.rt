@@ -142,8 +142,12 @@ impl RangeTree {
     ) -> Result<Vec<u32>, NoMemory>
         requires fits { let moved = map (move_range shift) self.old in
             All (λ r. (r.start < 2 ^ 32) × (r.end < 2 ^ 32)) moved }
+
+        // The list after it, and what it dropped.
         ensures ok { OnOk result (self.new ≡ moved_ranges shift self.old) }
         ensures dropped { IfOk result (λ ids. ids.items ≡ dropped_ids shift self.old) }
+
+        // What stays, and the work.
         ensures err { OnErr result (self.new ≡ self.old) }
         ensures counted { steps.old ≤ steps.new }
         ensures steps { let met = count_by (is_range_met shift) self.old in

@@ -50,9 +50,9 @@ fn a_question_is_answered(rt: HostRuntime) -> Result<(), Fail> {
     let alloc = rt.alloc();
     let mut steps = Steps::new();
     let view = published_view(alloc)?;
-    let row = first_answer(alloc, b"{\"rows\":[0,1]}", &view, &mut steps)?;
+    let row = first_answer(alloc, br#"{"rows":[0,1]}"#, &view, &mut steps)?;
     assert_eq!(rt; row.ok_or("no row")?.as_str(), "0 t|abc");
-    let spot = first_answer(alloc, b"{\"display\":[2,\"left\"]}", &view, &mut steps)?;
+    let spot = first_answer(alloc, br#"{"display":[2,"left"]}"#, &view, &mut steps)?;
     assert_eq!(rt; spot.ok_or("no spot")?.as_str(), "0 2");
     Ok(())
 }
@@ -209,7 +209,10 @@ fn run_pair<R: Threads + Wait + Sync>(
 #[test]
 fn a_run_writes_answers(rt: HostRuntime) -> Result<(), Fail> {
     let alloc = rt.alloc();
-    let script = b"{\"width\":5}\n{\"rows\":[0,9]}\nno command\n";
+    let script = br#"{"width":5}
+{"rows":[0,9]}
+no command
+"#;
     let (status, out) = run_pair(&rt, alloc, b"hello world", script)?;
     assert_eq!(rt; status, 1);
     assert_eq!(rt; out.taken(), b"0 t|hello \n1 w|world\n! 1\n".as_slice());

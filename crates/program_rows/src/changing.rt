@@ -183,7 +183,10 @@ const ROWS: [Row<'static>; 7] = [
         shows: "the script has grown",
         reads: 3,
         text: Some("abc"),
-        script: Some("{\"rows\":[0,9]}\n{\"rows\":[0,1]}"),
+        script: Some(
+            r#"{"rows":[0,9]}
+{"rows":[0,1]}"#,
+        ),
         note: Note::Fine,
         written: "0 t|abc\n0 t|abc\n",
     },

@@ -8,7 +8,10 @@ fn refused_lines_print_their_numbers_and_change_nothing(rt: HostRuntime) -> Resu
     let long = vec![in alloc; b'x'; 1_025]?;
     let long = str::from_utf8(long.as_slice()).unwrap_or("");
     let lengths = format!(in alloc;
-        "{{\"fold\":[1,0,2]}}\n{{\"fold\":[1,3,4]}}\n{{\"inlay\":[1,0,\"left\",\"{long}\"]}}\n{{\"rows\":[0,1]}}"
+        r#"{{"fold":[1,0,2]}}
+{{"fold":[1,3,4]}}
+{{"inlay":[1,0,"left","{long}"]}}
+{{"rows":[0,1]}}"#
     )?;
     let sessions = [
         Session {

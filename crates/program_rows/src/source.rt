@@ -18,8 +18,18 @@ const LONG: &str = "abcdefghijklmnopqrstuvwxyzabcdefghijklmnopqrstuvwxyzabcdefgh
 /// Edits of several ranges. The first one moves every anchor by three bytes.
 fn edits(alloc: Global) -> Result<String, NoMemory> {
     Ok(format!(in alloc;
-        "{{\"edit\":[[0,0,\"// \"],[255,260,\"count\"],[505,510,\"count\"]]}}\n{{\"edit\":[[1016,1019,\"add\"],[1520,1525,\"bytes\"]]}}\n{{\"edit\":[[9516,9526,\"{LONG}\"],[9766,9776,\"{LONG}\"]]}}\n"
+        r#"{{"edit":[[0,0,"// "],[255,260,"count"],[505,510,"count"]]}}
+{{"edit":[[1016,1019,"add"],[1520,1525,"bytes"]]}}
+{{"edit":[[9516,9526,"{LONG}"],[9766,9776,"{LONG}"]]}}
+"#
     )?)
+}
+
+/// One more line of a script.
+fn push_line(script: &mut String, line: &str) -> Result<(), NoMemory> {
+    script.push_str(line)?;
+    script.push('\n')?;
+    Ok(())
 }
 
 /// Thirty inlays behind names, twelve folds from line end to line end, three blocks, and the edits.
@@ -27,22 +37,22 @@ fn script(alloc: Global) -> Result<String, NoMemory> {
     let mut script = String::new(alloc);
     for i in 0..30u32 {
         let at = 25 * (100 + 5 * i) + 10;
-        let line = format!(in alloc; "{{\"inlay\":[{i},{at},\"right\",\": u32\"]}}\n")?;
-        script.push_str(line.as_str())?;
+        let line = format!(in alloc; r#"{{"inlay":[{i},{at},"right",": u32"]}}"#)?;
+        push_line(&mut script, line.as_str())?;
     }
     for i in 0..12u32 {
         let start = 25 * (250 + 8 * i) + 24;
         let end = start + 50;
-        let line = format!(in alloc; "{{\"fold\":[{i},{start},{end}]}}\n")?;
-        script.push_str(line.as_str())?;
+        let line = format!(in alloc; r#"{{"fold":[{i},{start},{end}]}}"#)?;
+        push_line(&mut script, line.as_str())?;
     }
     for i in 0..3u32 {
         let row = 350 + 10 * i;
-        let line = format!(in alloc; "{{\"block\":[{i},\"above\",{row},[\"-- note\"]]}}\n")?;
-        script.push_str(line.as_str())?;
+        let line = format!(in alloc; r#"{{"block":[{i},"above",{row},["-- note"]]}}"#)?;
+        push_line(&mut script, line.as_str())?;
     }
     script.push_str(edits(alloc)?.as_str())?;
-    script.push_str("{\"rows\":[0,1000]}\n")?;
+    push_line(&mut script, r#"{"rows":[0,1000]}"#)?;
     Ok(script)
 }
 

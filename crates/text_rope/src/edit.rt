@@ -148,7 +148,8 @@ fn renewal_within(
     requires range { IsRange (concat chunks.now) start end }
     requires found { IsBefore chunks.now end found.before }
     requires here { found.text.now ≡ slice_index_or chunks.now found.before.chunks [] }
-    ensures { IfOk result (λ o. IfSome o (λ r. IsRenewed chunks.now start end text.now r.from r.to r.chunks.items)) }
+    ensures { IfOk result (λ o. IfSome o (λ r.
+        IsRenewed chunks.now start end text.now r.from r.to r.chunks.items)) }
 {
     let before = found.before;
     if start < before.bytes || before.chunks >= chunks.len() {
@@ -180,7 +181,8 @@ pub(crate) fn renewal_of(
 ) -> Result<Renewal, NoMemory>
     requires rope { IsRope chunks.now }
     requires range { IsRange (concat chunks.now) start end }
-    ensures renewed { IfOk result (λ r. IsRenewed chunks.now start end text.now r.from r.to r.chunks.items) }
+    ensures renewed { IfOk result (λ r.
+        IsRenewed chunks.now start end text.now r.from r.to r.chunks.items) }
     ensures counted { steps.old ≤ steps.new }
     ensures steps { TakesOnText (ways 4) (concat chunks.now) steps.old steps.new }
 {

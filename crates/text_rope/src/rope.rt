@@ -48,7 +48,8 @@ impl Rope {
     /// The text of these bytes, with each CR LF and then each lone CR turned into LF. `TooLong` where there are more than
     /// 33,554,432 bytes, and else `NotUtf8` where they aren't UTF-8, with the length of the longest prefix that is.
     pub fn from_bytes(alloc: Global, bytes: &[u8], steps: &mut Steps) -> Result<Rope, TextFault>
-        ensures cases { MatchResult result (λ r. (r ≡ clean bytes.now) × IsAccepted bytes.now) (IsTextRefused bytes.now) }
+        ensures cases { MatchResult result
+            (λ r. (r ≡ clean bytes.now) × IsAccepted bytes.now) (IsTextRefused bytes.now) }
         ensures counted { steps.old ≤ steps.new }
         ensures steps { steps.new ≤ steps.old + 8 * (length bytes.now / 64 + 1) }
     {
@@ -94,10 +95,14 @@ impl Rope {
         text: &str,
         steps: &mut Steps,
     ) -> Result<Patch, Fault>
-        ensures cases { MatchResult result (IsReplaced self.old start end (clean text.now) self.new) (IsReplaceFault self.old start end (clean text.now)) }
+        ensures cases { let put = clean text.now in
+            MatchResult result (IsReplaced self.old start end put self.new)
+            (IsReplaceFault self.old start end put) }
         ensures err { OnErr result (self.new ≡ self.old) }
         ensures counted { steps.old ≤ steps.new }
-        ensures steps { ChangesText (replacing (length (clean text.now))) self.old (replaced_text self.old start end (clean text.now)) steps.old steps.new }
+        ensures steps { let put = clean text.now in
+            let made = replaced_text self.old start end put in
+            ChangesText (replacing (length put)) self.old made steps.old steps.new }
     {
         let (new, patch) = renewed(alloc, &self.chunks, start, end, text, steps)?;
         self.chunks
@@ -114,9 +119,13 @@ impl Rope {
         text: &str,
         steps: &mut Steps,
     ) -> Result<(Rope, Patch), Fault>
-        ensures cases { MatchResult result (λ made. IsReplaced self.now start end (clean text.now) made.0 made.1) (IsReplaceFault self.now start end (clean text.now)) }
+        ensures cases { let put = clean text.now in
+            MatchResult result (λ made. IsReplaced self.now start end put made.0 made.1)
+            (IsReplaceFault self.now start end put) }
         ensures counted { steps.old ≤ steps.new }
-        ensures steps { ChangesText (replacing (length (clean text.now))) self.now (replaced_text self.now start end (clean text.now)) steps.old steps.new }
+        ensures steps { let put = clean text.now in
+            let made = replaced_text self.now start end put in
+            ChangesText (replacing (length put)) self.now made steps.old steps.new }
     {
         let (new, patch) = renewed(alloc, &self.chunks, start, end, text, steps)?;
         let mut chunks = self.chunks.share()?;
@@ -209,7 +218,8 @@ impl Rope {
         requires { row < line_count self.now }
         ensures text { IfOk result (λ t. slice_get (buffer_lines self.now) row ≡ Some t) }
         ensures counted { steps.old ≤ steps.new }
-        ensures steps { TakesOnText (reading_row (line_end self.now row - line_start self.now row)) self.now steps.old steps.new }
+        ensures steps { let bytes = line_end self.now row - line_start self.now row in
+            TakesOnText (reading_row bytes) self.now steps.old steps.new }
     {
         let (start, end) = range_of_row(&self.chunks, row, steps);
         self.slice(alloc, start, end, steps)
@@ -226,6 +236,8 @@ impl Rope {
         requires start { IsBoundary self.now start }
         requires end { IsBoundary self.now end }
         requires order { start ≤ end }
+
+        // The text, and the work.
         ensures text { IfOk result (λ t. t ≡ take (end - start) (drop start self.now)) }
         ensures counted { steps.old ≤ steps.new }
         ensures steps { TakesOnText (slicing (end - start)) self.now steps.old steps.new }

@@ -1,5 +1,5 @@
 -- The steps on the board keep its rule.
-use Rattle.std.proofs.Common.{◌≡◌, ◌≢◌, ◌⊎◌, ℕ, List, [], ◌∷◌, ◌++◌, set, sym, refl, ◌∙◌, subst, ⊎_elim, fold, Option, None, Some}
+use Rattle.std.proofs.Common.{◌≡◌, ◌≢◌, ◌⊎◌, ℕ, List, [], ◌∷◌, ◌++◌, set, refl, ◌∙◌, subst, ⊎_elim, fold, Option, None, Some}
 use mathlib.Core.Option.{some}
 use lib.ListN.{get_elem?}
 use Rattle.crossbeam_utils.specs.Register.{Admits, TurnsAt, Forks, Merges}
@@ -8,7 +8,7 @@ use Rattle.logbook.specs.Pages.{Book}
 use Rattle.version_board.specs.Known.{Known}
 use Rattle.version_board.specs.declared.shown.Shown.{Shown}
 use Rattle.version_board.specs.declared.seats.View.{View}
-use Rattle.version_board.specs.inside.Ties.{MayBeOf, IsTied, AreTied, SeesRow, BecomesTied}
+use Rattle.version_board.specs.inside.Ties.{MayBeOf, AreTied, SeesRow, BecomesTied}
 
 set_tied : (y : Shown) (views : List View) (seat : ℕ) (w : View)
     → ((j : ℕ) (u : View) → get_elem? views j ≡ some u → MayBeOf y.kept.board u.known)

@@ -64,7 +64,11 @@ impl<N: Lines> Crew<N> {
     #[tactic(auto, using(crate::proofs::Crews::at_home, crate::proofs::Crews::home_at, crate::proofs::Crews::crew_put_back))]
     pub fn hand_out<R: Wait>(&mut self, rt: &R, job: Job<N>) -> Result<(), Job<N>>
         requires { IsFree job.number self.old.out }
+
+        // When it comes back.
         ensures full { IsErr result ↔ (length self.old.out ≡ 2 * self.old.workers) }
+
+        // What is there after it.
         ensures ok { OnOk result (self.new.out ≡ self.old.out ++ job ∷ []) }
         ensures kept { OnOk result ((self.new.kept ≡ self.old.kept)
             ⊎ (self.new.kept ≡ self.old.kept ++ job ∷ [])) }

@@ -1,4 +1,4 @@
-use Rattle.folded_text.proofs.Sent.{sent}
+use Rattle.inlay_map.proofs.Sent.{sent}
 use Rattle.fold_bench.proofs.look.Goals as goal
 
 pub ask-requires-send-L : goal.ask-requires-send-L

@@ -12,9 +12,6 @@ use Rattle.display_cli.proofs.top.run.Goals as goal
 none-some : {o : Option Plan} (p : Plan) → o ≡ None → o ≡ Some p → ⊥
 none-some p e f = cc
 
-memory-usage : (note : Note) → note ≡ notes.Memory → note ≡ notes.Usage → ⊥
-memory-usage note e f = cc
-
 -- a run of a plan that the words have
 of-plan : (o : Option Plan) (plan : Plan) (run : Run) → o ≡ Some plan → HasStatus run.note run.status → IsRun run plan → IsRunOfWords o run
 of-plan o plan run e status it =

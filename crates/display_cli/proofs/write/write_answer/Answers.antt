@@ -28,6 +28,7 @@ loop-line-preserved g c =
           (g.K.Sink.state c.write_line.new.out) c.as_str.result.now c.loop-line.invariant.written
           (ap Some c.as_str.ensures ∙ (sym c.in-Some.is ∙ c.in_ok-line.ensures.line)) c.in_ok-line.ensures.rest c.in_ok-write_line.ensures.written;
       counted = omega (arith, c.loop-line.invariant.counted);
+      rises = omega (arith, c.loop-line.invariant.rises, c.next_line.ensures.counted);
     }
 
 pub returns-clause-lines : goal.returns-clause-lines

@@ -1,5 +1,5 @@
 -- The lines before those that are left were written and counted.
-use Rattle.std.proofs.Common.{◌≡◌, ◌+◌, length}
+use Rattle.std.proofs.Common.{◌≡◌, ◌+◌, ◌≤◌, length}
 use Rattle.display_cli.proofs.Fronts.{AreWritten}
 use Rattle.display_cli.proofs.write.write_answer.Given as goal
 
@@ -8,6 +8,7 @@ invariant-loop-line g l =
     record {
       written : AreWritten l.initial.answer l.answer (g.K.Sink.state l.initial.out) (g.K.Sink.state l.out);
       counted : l.lines + length l.answer ≡ length l.initial.answer;
+      rises : l.initial.steps ≤ l.steps;
     }
 
 abbrev pub decreases-loop-line : goal.decreases-loop-line

@@ -1,12 +1,8 @@
 use Rattle.std.proofs.Common.{◌≡◌, ℕ, ◌+◌, ◌<◌, List, ◌∷◌, length, drop, get_or, refl, sym, ap, ◌∙◌, subst, arith}
-use Rattle.std.specs.Prelude.{Option, Some, None}
+use Rattle.std.specs.Prelude.{Option, None}
 use Rattle.std.proofs.lemmas.List.{drop_all, drop_more}
 use Rattle.display_map.specs.Outs.{AreBelow, lowered}
 use Rattle.display_map.proofs.outs.lower_lines.Goals as goal
-
--- the next place is below the number of lines, and so are those behind it
-next_below : (n : ℕ) (places : List (Option ℕ)) (i line : ℕ) → i < length places → get_or places i None ≡ Some line → AreBelow n (drop i places) → (line < n) × AreBelow n (drop (i + 1) places)
-next_below n places i line lt e below = subst (λ (l : List (Option ℕ)). AreBelow n l) (drop_more places i None lt ∙ ap (λ p. p ∷ drop (i + 1) places) e) below
 
 -- a place that is none is passed
 pass : (n : ℕ) (places : List (Option ℕ)) (i : ℕ) → i < length places → get_or places i None ≡ None → AreBelow n (drop i places) → AreBelow n (drop (i + 1) places)

@@ -1,4 +1,4 @@
-use Rattle.folded_text.proofs.Sent.{sent}
+use Rattle.inlay_map.proofs.Sent.{sent}
 use Rattle.fold_bench.proofs.looks.check.Goals as goal
 
 pub count_hidden-requires-send-L : goal.count_hidden-requires-send-L

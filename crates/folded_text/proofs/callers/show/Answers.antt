@@ -1,7 +1,7 @@
 use Rattle.std.proofs.Common.{option_map, arith}
 use Rattle.shifted_lists.specs.Leads.{reach_of}
+use Rattle.inlay_map.proofs.Sent.{sent}
 use Rattle.folded_text.proofs.Follows.{belong-made, follows-made, is-shown}
-use Rattle.folded_text.proofs.Sent.{sent}
 use Rattle.folded_text.proofs.Texts.{inlays-stand, replaced-leads}
 use Rattle.folded_text.proofs.callers.show.Goals as goal
 

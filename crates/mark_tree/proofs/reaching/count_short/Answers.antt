@@ -1,4 +1,4 @@
-use Rattle.std.proofs.Common.{◌≡◌, ◌∙◌, ◌+◌, ◌-◌, ◌^◌, ◌<◌, length, take, min, ap, subst, arith}
+use Rattle.std.proofs.Common.{◌≡◌, ◌∙◌, ◌-◌, length, take, min, ap, subst, arith}
 use Rattle.std.specs.Ordering.{nat_cmp}
 use Rattle.cell_units.specs.declared.place.Bias.TheVariants.{Left}
 use Rattle.sum_tree.specs.Cursors.{IsSought}

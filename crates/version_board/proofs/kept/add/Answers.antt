@@ -1,4 +1,4 @@
-use Rattle.std.proofs.Common.{◌≡◌, ◌+◌, ◌==◌, true, List, [], ◌∷◌, ◌++◌, length, sym, ◌∙◌, ap, subst, arith, eq-eqb}
+use Rattle.std.proofs.Common.{◌≡◌, ◌+◌, ◌==◌, true, [], ◌∷◌, ◌++◌, length, sym, ◌∙◌, ap, subst, arith, eq-eqb}
 use Rattle.std.specs.Arc.{arc_value}
 use Rattle.display_map.specs.declared.version.Version.{Version}
 use Rattle.display_map.specs.Replay.{versions_of}

@@ -1,4 +1,4 @@
-use Rattle.std.proofs.Common.{◌≡◌, false, ap, sym, subst, ◌∙◌}
+use Rattle.std.proofs.Common.{false, ap, sym, subst, ◌∙◌}
 use Rattle.display_map.specs.Replay.{versions_of}
 use Rattle.version_board.specs.Rows.{IsFirst}
 use Rattle.version_board.proofs.RowLemmas.{may_open}

@@ -1,7 +1,7 @@
 use Rattle.std.proofs.Common.{arith}
 use Rattle.fold_map.specs.Maps.{fold_with}
+use Rattle.inlay_map.proofs.Sent.{sent}
 use Rattle.folded_text.proofs.Belong.{with-fits}
-use Rattle.folded_text.proofs.Sent.{sent}
 use Rattle.folded_text.proofs.text.FoldedText.fold.Goals as goal
 
 pub len-requires-2-send-L : goal.len-requires-2-send-L

@@ -1,4 +1,4 @@
-use Rattle.folded_text.proofs.Sent.{sent}
+use Rattle.inlay_map.proofs.Sent.{sent}
 use Rattle.folded_text.proofs.text.FoldedText.new.Goals as goal
 
 pub new-requires-2-send-L : goal.new-requires-2-send-L

@@ -1,4 +1,4 @@
-use Rattle.folded_text.proofs.Sent.{sent}
+use Rattle.inlay_map.proofs.Sent.{sent}
 use Rattle.folded_text.proofs.text.FoldedText.share.Goals as goal
 
 pub share-requires-3-send-L : goal.share-requires-3-send-L

@@ -1,6 +1,6 @@
 use Rattle.std.proofs.Common.{arith}
+use Rattle.inlay_map.proofs.Sent.{sent}
 use Rattle.folded_text.proofs.Belong.{belong-after_unfold, without-fits}
-use Rattle.folded_text.proofs.Sent.{sent}
 use Rattle.folded_text.proofs.text.FoldedText.unfold.Goals as goal
 
 pub len-requires-2-send-L : goal.len-requires-2-send-L

@@ -1,4 +1,4 @@
-use Rattle.std.proofs.Common.{◌≡◌, ◌∙◌, ◌+◌, ◌≤◌, nat_le, ap, sym, length, arith}
+use Rattle.std.proofs.Common.{◌≡◌, ◌∙◌, ◌+◌, nat_le, ap, sym, length, arith}
 use Rattle.std.specs.List.{position_or_len}
 use Rattle.mark_tree.specs.Views.{mark_of}
 use Rattle.mark_tree.proofs.MarkViews.{place-from}

@@ -1,4 +1,4 @@
-use Rattle.std.proofs.Common.{◌≡◌, ◌⊎◌, ap, subst, List}
+use Rattle.std.proofs.Common.{ap, subst, List}
 use mathlib.Core.List.{IsPrefix}
 use Rattle.display_map.specs.declared.version.Version.{Version}
 use Rattle.version_board.proofs.Prefixes.{prefix_either}

@@ -1,4 +1,4 @@
-use Rattle.std.proofs.Common.{◌≡◌, ◌+◌, ◌-◌, ◌≤◌, ◌∙◌, List, ℕ, length, ap, sym, subst, Some, arith}
+use Rattle.std.proofs.Common.{◌≡◌, ◌-◌, ◌∙◌, List, ℕ, length, ap, sym, subst, Some, arith}
 use Rattle.cell_units.specs.Layers.{Source, plain_source}
 use Rattle.cell_units.specs.Text.{clean}
 use Rattle.cell_units.proofs.ReplacedRows.{length-replaced_text}
