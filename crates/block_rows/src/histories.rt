@@ -10,7 +10,6 @@ use std::alloc::Global;
 use std::test::Fail;
 use test_parts::lists::answers;
 use test_parts::steps::{History, first_difference};
-use test_parts::told::repeated;
 use test_parts::words::{drawn_range, drawn_side, drawn_text, drawn_width};
 
 /// Whether a row is as it has to be.
@@ -250,7 +249,7 @@ fn second_changes_of_empty_lines_show_the_plain_rows(rt: HostRuntime) -> Result<
 /// The same of 150 lines, of which at most 128 are wrapped at a time.
 #[test]
 fn changes_of_many_lines_show_the_plain_rows(rt: HostRuntime) -> Result<(), Fail> {
-    let text = repeated(rt.alloc(), "aaa bbb\n", 150)?;
+    let text = "aaa bbb\n".repeat(rt.alloc(), 150)?;
     assert_eq!(rt; differ_at(rt.alloc(), text.as_str(), 29, 40)?, None);
     Ok(())
 }

@@ -7,7 +7,7 @@ use cell_units::{Fault, NoMemory, Side, Text};
 use std::alloc::Global;
 use std::test::Fail;
 use test_parts::steps::{self, Played};
-use test_parts::told::{accepted, number, refused, repeated};
+use test_parts::told::{accepted, number, refused};
 
 /// A change, or a question.
 #[derive(Clone, Copy)]
@@ -118,7 +118,7 @@ fn take_step(laid: &mut Laid, step: &Step) -> Result<String, NoMemory> {
             accepted(alloc, laid.insert(*id, *side, *offset, lines.as_slice()))
         }
         Step::BlockLetters(id, offset, count) => {
-            let line = repeated(alloc, "a", *count)?;
+            let line = "a".repeat(alloc, *count)?;
             let line = Text::from_str(alloc, line.as_str())?;
             accepted(alloc, laid.insert(*id, Side::Above, *offset, &[line]))
         }

@@ -4,7 +4,6 @@ use crate::script::Step::{
 };
 use crate::script::play;
 use std::test::Fail;
-use test_parts::told::repeated;
 
 /// A byte that is hidden changes, and the placeholder is replaced by itself.
 #[test]
@@ -105,7 +104,7 @@ fn a_feed_between_folds_parts_their_line(rt: HostRuntime) -> Result<(), Fail> {
 /// it hides too.
 #[test]
 fn an_edit_under_a_long_chain_takes_few_steps(rt: HostRuntime) -> Result<(), Fail> {
-    let text = repeated(rt.alloc(), "a\n", 10_001)?;
+    let text = "a\n".repeat(rt.alloc(), 10_001)?;
     let steps = [
         FoldChain(10_000, 2, 3),
         Show,

@@ -6,7 +6,6 @@ use crate::script::play;
 use cell_units::Bias::Left;
 use cell_units::limits::ENTRY_LIMIT;
 use std::test::Fail;
-use test_parts::told::repeated;
 
 /// An id that is there, a range that is none, one that is backwards, one past the end, and an id that isn't there.
 #[test]
@@ -83,7 +82,7 @@ fn an_inlay_may_have_the_id_of_a_fold(rt: HostRuntime) -> Result<(), Fail> {
 /// Over 65,536 folds, each of a letter, one more is too long, and one that comes for another isn't.
 #[test]
 fn one_fold_too_many_is_too_long(rt: HostRuntime) -> Result<(), Fail> {
-    let text = repeated(rt.alloc(), "a", ENTRY_LIMIT + 1)?;
+    let text = "a".repeat(rt.alloc(), ENTRY_LIMIT + 1)?;
     let steps = [
         FoldEach(65_536, 1),
         Fold(65_536, 65_536, 65_537),

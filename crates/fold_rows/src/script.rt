@@ -132,7 +132,7 @@ fn told<L: Layer>(alloc: Global, layer: &L, step: &Step) -> Result<String, NoMem
     match step {
         Step::Length => number(alloc, Some(layer.length())),
         Step::Lines => number(alloc, Some(layer.lines())),
-        Step::Line(line) => looks::line_text(alloc, layer, *line),
+        Step::Line(line) => looks::line_told(alloc, layer, *line),
         Step::Pieces(line) => pieces(alloc, looks::pieces(alloc, layer, *line)?),
         Step::Start(line) => number(alloc, looks::line_begin(layer, *line)),
         Step::Span(line) => pair(alloc, looks::span(layer, *line)),

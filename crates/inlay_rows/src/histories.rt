@@ -51,7 +51,7 @@ fn has_lines<L: Layer>(
         let span = (plain.row_of_place(start), plain.row_of_place(end));
         if looks::line_begin(layer, line) != Some(start)
             || looks::span(layer, line) != Some(span)
-            || looks::line_text(alloc, layer, line)?.as_bytes() != pieces.as_slice()
+            || looks::line_told(alloc, layer, line)?.as_bytes() != pieces.as_slice()
         {
             return Ok(false);
         }

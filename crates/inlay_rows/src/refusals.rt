@@ -4,7 +4,6 @@ use crate::script::play;
 use cell_units::Bias::{Left, Right};
 use cell_units::limits::{ENTRY_LIMIT, INLAY_LIMIT};
 use std::test::Fail;
-use test_parts::told::repeated;
 
 /// An id that is there, an offset past the end, a text that is none, and an id that isn't there.
 #[test]
@@ -68,7 +67,7 @@ fn refusals_come_in_their_order(rt: HostRuntime) -> Result<(), Fail> {
 /// Over 65,536 inlays one more is too long, and one that comes for another isn't.
 #[test]
 fn one_inlay_too_many_is_too_long(rt: HostRuntime) -> Result<(), Fail> {
-    let text = repeated(rt.alloc(), "a", ENTRY_LIMIT)?;
+    let text = "a".repeat(rt.alloc(), ENTRY_LIMIT)?;
     let steps = [
         InsertEach(65_536),
         Insert(65_536, 65_536, Left, ">"),

@@ -6,7 +6,7 @@ use std::alloc::Global;
 use std::test::Fail;
 use test_parts::looks;
 use test_parts::steps::{self, Played};
-use test_parts::told::{accepted, edited, number, pair, repeated, replaced};
+use test_parts::told::{accepted, edited, number, pair, replaced};
 
 /// A change, or a question.
 #[derive(Clone, Copy)]
@@ -67,7 +67,7 @@ impl<'a> Played<Step<'a>> for Laid {
                 accepted(alloc, self.insert(*id, *offset, *bias, text))
             }
             Step::InsertLetters(id, offset, count) => {
-                let text = repeated(alloc, "a", *count)?;
+                let text = "a".repeat(alloc, *count)?;
                 accepted(alloc, self.insert(*id, *offset, Bias::Left, text.as_str()))
             }
             Step::InsertEach(count) => accepted(alloc, self.insert_each(*count)),
@@ -106,7 +106,7 @@ fn look<L: Layer>(alloc: Global, layer: &L, step: &Step) -> Result<String, NoMem
     match step {
         Step::Length => number(alloc, Some(layer.length())),
         Step::Lines => number(alloc, Some(layer.lines())),
-        Step::Line(line) => looks::line_text(alloc, layer, *line),
+        Step::Line(line) => looks::line_told(alloc, layer, *line),
         Step::Span(line) => pair(alloc, looks::span(layer, *line)),
         Step::Places(offset) => pair(alloc, looks::places(layer, *offset)),
         Step::Point(place) => pair(alloc, looks::point(layer, *place)),

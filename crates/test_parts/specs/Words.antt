@@ -14,9 +14,6 @@ line_texts =
     [] ∷ codes "a" ∷ codes " " ∷ codes "bb cc" ∷ codes "\n" ∷ codes "dd\nee ff" ∷ codes "\tg" ∷ codes "hh ii jj kk" ∷ codes "  m" ∷ codes "\n\n"
     ∷ codes "nnnnnnnnnn" ∷ []
 
-abbrev pub line_text : ℕ → List ℕ
-line_text number = get_or line_texts number []
-
 -- widths at which they are
 abbrev pub widths : List ℕ
 widths = 0 ∷ 4 ∷ 5 ∷ 8 ∷ 12 ∷ 30 ∷ []

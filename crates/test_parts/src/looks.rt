@@ -1,9 +1,10 @@
 //! What is asked of a layer: any offset, place and line may be asked for, and each answer is a plain value.
-ghost use Rattle.std.specs.Prelude.{◌≡◌, ◌<◌, ◌≤◌, ◌↔◌, IsSome, IfSome, IfOk, OnOk, length, slice_get, Some};
+ghost use Rattle.std.specs.Prelude.{◌≡◌, ◌<◌, ◌≤◌, ◌↔◌, IsSome, IfSome, IfOk, length, slice_get, string_bytes, Some};
 ghost use Rattle.cell_units.specs.declared.place.Bias.TheVariants.{Left, Right};
 ghost use Rattle.cell_units.specs.BufferLines.{line_start};
 ghost use Rattle.cell_units.specs.Layers.{place_of, point_of, shown_lines, shown_text, span_of};
 ghost use Rattle.cell_units.specs.Text.{IsBoundary};
+ghost use Rattle.test_parts.specs.Told.{barred_told, line_told};
 
 use cell_units::{Bias, Layer, NoMemory, Piece};
 use std::alloc::Global;
@@ -21,18 +22,27 @@ pub fn pieces<L: Layer>(alloc: Global, layer: &L, line: u32) -> Result<Option<Ve
     Ok(Some(layer.pieces(alloc, line)?))
 }
 
-/// The pieces of a display line, with a bar behind each. Where there is no such line it is a question mark.
-pub fn line_text<L: Layer>(alloc: Global, layer: &L, line: u32) -> Result<String, NoMemory> {
+/// Pieces, with a bar behind each.
+fn barred(alloc: Global, pieces: &[Piece]) -> Result<String, NoMemory>
+    ensures { IfOk result (λ told. string_bytes told ≡ barred_told pieces.now) }
+{
     let mut all = String::new(alloc);
-    let Some(pieces) = pieces(alloc, layer, line)? else {
-        all.push('?')?;
-        return Ok(all);
-    };
     for piece in pieces {
         all.push_str(piece.text.as_str())?;
         all.push('|')?;
     }
     Ok(all)
+}
+
+/// The pieces of a display line, with a bar behind each. Where there is no such line it is a question mark.
+pub fn line_told<L: Layer>(alloc: Global, layer: &L, line: u32) -> Result<String, NoMemory>
+    ensures { IfOk result (λ told. string_bytes told
+        ≡ line_told (slice_get (shown_lines (L.source layer.now)) line)) }
+{
+    match pieces(alloc, layer, line)? {
+        Some(pieces) => barred(alloc, &pieces),
+        None => Ok(String::from_str(alloc, "?")?),
+    }
 }
 
 /// The place at which a display line begins, where there is such a line.

@@ -1,7 +1,7 @@
 //! Answers in words.
-ghost use Rattle.std.specs.Prelude.{◌≡◌, ◌++◌, codes, decimal, option_map, IfOk, string_bytes};
-ghost use Rattle.std.specs.List.{concat};
+ghost use Rattle.std.specs.Prelude.{◌≡◌, option_map, IfOk, Some, string_bytes};
 ghost use Rattle.test_parts.specs.Told.{number_told, pair_told, replaced_told};
+ghost use Rattle.test_parts.specs.Told.{refusal_told, refused_told, accepted_told, edited_told};
 
 use cell_units::{Fault, NoMemory, Refusal, Shift};
 use std::alloc::Global;
@@ -46,19 +46,36 @@ pub fn replaced(alloc: Global, stretch: Stretch) -> Result<String, NoMemory>
     }
 }
 
+/// The name of a refusal.
+fn name(refusal: Refusal) -> &'static str
+    ensures { result.now ≡ refusal_told refusal }
+{
+    match refusal {
+        Refusal::NotCommand => "NotCommand",
+        Refusal::BadRange => "BadRange",
+        Refusal::IdInUse => "IdInUse",
+        Refusal::UnknownId => "UnknownId",
+        Refusal::TooLong => "TooLong",
+        Refusal::BadNumber => "BadNumber",
+        Refusal::BadText => "BadText",
+        Refusal::NothingThere => "NothingThere",
+    }
+}
+
 /// `ok`, or the refusal.
 pub fn refused(alloc: Global, answer: Result<(), Refusal>) -> Result<String, NoMemory>
-    ensures { answer ≡ Ok tt → IfOk result (λ told. string_bytes told ≡ codes "ok") }
+    ensures { IfOk result (λ told. string_bytes told ≡ refused_told answer) }
 {
-    match answer {
-        Ok(()) => Ok(String::from_str(alloc, "ok")?),
-        Err(refusal) => Ok(format!(in alloc; "{refusal:?}")?),
-    }
+    let told = match answer {
+        Ok(()) => "ok",
+        Err(refusal) => name(refusal),
+    };
+    Ok(String::from_str(alloc, told)?)
 }
 
 /// `ok`, or the refusal. Want of memory is no answer.
 pub fn accepted(alloc: Global, answer: Result<(), Fault>) -> Result<String, NoMemory>
-    ensures { answer ≡ Ok tt → IfOk result (λ told. string_bytes told ≡ codes "ok") }
+    ensures { IfOk result (λ told. Some (string_bytes told) ≡ accepted_told answer) }
 {
     match answer {
         Ok(()) => refused(alloc, Ok(())),
@@ -67,19 +84,12 @@ pub fn accepted(alloc: Global, answer: Result<(), Fault>) -> Result<String, NoMe
     }
 }
 
-/// What is replaced, or the refusal.
-pub fn edited(alloc: Global, answer: Result<Stretch, Fault>) -> Result<String, NoMemory> {
+/// What is replaced, or the refusal. Want of memory is no answer.
+pub fn edited(alloc: Global, answer: Result<Stretch, Fault>) -> Result<String, NoMemory>
+    ensures { IfOk result (λ told. Some (string_bytes told) ≡ edited_told answer) }
+{
     match answer {
         Ok(stretch) => replaced(alloc, stretch),
         Err(fault) => accepted(alloc, Err(fault)),
     }
-}
-
-/// So many times one text.
-pub fn repeated(alloc: Global, text: &str, count: usize) -> Result<String, NoMemory> {
-    let mut all = String::new(alloc);
-    for _ in 0..count {
-        all.push_str(text)?;
-    }
-    Ok(all)
 }

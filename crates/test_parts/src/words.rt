@@ -1,10 +1,10 @@
 //! Texts that random changes put in, and what else they draw.
-ghost use Rattle.std.specs.Prelude.{◌≡◌, ◌+◌, ◌%◌, ◌^◌, ◌==◌, get_or, max, min, if◌then◌else◌};
+ghost use Rattle.std.specs.Prelude.{◌≡◌, ◌+◌, ◌%◌, ◌^◌, ◌==◌, [], get_or, length, max, min, if◌then◌else◌};
 ghost use Rattle.cell_units.specs.declared.place.Bias.TheVariants.{Left, Right};
 ghost use Rattle.cell_units.specs.declared.place.Side.TheVariants.{Above, Below};
 ghost use Rattle.cell_units.specs.Text.{clean};
 ghost use Rattle.made_input.specs.Drawing.{draw};
-ghost use Rattle.test_parts.specs.Words.{given_text, line_text, widths};
+ghost use Rattle.test_parts.specs.Words.{given_text, line_texts, widths};
 
 use cell_units::{Bias, Side};
 use made_input::Generator;
@@ -45,8 +45,8 @@ const LINE_TEXT_COUNT: u32 = 11;
 
 /// One of the texts that are wrapped.
 pub fn drawn_text(generator: &mut Generator) -> &'static str
-    ensures value { result.now ≡ line_text (draw 11 generator.old.state).value }
-    ensures state { generator.new.state ≡ (draw 11 generator.old.state).state }
+    ensures value { result.now ≡ get_or line_texts (draw (length line_texts) generator.old.state).value [] }
+    ensures state { generator.new.state ≡ (draw (length line_texts) generator.old.state).state }
 {
     match generator.below(LINE_TEXT_COUNT) {
         1 => "a",
@@ -68,8 +68,8 @@ const WIDTH_COUNT: u32 = 6;
 
 /// One of the widths.
 pub fn drawn_width(generator: &mut Generator) -> u32
-    ensures value { result ≡ get_or widths (draw 6 generator.old.state).value 0 }
-    ensures state { generator.new.state ≡ (draw 6 generator.old.state).state }
+    ensures value { result ≡ get_or widths (draw (length widths) generator.old.state).value 0 }
+    ensures state { generator.new.state ≡ (draw (length widths) generator.old.state).state }
 {
     match generator.below(WIDTH_COUNT) {
         1 => 4,
