@@ -21,6 +21,3 @@ pub use laws::line_laws;
 pub use lines::{Lines, Run};
 pub use texts::row_texts_of_pieces;
 pub use wrapping::{Cuts, cuts, cuts_of_pieces, indent};
-
-#[cfg(test)]
-mod tests;

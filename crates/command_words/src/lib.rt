@@ -10,6 +10,3 @@ pub mod read;
 pub use limits::{WATCHERS_DEFAULT, WATCHERS_MOST, WORKERS_DEFAULT, WORKERS_LEAST, WORKERS_MOST};
 pub use plan::Plan;
 pub use read::read_words;
-
-#[cfg(test)]
-mod tests;

@@ -1,5 +1,5 @@
 //! Worked runs of the program: what scripts write on texts that are known, and what faults, workers and watchers do to a run.
-//! There is nothing here but tests.
+//! Besides words of the command line and their readings. There is nothing here but tests.
 #![tactic(auto)]
 
 #[cfg(test)]
@@ -28,3 +28,5 @@ mod source;
 mod spots;
 #[cfg(test)]
 mod threads;
+#[cfg(test)]
+mod words;

@@ -1,5 +1,4 @@
 pub mod Runs
-pub mod SameLines
 pub mod Weights
 pub mod Owing
 pub mod Posting

@@ -32,6 +32,3 @@ pub use make::crew;
 pub use owner::Crew;
 pub use worker::Worker;
 pub use wrap::do_job;
-
-#[cfg(test)]
-mod tests;

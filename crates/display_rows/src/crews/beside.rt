@@ -4,17 +4,14 @@ ghost use Rattle.wrap_workers.specs.Finishes.{job_of};
 ghost use Rattle.wrap_workers.specs.Crewed.{IsTakenOff};
 
 use super::{number_done, ten_lines};
-use crate::gate::{FreeGate, Gate};
-use crate::job::Finished;
-use crate::owner::Crew;
-use crate::tests::alike::Alike;
-use crate::tests::counted::Counted;
-use crate::worker::Worker;
+use crate::alike::Alike;
+use crate::crews::counted::Counted;
 use cell_units::NoMemory;
 use std::alloc::Global;
 use std::sync::Wait;
 use std::thread;
 use std::thread::Threads;
+use wrap_workers::{Crew, Finished, FreeGate, Gate, Worker};
 
 /// How often a result is asked for.
 const TURNS: u32 = 100_000_000;

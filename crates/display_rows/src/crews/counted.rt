@@ -1,7 +1,7 @@
 //! A gate that counts how often it is passed.
-use crate::gate::Gate;
 use std::sync::atomic::AtomicU64;
 use std::sync::atomic::Ordering::SeqCst;
+use wrap_workers::Gate;
 
 /// It holds nobody.
 #[derive(Drop)]

@@ -3,9 +3,7 @@ ghost use Rattle.std.specs.Prelude.{◌≡◌, ◌<◌, ◌^◌, IfOk, length};
 ghost use Rattle.cell_line.specs.Elements.{total_cells};
 ghost use Rattle.cell_line.specs.Worked.{line_of};
 
-use crate::element::{Element, elements};
-use crate::laws::line_laws;
-use crate::lines::Lines;
+use cell_line::{Element, Lines, elements, line_laws};
 use cell_units::{NoMemory, Piece, PieceKind, Text};
 use std::alloc::Global;
 

@@ -1,7 +1,7 @@
 use Rattle.std.proofs.Common.{inr, arith}
 use Rattle.std.specs.Prelude.{codes}
-use Rattle.wrap_workers.proofs.SameLines.{same_fit}
-use Rattle.wrap_workers.proofs.tests.ten_lines.Goals as goal
+use Rattle.display_rows.proofs.SameLines.{same_fit}
+use Rattle.display_rows.proofs.crews.ten_lines.Goals as goal
 
 pub job-requires : goal.job-requires
 job-requires c = (

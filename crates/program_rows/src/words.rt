@@ -1,5 +1,5 @@
 //! Words from outside, and their readings.
-use crate::{Plan, read_words};
+use command_words::{Plan, read_words};
 use std::alloc::{AllocError, Global};
 
 /// The words of the line, which stand apart by one space each, and how they are read.

@@ -3,16 +3,13 @@ ghost use Rattle.std.specs.Prelude.{◌≡◌, ◌<◌, length, IfOk};
 ghost use Rattle.cell_line.specs.Elements.{bytes_in};
 ghost use Rattle.cell_units.specs.Lawful.{IsWidth};
 
-use crate::element::Element;
-use crate::laws::{line_laws, worked_rows};
-use crate::lines::Lines;
-use crate::texts::row_texts_of_pieces;
-use crate::wrapping::{Cuts, cuts, cuts_of_pieces, indent};
-use alike::{Alike, short_line};
+use crate::alike::{Alike, short_line};
+use cell_line::laws::worked_rows;
+use cell_line::{
+    Cuts, Element, Lines, cuts, cuts_of_pieces, indent, line_laws, row_texts_of_pieces,
+};
 use cell_units::{NoMemory, Piece, PieceKind, Text};
 use std::alloc::Global;
-
-mod alike;
 
 /// The cuts and the indent of a short text at tab size 4.
 fn cut(alloc: Global, text: &str, width: u32) -> Result<(Cuts, u32), NoMemory>

@@ -3,21 +3,15 @@ ghost use Rattle.std.specs.Prelude.{◌≡◌, ◌≤◌, replicate};
 ghost use Rattle.cell_line.specs.Worked.{line_of};
 ghost use Rattle.wrap_workers.specs.Jobs.{IsLawful};
 
-use crate::gate::FreeGate;
-use crate::job::{Finished, Job};
-use crate::make::crew;
-use crate::owner::Crew;
-use crate::worker::Worker;
-use crate::wrap::do_job;
-use alike::Alike;
+use crate::alike::Alike;
 use beside::{by_collecting, by_waiting, each_once, hand_out, with_workers, without_stop};
 use cell_line::{Run, line_laws};
 use cell_units::NoMemory;
 use counted::Counted;
 use std::alloc::Global;
 use std::sync::Wait;
+use wrap_workers::{Crew, Finished, FreeGate, Job, Worker, crew, do_job};
 
-mod alike;
 mod beside;
 mod counted;
 
