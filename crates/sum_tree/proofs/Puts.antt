@@ -1,6 +1,6 @@
 -- Items put in the place of others, below a node.
 use Rattle.std.proofs.Common.{◌≡◌, ℕ, zero, suc, ◌+◌, ◌-◌, ◌<◌, ◌≤◌, List, [], ◌∷◌, ◌++◌, map, length, take, drop, get_or, set, ap, ◌∙◌, subst, sym, refl, arith, append_assoc, Result, Ok, Err, IsErrAnd, MatchResult}
-use Rattle.std.proofs.lemmas.List.{length-map, length-take-le, length_push, map-set, take-set, drop-set, take-append-drop, take_at, drop_at, take_more_set, drop-set-lt}
+use Rattle.std.proofs.lemmas.List.{length-map, length-append, length-take-le, length_push, map-append, map-set, take-map, drop-map, take-set, drop-set, take-append-drop, take-append-le, take_at, drop_at, take_more_set, drop-set-lt}
 use Rattle.std.specs.List.{splice, insert}
 use Rattle.sum_core.specs.Sums.{SummaryLaws}
 use Rattle.sum_core.specs.Nodes.{IsLawful, IsLawfulLeaf, IsLawfulInner, IsChildList, leaf, inner, contents, width, contents_items, child_value, items_in, items_under}
@@ -9,7 +9,7 @@ use Rattle.sum_core.specs.declared.node.Entries.{Entries}
 use Rattle.sum_core.specs.declared.summary.Item.{Ghosts as Items}
 use Rattle.sum_core.specs.declared.summary.Summary.{Ghosts as Sums}
 use Rattle.sum_core.proofs.Items.{items-contents}
-use Rattle.sum_core.proofs.Levels.{lawful_above, lawful_below}
+use Rattle.sum_core.proofs.Levels.{lawful_above}
 use Rattle.sum_core.proofs.Children.{children-append, children-take, children-drop, children-one, items_under-append, items-split, items-taken, cut-middle, fits-left, fits-right}
 use Rattle.sum_tree.specs.declared.in_place.Span.{Span}
 use Rattle.sum_tree.specs.inside.InPlace.{CanRefill, IsNode, IsRefilled}
@@ -35,6 +35,18 @@ set-apart xs i y lt =
     sym (take-append-drop i (set xs i y))
     ∙ ap (λ l. l ++ drop i (set xs i y)) (take-set xs i y)
     ∙ ap (λ l. take i xs ++ l) (drop-set xs i y lt)
+
+-- one element more behind it, and another one in its place
+pub set-insert : {X : Type 0} (xs : List X) (i : ℕ) (x y : X) → i < length xs → set (insert xs (i + 1) y) i x ≡ take i xs ++ (x ∷ y ∷ drop (i + 1) xs)
+set-insert xs i x y lt =
+    let front = take (i + 1) xs in
+    let all = front ++ (y ∷ drop (i + 1) xs) in
+    let n : length front ≡ i + 1 = length-take-le (i + 1) xs (omega (arith, lt)) in
+    let within : i < length all = omega (arith, n, length-append front (y ∷ drop (i + 1) xs)) in
+    let same : take i front ≡ take i xs = sym (take-append-le i front (drop (i + 1) xs) (omega (arith, n))) ∙ ap (take i) (take-append-drop (i + 1) xs) in
+    set-apart all i x within
+    ∙ ap (λ l. l ++ (x ∷ drop (i + 1) all)) (take-append-le i front (y ∷ drop (i + 1) xs) (omega (arith, n)) ∙ same)
+    ∙ ap (λ l. take i xs ++ (x ∷ l)) (drop_at front (y ∷ drop (i + 1) xs) (i + 1) n)
 
 -- the first of the new elements, written over one of those in whose place they come
 pub splice-set : {X : Type 0} (xs : List X) (at end : ℕ) (x : X) (new : List X) → at < end → at < length xs → splice (set xs at x) (at + 1) end new ≡ splice xs at end (x ∷ new)
@@ -99,6 +111,24 @@ module _ {T S : Type 0} where
       let cs = map child_value children in
       ap items_under (values-set children i k lt) ∙ items_under-append (take i cs) (child_value k ∷ drop (i + 1) cs)
 
+  -- the children with two others in the place of child i
+  pub values-two : (children : List (Child T S)) (i : ℕ) (l r : Child T S) → i < length children → map child_value (set (insert children (i + 1) r) i l) ≡ take i (map child_value children) ++ (child_value l ∷ child_value r ∷ drop (i + 1) (map child_value children))
+  values-two children i l r lt =
+      ap (map child_value) (set-insert children i l r lt)
+      ∙ map-append child_value (take i children) (l ∷ r ∷ drop (i + 1) children)
+      ∙ ap (λ f. f ++ (child_value l ∷ child_value r ∷ map child_value (drop (i + 1) children))) (sym (take-map child_value i children))
+      ∙ ap (λ b. take i (map child_value children) ++ (child_value l ∷ child_value r ∷ b)) (sym (drop-map child_value (i + 1) children))
+
+  -- where these hold its items, none is moved
+  pub items-two : (children : List (Child T S)) (i : ℕ) (k l r : Child T S) → i < length children → k ≡ get_or children i k → items_in (child_value l).2 ++ items_in (child_value r).2 ≡ items_in (child_value k).2 → items_below (set (insert children (i + 1) r) i l) ≡ items_below children
+  items-two children i k l r lt is e =
+      let cs = map child_value children in
+      ap items_under (values-two children i l r lt)
+      ∙ items_under-append (take i cs) (child_value l ∷ child_value r ∷ drop (i + 1) cs)
+      ∙ ap (λ m. items_under (take i cs) ++ m) (sym (append_assoc (items_in (child_value l).2) (items_in (child_value r).2) (items_under (drop (i + 1) cs))))
+      ∙ ap (λ m. items_under (take i cs) ++ (m ++ items_under (drop (i + 1) cs))) e
+      ∙ sym (items-split children i k lt is)
+
   pub same-items : (a b : Entries T S) → contents a ≡ contents b → items_in a ≡ items_in b
   same-items a b e = items-contents a ∙ ap contents_items e ∙ sym (items-contents b)
 
@@ -126,6 +156,17 @@ module _ {T S : Type 0} (items : Items T S) (sums : Sums S) where
       (children-append sums.empty sums.joined items.summary P 6 (take i cs) (child_value k ∷ drop (i + 1) cs) (children-take sums.empty sums.joined items.summary P 6 i cs all)
       (children-append sums.empty sums.joined items.summary P 6 (child_value k ∷ []) (drop (i + 1) cs) (children-one sums.empty sums.joined items.summary P 6 (child_value k) here) (children-drop sums.empty sums.joined items.summary P 6 (i + 1) cs all)))
 
+  pub children-two : (h : ℕ) (children : List (Child T S)) (i : ℕ) (l r : Child T S) → i < length children → IsChildAt items sums h l → IsChildAt items sums h r → AreChildren items sums h children → AreChildren items sums h (set (insert children (i + 1) r) i l)
+  children-two h children i l r lt left right all =
+      let P : Entries T S → Type 0 = IsLawful sums.empty sums.joined items.summary h in
+      let cs = map child_value children in
+      let front = children-take sums.empty sums.joined items.summary P 6 i cs all in
+      let back = children-drop sums.empty sums.joined items.summary P 6 (i + 1) cs all in
+      let one = children-append sums.empty sums.joined items.summary P 6 (child_value r ∷ []) (drop (i + 1) cs) (children-one sums.empty sums.joined items.summary P 6 (child_value r) right) back in
+      let two = children-append sums.empty sums.joined items.summary P 6 (child_value l ∷ []) (child_value r ∷ drop (i + 1) cs) (children-one sums.empty sums.joined items.summary P 6 (child_value l) left) one in
+      subst (IsChildList sums.empty sums.joined items.summary P 6) (sym (values-two children i l r lt))
+      (children-append sums.empty sums.joined items.summary P 6 (take i cs) (child_value l ∷ child_value r ∷ drop (i + 1) cs) front two)
+
   -- a part in which the span lies
   pub can-below : SummaryLaws sums.empty sums.joined sums.fits → (children : List (Child T S)) (i offset : ℕ) (span : Span) (k : Child T S) (new : List T) → IsPlaced children i offset span.to → k ≡ get_or children i k → offset ≤ span.from → CanRefill items sums (items_below children) span new → CanRefill items sums (items_in (child_value k).2) (record { from = span.from - offset; to = span.to - offset }) new
   can-below laws children i offset span k new p is low c =
@@ -142,6 +183,7 @@ module _ {T S : Type 0} (items : Items T S) (sums : Sums S) where
         within = b.within;
         small = small-left 4294967296 (F ++ A) F A refl rest;
         still_small = small-left 4294967296 (P ++ A) P A refl put;
+        held_fits = fits-left sums.empty sums.joined sums.fits items.summary laws (F ++ A) F A refl (fits-right sums.empty sums.joined sums.fits items.summary laws _ B (F ++ A) b.split c.held_fits);
         fits = fits-left sums.empty sums.joined sums.fits items.summary laws (P ++ A) P A refl (fits-right sums.empty sums.joined sums.fits items.summary laws _ B (P ++ A) b.splice_is c.fits);
       }
 
@@ -176,13 +218,13 @@ module _ {T S : Type 0} (items : Items T S) (sums : Sums S) where
   node-leaf (suc h) least e f xs ys l is to few wide =
       absurd (subst (IsLawfulInner sums.empty sums.joined items.summary (IsLawful sums.empty sums.joined items.summary h)) is l)
 
-  -- as many other children in the place of a node's
-  pub node-inner : (h least : ℕ) (e f : Entries T S) (cs ds : List (Child T S)) → 1 ≤ h → IsNode items sums h least e → contents e ≡ inner (map child_value cs) → contents f ≡ inner (map child_value ds) → length ds ≡ length cs → AreChildren items sums (h - 1) ds → IsNode items sums h least f
-  node-inner h least e f cs ds high n is to same all =
-      let count : length (map child_value ds) ≡ length (map child_value cs) = omega (arith, length-map cs child_value, length-map ds child_value, same) in
-      let room = (lawful_below sums.empty sums.joined items.summary h e (map child_value cs) n.lawful is).0 in
+  -- as many other children or more in the place of a node's
+  pub node-inner : (h least : ℕ) (e f : Entries T S) (cs ds : List (Child T S)) → 1 ≤ h → IsNode items sums h least e → contents e ≡ inner (map child_value cs) → contents f ≡ inner (map child_value ds) → length cs ≤ length ds → length ds ≤ 12 → AreChildren items sums (h - 1) ds → IsNode items sums h least f
+  node-inner h least e f cs ds high n is to more room all =
+      let before = length-map cs child_value in
+      let after = length-map ds child_value in
       record {
-        lawful = lawful_above sums.empty sums.joined items.summary h f (map child_value ds) high to (omega (arith, count, room)) all;
-        wide = omega (arith, ap width to, ap width is, count, n.wide);
+        lawful = lawful_above sums.empty sums.joined items.summary h f (map child_value ds) high to (omega (arith, after, room)) all;
+        wide = omega (arith, ap width to, ap width is, before, after, more, n.wide);
         some = n.some;
       }

@@ -31,9 +31,10 @@ Searches n old new = 5 * new ≤ 5 * old + (n + 5)
 abbrev pub joining : ℕ
 joining = 38
 
--- An item at the end is put into the last leaf, or else makes a leaf that is joined to the tree.
+-- An item at the end is put into the last leaf, which is cut in two where it is full, or else makes a leaf that is joined to
+-- the tree.
 abbrev pub pushing : ℕ
-pushing = 51
+pushing = 54
 
 -- A cut goes one way down, and on each level joins what lies before it and what lies behind.
 abbrev pub cutting : ℕ → ℕ

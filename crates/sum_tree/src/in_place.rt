@@ -1,10 +1,11 @@
 //! Writing a few items in place: on nodes that nobody else holds, and on copies of those that are shared.
 ghost use Rattle.std.specs.Prelude.{◌≡◌, ◌+◌, ◌-◌, ◌<◌, ◌≤◌, MatchResult, insert, length, vec_capacity, vec_len};
 ghost use Rattle.sum_core.specs.Nodes.{entries_of, items_in, items_of};
-ghost use Rattle.sum_tree.specs.inside.InPlace.{CanRefill, IsNode, IsRefilled, IsRefilledAlone, refilled};
+ghost use Rattle.sum_tree.specs.inside.InPlace.{CanRefill, IsNode, IsRefilled, IsRefilledAlone, placing, refilled};
 ghost use Rattle.sum_tree.specs.inside.Nodes.{AreChildren, IsChildAt, IsLawfulTree, items_below};
 
 use crate::find::find_child;
+use crate::halving::make_room;
 use crate::pack::{FEWEST, MOST, sum_children, sum_items};
 use crate::trees::Tree;
 use cell_units::Steps;
@@ -37,9 +38,9 @@ pub fn put_in_tree<T: Item>(
     ensures put { let held = items_of tree.old.node in
         IsRefilledAlone T.Item T.Sum.Summary held span items.items items (items_of tree.new.node) result }
 
-    // One node a level is opened at most.
+    // One node a level is opened at most, and a full leaf cut in two.
     ensures counted { steps.old ≤ steps.new }
-    ensures steps { steps.new ≤ steps.old + tree.old.height + 1 }
+    ensures steps { steps.new ≤ steps.old + placing tree.old.height }
 {
     let height = tree.height;
     let least = fewest_in_root(height);
@@ -74,7 +75,7 @@ fn put_in_node<T: Item>(
     ensures put { let held = items_of node.old in
         IsRefilled T.Item T.Sum.Summary held span items.items items (items_of node.new) result }
     ensures counted { steps.old ≤ steps.new }
-    ensures steps { steps.new ≤ steps.old + height + 1 }
+    ensures steps { steps.new ≤ steps.old + placing height }
 {
     match node.alter(alloc, steps) {
         Ok(entries) => put_in_entries(alloc, entries, height, least, span, items, steps),
@@ -99,7 +100,7 @@ fn put_in_entries<T: Item>(
     ensures put { let held = items_in entries.old in
         IsRefilled T.Item T.Sum.Summary held span items.items items (items_in entries.new) result }
     ensures counted { steps.old ≤ steps.new }
-    ensures steps { steps.new ≤ steps.old + height }
+    ensures steps { steps.new + 1 ≤ steps.old + placing height }
 {
     match mem::replace(entries, Entries::Leaf(Vec::new(alloc))) {
         Entries::Leaf(mut leaf) => {
@@ -115,7 +116,7 @@ fn put_in_entries<T: Item>(
     }
 }
 
-/// The same below children: in the one that the span's end lies in or at the end of.
+/// The same below children: in the one that the span's end lies in or at the end of, of which a full one is cut in two before.
 #[cycle(put)]
 fn put_in_children<T: Item>(
     alloc: Global,
@@ -125,18 +126,26 @@ fn put_in_children<T: Item>(
     items: Vec<T>,
     steps: &mut Steps,
 ) -> Result<(T::Sum, usize), Vec<T>>
+    // The children of an inner node, with the span below them.
     requires is_inner { 1 ≤ height }
     requires some { 1 ≤ length children.old.items }
+    requires room { length children.old.items ≤ 12 }
     requires children { AreChildren T.Item T.Sum.Summary (height - 1) children.old.items }
     requires can { CanRefill T.Item T.Sum.Summary (items_below children.old.items) span items.items }
+
+    // The children of such a node, as many or more, with the items put below them.
+    ensures more { length children.old.items ≤ length children.new.items }
+    ensures room { length children.new.items ≤ 12 }
     ensures children { AreChildren T.Item T.Sum.Summary (height - 1) children.new.items }
-    ensures len { length children.new.items ≡ length children.old.items }
     ensures put { let held = items_below children.old.items in
         let after = items_below children.new.items in
         IsRefilled T.Item T.Sum.Summary held span items.items items after result }
+
+    // The node of these children was opened before.
     ensures counted { steps.old ≤ steps.new }
-    ensures steps { steps.new ≤ steps.old + height }
+    ensures steps { steps.new + 1 ≤ steps.old + placing height }
 {
+    make_room(alloc, children, height, span, items.len(), steps);
     let found = find_child(children, height - 1, span.to);
     if span.from < found.1 {
         return Err(items);
@@ -172,7 +181,7 @@ fn put_in_child<T: Item>(
     ensures put { let held = items_of child.old.node in
         IsRefilledAlone T.Item T.Sum.Summary held span items.items items (items_of child.new.node) result }
     ensures counted { steps.old ≤ steps.new }
-    ensures steps { steps.new ≤ steps.old + below + 1 }
+    ensures steps { steps.new ≤ steps.old + placing below }
 {
     let summed = put_in_node(alloc, &mut child.node, below, FEWEST, span, items, steps)?;
     child.sum = summed.0;

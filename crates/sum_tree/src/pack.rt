@@ -1,7 +1,7 @@
 //! One node or two from at most 24 entries.
 ghost use Rattle.std.specs.Prelude.{◌≡◌, ◌+◌, ◌-◌, ◌/◌, ◌^◌, ◌<◌, ◌≤◌, ◌++◌, ◌∷◌, [], IfOk, map, length, vec_len, min};
 ghost use Rattle.sum_core.specs.Nodes.{child_value, items_in};
-ghost use Rattle.sum_tree.specs.inside.Nodes.{AreChildren, ArePacked, IsWideChild, SumFits, items_below, sum_of};
+ghost use Rattle.sum_tree.specs.inside.Nodes.{AreChildren, ArePacked, IsChildAt, IsWideChild, SumFits, items_below, sum_of};
 
 use cell_units::{NoMemory, Steps};
 use std::alloc::Global;
@@ -148,11 +148,36 @@ pub fn pack_items<T: Item>(
         let only = make_leaf(alloc, items, steps)?;
         one(alloc, only)
     } else {
-        let (front, back) = halves(items)?;
-        let left = make_leaf(alloc, front, steps)?;
-        let right = make_leaf(alloc, back, steps)?;
+        let (left, right) = make_leaves(alloc, items, steps)?;
         two(alloc, left, right)
     }
+}
+
+/// Two leaves, each with half of the items.
+pub fn make_leaves<T: Item>(
+    alloc: Global,
+    items: Vec<T>,
+    steps: &mut Steps,
+) -> Result<(Child<T>, Child<T>), NoMemory>
+    // Enough for two nodes, and no more than they hold.
+    requires enough { 12 ≤ vec_len items }
+    requires room { vec_len items ≤ 24 }
+    requires fits { SumFits T.Item T.Sum.Summary items.items }
+
+    // Leaves that need no root, of all items in their order.
+    ensures left { IfOk result (λ two. IsChildAt T.Item T.Sum.Summary 0 two.0) }
+    ensures right { IfOk result (λ two. IsChildAt T.Item T.Sum.Summary 0 two.1) }
+    ensures items { IfOk result (λ two.
+        items_in (child_value two.0).2 ++ items_in (child_value two.1).2 ≡ items.items) }
+
+    // Two nodes are made.
+    ensures counted { steps.old ≤ steps.new }
+    ensures steps { steps.new ≤ steps.old + 2 }
+{
+    let (front, back) = halves(items)?;
+    let left = make_leaf(alloc, front, steps)?;
+    let right = make_leaf(alloc, back, steps)?;
+    Ok((left, right))
 }
 
 /// One inner node or two with the children. Of two, each is at least half full.

@@ -4,6 +4,7 @@ ghost use Rattle.std.specs.List.{position, splice};
 ghost use Rattle.std.specs.Option.{option_copied};
 ghost use Rattle.sum_core.specs.Sums.{total};
 ghost use Rattle.sum_tree.specs.Bounds.{ChangesAtMost, OpensEachLevel, Searches, TakesAtMost, building, cutting, joining, pushing, replacing, way};
+ghost use Rattle.sum_tree.specs.inside.InPlace.{placing};
 ghost use Rattle.sum_tree.specs.inside.Paths.{items_seen};
 ghost use Rattle.sum_tree.specs.inside.Ways.{IsWay};
 
@@ -318,8 +319,8 @@ impl<T: Item> SumTree<T> {
         ensures put { MatchResult result (λ _. self.new ≡ splice self.old from to items.items)
             (λ back. (self.new ≡ self.old) × (back ≡ items)) }
         ensures counted { steps.old ≤ steps.new }
-        ensures few { steps.new ≤ steps.old + 12 }
-        ensures steps { TakesAtMost way (length self.old) steps.old steps.new }
+        ensures few { steps.new ≤ steps.old + 15 }
+        ensures steps { TakesAtMost placing (length self.old) steps.old steps.new }
     {
         if items.len() > MOST {
             return Err(items);

@@ -1,6 +1,6 @@
 -- What a write in place asks of a list and of the nodes that hold it, and what it leaves. `items` and `sums` are what the
 -- bounds on items and on their sums say.
-use Rattle.std.specs.Prelude.{◌≡◌, ℕ, ◌^◌, ◌<◌, ◌≤◌, List, length, Result, MatchResult}
+use Rattle.std.specs.Prelude.{◌≡◌, ℕ, ◌+◌, ◌*◌, ◌^◌, ◌<◌, ◌≤◌, List, length, Result, MatchResult, min}
 use Rattle.std.specs.List.{splice}
 use Rattle.sum_core.specs.Nodes.{IsLawful, width, contents}
 use Rattle.sum_core.specs.declared.node.Entries.{Entries}
@@ -13,6 +13,10 @@ use Rattle.sum_tree.specs.inside.Nodes.{SumFits, sum_of}
 abbrev pub refilled : {T : Type 0} → List T → Span → List T → List T
 refilled held span new = splice held span.from span.to new
 
+-- A write opens one node a level of a tree of this height. Above a leaf that is cut in two it opens one more and makes two.
+abbrev pub placing : ℕ → ℕ
+placing height = height + 1 + 3 * min height 1
+
 module _ {T S : Type 0} (items : Items T S) (sums : Sums S) where
   -- The span lies in the list, and `new` may stand in its place.
   pub record CanRefill (held : List T) (span : Span) (new : List T) : Type 0 where
@@ -20,6 +24,7 @@ module _ {T S : Type 0} (items : Items T S) (sums : Sums S) where
     pub within : span.to ≤ length held
     pub small : length held < 2 ^ 32
     pub still_small : length (refilled held span new) < 2 ^ 32
+    pub held_fits : SumFits items sums held
     pub fits : SumFits items sums (refilled held span new)
 
   -- A lawful node of this height with at least `least` entries, which is one or more where it is no leaf.
