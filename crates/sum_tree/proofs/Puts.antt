@@ -1,6 +1,6 @@
 -- Items put in the place of others, below a node.
-use Rattle.std.proofs.Common.{◌≡◌, ℕ, zero, suc, ◌+◌, ◌-◌, ◌<◌, ◌≤◌, List, [], ◌∷◌, ◌++◌, map, length, take, drop, get_or, set, ap, ◌∙◌, subst, sym, refl, arith, append_assoc, Result, Ok, Err, IsErrAnd, MatchResult}
-use Rattle.std.proofs.lemmas.List.{length-map, length-append, length-take-le, length_push, map-append, map-set, take-map, drop-map, take-set, drop-set, take-append-drop, take-append-le, take_at, drop_at, take_more_set, drop-set-lt}
+use Rattle.std.proofs.Common.{◌≡◌, ℕ, zero, suc, ◌+◌, ◌-◌, ◌<◌, ◌≤◌, List, [], ◌∷◌, ◌++◌, map, length, take, drop, get_or, set, ap, ◌∙◌, subst, sym, refl, arith, append_assoc, Result, Ok, Err}
+use Rattle.std.proofs.lemmas.List.{length-map, length-append, length-drop, length-take-le, length_push, map-append, map-set, take-map, drop-map, take-set, drop-set, take-append-drop, take-append-le, take_at, drop_at, take_more_set, drop-set-lt}
 use Rattle.std.specs.List.{splice, insert}
 use Rattle.sum_core.specs.Sums.{SummaryLaws}
 use Rattle.sum_core.specs.Nodes.{IsLawful, IsLawfulLeaf, IsLawfulInner, IsChildList, leaf, inner, contents, width, contents_items, child_value, items_in, items_under}
@@ -11,8 +11,12 @@ use Rattle.sum_core.specs.declared.summary.Summary.{Ghosts as Sums}
 use Rattle.sum_core.proofs.Items.{items-contents}
 use Rattle.sum_core.proofs.Levels.{lawful_above}
 use Rattle.sum_core.proofs.Children.{children-append, children-take, children-drop, children-one, items_under-append, items-split, items-taken, cut-middle, fits-left, fits-right}
+use Rattle.std.specs.declared.alloc.Global.{Global}
+use Rattle.std.specs.declared.vec.Vec.{Vec}
+use Rattle.sum_tree.specs.declared.in_place.PutError.{PutError}
+use Rattle.sum_tree.specs.declared.in_place.PutError.TheVariants.{NoRoom, NoMemory}
 use Rattle.sum_tree.specs.declared.in_place.Span.{Span}
-use Rattle.sum_tree.specs.inside.InPlace.{CanRefill, IsNode, IsRefilled}
+use Rattle.sum_tree.specs.inside.InPlace.{CanRefill, IfNoRoom, IsNode, IsRefilled, IsRefilledAlone, refilled}
 use Rattle.sum_tree.specs.inside.Nodes.{AreChildren, IsChildAt, items_below}
 use Rattle.sum_tree.proofs.Melds.{small-left, small-right}
 
@@ -66,14 +70,20 @@ splice-insert xs at x new within =
     ∙ ap (λ l. front ++ (new ++ l)) (drop_at front (drop at xs) (at + 1) n)
     ∙ append_assoc (take at xs) (x ∷ []) (new ++ drop at xs)
 
+-- how many there are then
+pub length-splice : {X : Type 0} (xs : List X) (from to : ℕ) (new : List X) → from ≤ to → to ≤ length xs → length (splice xs from to new) ≡ length xs - (to - from) + length new
+length-splice xs from to new order within =
+    omega (arith, length-append (take from xs) (new ++ drop to xs), length-append new (drop to xs), length-take-le from xs (omega (arith, order, within)), length-drop to xs, order, within)
+
 -- nothing in the place of nothing
 pub splice-none : {X : Type 0} (xs : List X) (at end : ℕ) → at ≡ end → splice xs at end [] ≡ xs
 splice-none xs at end same = ap (λ k. take at xs ++ drop k xs) (sym same) ∙ take-append-drop at xs
 
--- the error that a `?` passes on
-pub err-passed : {A E : Type 0} (r : Result A E) (s : E) (P : A → Type 0) (Q : E → Type 0) → IsErrAnd r (λ e. e ≡ s) → Q s → MatchResult r P Q
-err-passed (Ok x) s P Q e q = absurd e
-err-passed (Err x) s P Q e q = subst Q (sym e) q
+-- what follows from what holds where there is no room
+pub in-vain-then : {T V P Q : Type 0} → (r : Result V (PutError T)) → (P → Q) → IfNoRoom r P → IfNoRoom r Q
+in-vain-then (Ok _) f p = tt
+in-vain-then (Err (NoRoom _)) f p = f p
+in-vain-then (Err NoMemory) f p = tt
 
 module _ {T S : Type 0} where
   -- Child i of these has `offset` items before it, and the place `to` lies below it or at its end.
@@ -119,16 +129,6 @@ module _ {T S : Type 0} where
       ∙ ap (λ f. f ++ (child_value l ∷ child_value r ∷ map child_value (drop (i + 1) children))) (sym (take-map child_value i children))
       ∙ ap (λ b. take i (map child_value children) ++ (child_value l ∷ child_value r ∷ b)) (sym (drop-map child_value (i + 1) children))
 
-  -- where these hold its items, none is moved
-  pub items-two : (children : List (Child T S)) (i : ℕ) (k l r : Child T S) → i < length children → k ≡ get_or children i k → items_in (child_value l).2 ++ items_in (child_value r).2 ≡ items_in (child_value k).2 → items_below (set (insert children (i + 1) r) i l) ≡ items_below children
-  items-two children i k l r lt is e =
-      let cs = map child_value children in
-      ap items_under (values-two children i l r lt)
-      ∙ items_under-append (take i cs) (child_value l ∷ child_value r ∷ drop (i + 1) cs)
-      ∙ ap (λ m. items_under (take i cs) ++ m) (sym (append_assoc (items_in (child_value l).2) (items_in (child_value r).2) (items_under (drop (i + 1) cs))))
-      ∙ ap (λ m. items_under (take i cs) ++ (m ++ items_under (drop (i + 1) cs))) e
-      ∙ sym (items-split children i k lt is)
-
   pub same-items : (a b : Entries T S) → contents a ≡ contents b → items_in a ≡ items_in b
   same-items a b e = items-contents a ∙ ap contents_items e ∙ sym (items-contents b)
 
@@ -140,12 +140,27 @@ module _ {T S : Type 0} where
       ∙ ap (λ m. items_under (take i cs) ++ (m ++ items_under (drop (i + 1) cs))) e
       ∙ sym ((below-child children i from to offset k new p is low order).splice_is)
 
+  -- what two others in its place do that hold its items after a write
+  pub items-two : (children : List (Child T S)) (i offset : ℕ) (span : Span) (new : List T) (k l r : Child T S) → IsPlaced children i offset span.to → k ≡ get_or children i k → offset ≤ span.from → span.from ≤ span.to → items_in (child_value l).2 ++ items_in (child_value r).2 ≡ splice (items_in (child_value k).2) (span.from - offset) (span.to - offset) new → items_below (set (insert children (i + 1) r) i l) ≡ refilled (items_below children) span new
+  items-two children i offset span new k l r p is low order e =
+      let cs = map child_value children in
+      ap items_under (values-two children i l r p.index)
+      ∙ items_under-append (take i cs) (child_value l ∷ child_value r ∷ drop (i + 1) cs)
+      ∙ ap (λ m. items_under (take i cs) ++ m) (sym (append_assoc (items_in (child_value l).2) (items_in (child_value r).2) (items_under (drop (i + 1) cs))))
+      ∙ ap (λ m. items_under (take i cs) ++ (m ++ items_under (drop (i + 1) cs))) e
+      ∙ sym ((below-child children i span.from span.to offset k new p is low order).splice_is)
+
   pub items-kept : (children : List (Child T S)) (i : ℕ) (k l : Child T S) → i < length children → k ≡ get_or children i k → items_in (child_value l).2 ≡ items_in (child_value k).2 → items_below (set children i l) ≡ items_below children
   items-kept children i k l lt is e =
       let cs = map child_value children in
       items-set children i l lt
       ∙ ap (λ m. items_under (take i cs) ++ (m ++ items_under (drop (i + 1) cs))) e
       ∙ sym (items-split children i k lt is)
+
+  -- what a write below child i, which then is l, leaves below the children
+  pub refilled-below : (children : List (Child T S)) (i offset : ℕ) (span : Span) (new : List T) (given : Vec T Global) (k l : Child T S) (r : Result (Unit {0}) (PutError T)) → IsPlaced children i offset span.to → k ≡ get_or children i k → offset ≤ span.from → span.from ≤ span.to → IsRefilledAlone (items_in (child_value k).2) (record { from = span.from - offset; to = span.to - offset }) new given (items_in (child_value l).2) r → IsRefilledAlone (items_below children) span new given (items_below (set children i l)) r
+  refilled-below children i offset span new given k l (Ok x) p is low order m = items-put children i span.from span.to offset new k l p is low order m
+  refilled-below children i offset span new given k l (Err x) p is low order m = (items-kept children i k l p.index is m.0, m.1)
 
 module _ {T S : Type 0} (items : Items T S) (sums : Sums S) where
   pub children-set : (h : ℕ) (children : List (Child T S)) (i : ℕ) (k : Child T S) → i < length children → IsChildAt items sums h k → AreChildren items sums h children → AreChildren items sums h (set children i k)
@@ -183,7 +198,6 @@ module _ {T S : Type 0} (items : Items T S) (sums : Sums S) where
         within = b.within;
         small = small-left 4294967296 (F ++ A) F A refl rest;
         still_small = small-left 4294967296 (P ++ A) P A refl put;
-        held_fits = fits-left sums.empty sums.joined sums.fits items.summary laws (F ++ A) F A refl (fits-right sums.empty sums.joined sums.fits items.summary laws _ B (F ++ A) b.split c.held_fits);
         fits = fits-left sums.empty sums.joined sums.fits items.summary laws (P ++ A) P A refl (fits-right sums.empty sums.joined sums.fits items.summary laws _ B (P ++ A) b.splice_is c.fits);
       }
 
@@ -191,7 +205,7 @@ module _ {T S : Type 0} (items : Items T S) (sums : Sums S) where
   pub can-same : (held same : List T) (span : Span) (new : List T) → held ≡ same → CanRefill items sums held span new → CanRefill items sums same span new
   can-same held same span new e c = subst (λ l. CanRefill items sums l span new) e c
 
-  pub refilled-same : {V : Type 0} (held same : List T) (span : Span) (new : List T) (given : V) (after now : List T) (r : Result (S × ℕ) V) → held ≡ same → after ≡ now → IsRefilled items sums held span new given after r → IsRefilled items sums same span new given now r
+  pub refilled-same : (held same : List T) (span : Span) (new : List T) (given : Vec T Global) (after now : List T) (r : Result (S × ℕ) (PutError T)) → held ≡ same → after ≡ now → IsRefilled items sums held span new given after r → IsRefilled items sums same span new given now r
   refilled-same held same span new given after now r e f m =
       subst (λ l. IsRefilled items sums l span new given now r) e (subst (λ l. IsRefilled items sums held span new given l r) f m)
 

@@ -31,10 +31,9 @@ Searches n old new = 5 * new ≤ 5 * old + (n + 5)
 abbrev pub joining : ℕ
 joining = 38
 
--- An item at the end is put into the last leaf, which is cut in two where it is full, or else makes a leaf that is joined to
--- the tree.
+-- An item at the end is put into the last leaf, or else makes a leaf that is joined to the tree.
 abbrev pub pushing : ℕ
-pushing = 54
+pushing = 51
 
 -- A cut goes one way down, and on each level joins what lies before it and what lies behind.
 abbrev pub cutting : ℕ → ℕ
@@ -46,4 +45,4 @@ building k = 4 * (k + 1)
 
 -- k items are put in place, or else a tree of them stands between two cuts that are joined again.
 abbrev pub replacing : ℕ → ℕ → ℕ
-replacing k h = 160 * h + (87 + 4 * (k + 1))
+replacing k h = 159 * h + (83 + 4 * (k + 1))

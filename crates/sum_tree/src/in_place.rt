@@ -1,14 +1,14 @@
 //! Writing a few items in place: on nodes that nobody else holds, and on copies of those that are shared.
-ghost use Rattle.std.specs.Prelude.{◌≡◌, ◌+◌, ◌-◌, ◌<◌, ◌≤◌, MatchResult, insert, length, vec_capacity, vec_len};
-ghost use Rattle.sum_core.specs.Nodes.{entries_of, items_in, items_of};
-ghost use Rattle.sum_tree.specs.inside.InPlace.{CanRefill, IsNode, IsRefilled, IsRefilledAlone, placing, refilled};
-ghost use Rattle.sum_tree.specs.inside.Nodes.{AreChildren, IsChildAt, IsLawfulTree, items_below};
+ghost use Rattle.std.specs.Prelude.{◌≡◌, ◌+◌, ◌-◌, ◌<◌, ◌≤◌, ◌++◌, true, IfOk, OnOk, OnErr, insert, length, set, vec_capacity, vec_len};
+ghost use Rattle.sum_core.specs.Nodes.{child_value, entries_of, items_in, items_of};
+ghost use Rattle.sum_tree.specs.inside.InPlace.{CanRefill, IfNoRoom, IsNode, IsRefilled, IsRefilledAlone, placing, refilled};
+ghost use Rattle.sum_tree.specs.inside.Nodes.{AreChildren, IsChildAt, IsLawfulNode, IsLawfulTree, items_below};
 
 use crate::find::find_child;
-use crate::halving::make_room;
-use crate::pack::{FEWEST, MOST, sum_children, sum_items};
+use crate::open::copy_leaf;
+use crate::pack::{FEWEST, MOST, make_leaves, sum_children, sum_items};
 use crate::trees::Tree;
-use cell_units::Steps;
+use cell_units::{NoMemory, Steps};
 use std::alloc::Global;
 use std::mem;
 use sum_core::{Child, Entries, Item, Node};
@@ -20,15 +20,34 @@ pub struct Span {
     pub to: usize,
 }
 
-/// Puts `items` in the place of those in the span, where one leaf holds them all and is then neither too full nor, below a
-/// root, less than half full. `Err` hands the items back: there is no such leaf, or no memory, and the tree is as it was.
+/// Why items were not put in place. The tree is as it was.
+#[derive(Drop)]
+pub enum PutError<T: Drop> {
+    /// No leaf has room for them in the place of those in the span. They are handed back.
+    NoRoom(Vec<T>),
+    NoMemory,
+}
+
+impl<T: Drop> From<NoMemory> for PutError<T> {
+    ghost use Rattle.std.specs.Prelude.{◌≡◌};
+    ghost use Rattle.sum_tree.specs.declared.in_place.PutError.TheVariants as errors;
+
+    ghost from_gives = { λ _ e. e ≡ errors.NoMemory };
+
+    fn from(_error: NoMemory) -> PutError<T> {
+        PutError::NoMemory
+    }
+}
+
+/// Puts `items` in the place of those in the span, where one leaf holds all of these. The leaf is then neither less than half
+/// full, where it is no root, nor too full: two leaves stand in its place then, if its parent has room for one more.
 pub fn put_in_tree<T: Item>(
     alloc: Global,
     tree: &mut Tree<T>,
     span: Span,
     items: Vec<T>,
     steps: &mut Steps,
-) -> Result<(), Vec<T>>
+) -> Result<(), PutError<T>>
     // The span lies in the tree, and the items may stand in its place.
     requires tree { IsLawfulTree T.Item T.Sum.Summary tree.old }
     requires can { CanRefill T.Item T.Sum.Summary (items_of tree.old.node) span items.items }
@@ -36,11 +55,12 @@ pub fn put_in_tree<T: Item>(
     // The tree with the items, or as it was.
     ensures tree { IsLawfulTree T.Item T.Sum.Summary tree.new }
     ensures put { let held = items_of tree.old.node in
-        IsRefilledAlone T.Item T.Sum.Summary held span items.items items (items_of tree.new.node) result }
+        IsRefilledAlone held span items.items items (items_of tree.new.node) result }
 
-    // One node a level is opened at most, and a full leaf cut in two.
+    // One node a level is opened at most, and two leaves are made. Where there is no room, none is made.
     ensures counted { steps.old ≤ steps.new }
     ensures steps { steps.new ≤ steps.old + placing tree.old.height }
+    ensures in_vain { IfNoRoom result (steps.new ≤ steps.old + tree.old.height + 1) }
 {
     let height = tree.height;
     let least = fewest_in_root(height);
@@ -68,7 +88,7 @@ fn put_in_node<T: Item>(
     span: Span,
     items: Vec<T>,
     steps: &mut Steps,
-) -> Result<(T::Sum, usize), Vec<T>>
+) -> Result<(T::Sum, usize), PutError<T>>
     requires node { IsNode T.Item T.Sum.Summary height least (entries_of node.old) }
     requires can { CanRefill T.Item T.Sum.Summary (items_of node.old) span items.items }
     ensures node { IsNode T.Item T.Sum.Summary height least (entries_of node.new) }
@@ -76,10 +96,11 @@ fn put_in_node<T: Item>(
         IsRefilled T.Item T.Sum.Summary held span items.items items (items_of node.new) result }
     ensures counted { steps.old ≤ steps.new }
     ensures steps { steps.new ≤ steps.old + placing height }
+    ensures in_vain { IfNoRoom result (steps.new ≤ steps.old + height + 1) }
 {
     match node.alter(alloc, steps) {
         Ok(entries) => put_in_entries(alloc, entries, height, least, span, items, steps),
-        Err(_) => Err(items),
+        Err(_) => Err(PutError::NoMemory),
     }
 }
 
@@ -93,7 +114,7 @@ fn put_in_entries<T: Item>(
     span: Span,
     items: Vec<T>,
     steps: &mut Steps,
-) -> Result<(T::Sum, usize), Vec<T>>
+) -> Result<(T::Sum, usize), PutError<T>>
     requires node { IsNode T.Item T.Sum.Summary height least entries.old }
     requires can { CanRefill T.Item T.Sum.Summary (items_in entries.old) span items.items }
     ensures node { IsNode T.Item T.Sum.Summary height least entries.new }
@@ -101,6 +122,7 @@ fn put_in_entries<T: Item>(
         IsRefilled T.Item T.Sum.Summary held span items.items items (items_in entries.new) result }
     ensures counted { steps.old ≤ steps.new }
     ensures steps { steps.new + 1 ≤ steps.old + placing height }
+    ensures in_vain { IfNoRoom result (steps.new ≤ steps.old + height) }
 {
     match mem::replace(entries, Entries::Leaf(Vec::new(alloc))) {
         Entries::Leaf(mut leaf) => {
@@ -116,7 +138,7 @@ fn put_in_entries<T: Item>(
     }
 }
 
-/// The same below children: in the one that the span's end lies in or at the end of, of which a full one is cut in two before.
+/// The same below children. It gives the sum and the number of the items then.
 #[cycle(put)]
 fn put_in_children<T: Item>(
     alloc: Global,
@@ -125,7 +147,7 @@ fn put_in_children<T: Item>(
     span: Span,
     items: Vec<T>,
     steps: &mut Steps,
-) -> Result<(T::Sum, usize), Vec<T>>
+) -> Result<(T::Sum, usize), PutError<T>>
     // The children of an inner node, with the span below them.
     requires is_inner { 1 ≤ height }
     requires some { 1 ≤ length children.old.items }
@@ -144,25 +166,119 @@ fn put_in_children<T: Item>(
     // The node of these children was opened before.
     ensures counted { steps.old ≤ steps.new }
     ensures steps { steps.new + 1 ≤ steps.old + placing height }
+    ensures in_vain { IfNoRoom result (steps.new ≤ steps.old + height) }
 {
-    make_room(alloc, children, height, span, items.len(), steps);
-    let found = find_child(children, height - 1, span.to);
+    put_below(alloc, children, height - 1, span, items, steps)?;
+    Ok(sum_children(children, height - 1))
+}
+
+/// The same without the sum: in the child that the span's end lies in or at the end of. Two leaves take the place of one
+/// that would be too full.
+#[cycle(put)]
+fn put_below<T: Item>(
+    alloc: Global,
+    children: &mut Vec<Child<T>>,
+    below: usize,
+    span: Span,
+    items: Vec<T>,
+    steps: &mut Steps,
+) -> Result<(), PutError<T>>
+    // The children of an inner node, with the span below them.
+    requires some { 1 ≤ length children.old.items }
+    requires room { length children.old.items ≤ 12 }
+    requires children { AreChildren T.Item T.Sum.Summary below children.old.items }
+    requires can { CanRefill T.Item T.Sum.Summary (items_below children.old.items) span items.items }
+
+    // The children of such a node, as many or more, with the items put below them.
+    ensures more { length children.old.items ≤ length children.new.items }
+    ensures room { length children.new.items ≤ 12 }
+    ensures children { AreChildren T.Item T.Sum.Summary below children.new.items }
+    ensures put { let held = items_below children.old.items in
+        let after = items_below children.new.items in
+        IsRefilledAlone held span items.items items after result }
+
+    // The node of these children was opened before.
+    ensures counted { steps.old ≤ steps.new }
+    ensures steps { steps.new ≤ steps.old + placing below }
+    ensures in_vain { IfNoRoom result (steps.new ≤ steps.old + below + 1) }
+{
+    let found = find_child(children, below, span.to);
     if span.from < found.1 {
-        return Err(items);
+        return Err(PutError::NoRoom(items));
     }
     let within = Span {
         from: span.from - found.1,
         to: span.to - found.1,
     };
-    put_in_child(
-        alloc,
-        &mut children[found.0],
-        height - 1,
-        within,
-        items,
-        steps,
-    )?;
-    Ok(sum_children(children, height - 1))
+    let child = &children[found.0];
+    if below == 0 && children.len() < MOST && takes_two(child, within, items.len()) {
+        let (left, right) = refill_in_two(alloc, &child.node, within, items, steps)?;
+        replace_by_two(children, found.0, left, right)?;
+        Ok(())
+    } else {
+        put_in_child(alloc, &mut children[found.0], below, within, items, steps)
+    }
+}
+
+/// Whether a leaf with `count` items in the place of those in the span is too full for one and not for two.
+fn takes_two<T: Item>(leaf: &Child<T>, span: Span, count: usize) -> bool
+    requires leaf { IsChildAt T.Item T.Sum.Summary 0 leaf.now }
+    requires order { span.from ≤ span.to }
+    requires within { span.to ≤ length (items_of leaf.now.node) }
+    ensures enough { result ≡ true →
+        12 < length (items_of leaf.now.node) - (span.to - span.from) + count }
+    ensures room { result ≡ true →
+        length (items_of leaf.now.node) - (span.to - span.from) + count ≤ 24 }
+{
+    let kept = leaf.count - (span.to - span.from);
+    count <= 2 * MOST && MOST < kept + count && kept + count <= 2 * MOST
+}
+
+/// Two leaves with the items of one, where `items` stand in the place of those in the span.
+fn refill_in_two<T: Item>(
+    alloc: Global,
+    leaf: &Node<T>,
+    span: Span,
+    items: Vec<T>,
+    steps: &mut Steps,
+) -> Result<(Child<T>, Child<T>), NoMemory>
+    // A leaf in which the items may stand, and enough of them for two that are no roots.
+    requires leaf { IsLawfulNode T.Item T.Sum.Summary 0 leaf.now }
+    requires can { CanRefill T.Item T.Sum.Summary (items_of leaf.now) span items.items }
+    requires enough { 12 ≤ length (refilled (items_of leaf.now) span items.items) }
+    requires room { length (refilled (items_of leaf.now) span items.items) ≤ 24 }
+
+    // Leaves that need no root, of all items in their order.
+    ensures left { IfOk result (λ two. IsChildAt T.Item T.Sum.Summary 0 two.0) }
+    ensures right { IfOk result (λ two. IsChildAt T.Item T.Sum.Summary 0 two.1) }
+    ensures items { IfOk result (λ two.
+        items_in (child_value two.0).2 ++ items_in (child_value two.1).2 ≡
+        refilled (items_of leaf.now) span items.items) }
+
+    // The leaf is opened, and two are made.
+    ensures counted { steps.old ≤ steps.new }
+    ensures steps { steps.new ≤ steps.old + 3 }
+{
+    let mut held = copy_leaf(alloc, leaf, steps)?;
+    write_over(&mut held, span, items)?;
+    make_leaves(alloc, held, steps)
+}
+
+/// Two children in the place of the one at the index.
+fn replace_by_two<T: Item>(
+    children: &mut Vec<Child<T>>,
+    index: usize,
+    left: Child<T>,
+    right: Child<T>,
+) -> Result<(), NoMemory>
+    requires { index < length children.old.items }
+    ensures ok { OnOk result
+        (children.new.items ≡ set (insert children.old.items (index + 1) right) index left) }
+    ensures err { OnErr result (children.new.items ≡ children.old.items) }
+{
+    children.insert(index + 1, right)?;
+    children[index] = left;
+    Ok(())
 }
 
 /// The same below one child, whose sum and number are written too.
@@ -174,14 +290,15 @@ fn put_in_child<T: Item>(
     span: Span,
     items: Vec<T>,
     steps: &mut Steps,
-) -> Result<(), Vec<T>>
+) -> Result<(), PutError<T>>
     requires child { IsChildAt T.Item T.Sum.Summary below child.old }
     requires can { CanRefill T.Item T.Sum.Summary (items_of child.old.node) span items.items }
     ensures child { IsChildAt T.Item T.Sum.Summary below child.new }
     ensures put { let held = items_of child.old.node in
-        IsRefilledAlone T.Item T.Sum.Summary held span items.items items (items_of child.new.node) result }
+        IsRefilledAlone held span items.items items (items_of child.new.node) result }
     ensures counted { steps.old ≤ steps.new }
     ensures steps { steps.new ≤ steps.old + placing below }
+    ensures in_vain { IfNoRoom result (steps.new ≤ steps.old + below + 1) }
 {
     let summed = put_in_node(alloc, &mut child.node, below, FEWEST, span, items, steps)?;
     child.sum = summed.0;
@@ -195,7 +312,7 @@ fn put_in_leaf<T: Item>(
     least: usize,
     span: Span,
     items: Vec<T>,
-) -> Result<(T::Sum, usize), Vec<T>>
+) -> Result<(T::Sum, usize), PutError<T>>
     requires room { length leaf.old.items ≤ 12 }
     requires wide { least ≤ length leaf.old.items }
     requires can { CanRefill T.Item T.Sum.Summary leaf.old.items span items.items }
@@ -206,24 +323,21 @@ fn put_in_leaf<T: Item>(
 {
     let count = leaf.len() - (span.to - span.from) + items.len();
     if count < least || MOST < count {
-        return Err(items);
+        return Err(PutError::NoRoom(items));
     }
     write_over(leaf, span, items)?;
     Ok((sum_items(leaf), count))
 }
 
-/// The items alone. They are handed back where there is no memory.
-fn write_over<T: Item>(leaf: &mut Vec<T>, span: Span, items: Vec<T>) -> Result<(), Vec<T>>
+/// The items alone.
+fn write_over<T: Item>(leaf: &mut Vec<T>, span: Span, items: Vec<T>) -> Result<(), NoMemory>
     requires order { span.from ≤ span.to }
     requires within { span.to ≤ length leaf.old.items }
-    ensures put { MatchResult result
-        (λ _. leaf.new.items ≡ refilled leaf.old.items span items.items)
-        (λ back. (leaf.new.items ≡ leaf.old.items) × (back ≡ items)) }
+    ensures ok { OnOk result (leaf.new.items ≡ refilled leaf.old.items span items.items) }
+    ensures err { OnErr result (leaf.new.items ≡ leaf.old.items) }
 {
     let more = items.len().saturating_sub(span.to - span.from);
-    if leaf.reserve(more).is_err() {
-        return Err(items);
-    }
+    leaf.reserve(more)?;
     write_reserved(leaf, span, items);
     Ok(())
 }

@@ -2,15 +2,14 @@
 //!
 //! A [`SumTree`] is a B+ tree of the nodes of `sum_core`, and is seen as the list of its items. Copies share their nodes. A
 //! call that is refused for want of memory leaves the tree as it was. A few items are written in place of others, or of none,
-//! where one leaf holds those and has room, or is cut in two for it. All else of adding, joining and cutting stands on one way to join two trees and
-//! one way to cut a tree in two.
+//! where one leaf holds those and has room, or two leaves may take its place. All else of adding, joining and cutting stands on
+//! one way to join two trees and one way to cut a tree in two.
 //! A [`Cursor`] is seen as the list and a place in it. Each call says how many nodes it opens or makes at most, on the
 //! counter that it is handed.
 #![tactic(auto)]
 
 mod cursor;
 mod find;
-mod halving;
 mod in_place;
 mod joins;
 mod measured;

@@ -1,16 +1,16 @@
 //! The tree as a list of items.
-ghost use Rattle.std.specs.Prelude.{ℕ, ◌≡◌, ◌+◌, ◌*◌, ◌^◌, ◌<◌, ◌≤◌, ◌++◌, ◌∷◌, [], IfOk, OnOk, OnErr, MatchResult, length, vec_len, take, drop, slice_get};
-ghost use Rattle.std.specs.List.{position, splice};
+ghost use Rattle.std.specs.Prelude.{ℕ, ◌≡◌, ◌+◌, ◌*◌, ◌^◌, ◌<◌, ◌≤◌, ◌++◌, ◌∷◌, [], IfOk, OnOk, OnErr, length, vec_len, take, drop, slice_get};
+ghost use Rattle.std.specs.List.{position};
 ghost use Rattle.std.specs.Option.{option_copied};
 ghost use Rattle.sum_core.specs.Sums.{total};
 ghost use Rattle.sum_tree.specs.Bounds.{ChangesAtMost, OpensEachLevel, Searches, TakesAtMost, building, cutting, joining, pushing, replacing, way};
-ghost use Rattle.sum_tree.specs.inside.InPlace.{placing};
+ghost use Rattle.sum_tree.specs.inside.InPlace.{IfNoRoom, IsRefilledAlone, placing, refilled};
 ghost use Rattle.sum_tree.specs.inside.Paths.{items_seen};
 ghost use Rattle.sum_tree.specs.inside.Ways.{IsWay};
 
 use crate::cursor::Cursor;
 use crate::find::item_at;
-use crate::in_place::{Span, put_in_tree};
+use crate::in_place::{PutError, Span, put_in_tree};
 use crate::pack::{MOST, make_leaf};
 use crate::path::Path;
 use crate::search::{Probe, before_below};
@@ -192,10 +192,12 @@ impl<T: Item> SumTree<T> {
     {
         let mut items = Vec::new(alloc);
         items.push(item)?;
-        let end = self.len();
-        match self.put_in_place(alloc, end, end, items, steps) {
+        let end = self.len() as usize;
+        let span = Span { from: end, to: end };
+        match self.put_in_place(alloc, span, items, steps) {
             Ok(()) => Ok(()),
-            Err(items) => {
+            Err(PutError::NoMemory) => Err(NoMemory),
+            Err(PutError::NoRoom(items)) => {
                 let last = SumTree::in_one_leaf(alloc, items, steps)?;
                 self.concat(alloc, last, steps)
             }
@@ -292,45 +294,50 @@ impl<T: Item> SumTree<T> {
         ensures steps { ChangesAtMost (replacing (length items.items)) (length self.old)
             (length (take from self.old ++ items.items ++ drop to self.old)) steps.old steps.new }
     {
-        match self.put_in_place(alloc, from, to, items, steps) {
+        let span = Span {
+            from: from as usize,
+            to: to as usize,
+        };
+        match self.put_in_place(alloc, span, items, steps) {
             Ok(()) => Ok(()),
-            Err(items) => {
+            Err(PutError::NoMemory) => Err(NoMemory),
+            Err(PutError::NoRoom(items)) => {
                 let middle = SumTree::from_vec(alloc, items, steps)?;
                 self.splice(alloc, from, to, middle, steps)
             }
         }
     }
 
-    /// The same on the nodes that lead there alone. `Err` hands the items back: no leaf holds the range and has room for
-    /// them, or there is no memory, and the list is as it was.
+    /// The same on the nodes that lead there alone, where a leaf there has room for them.
     fn put_in_place(
         &mut self,
         alloc: Global,
-        from: u32,
-        to: u32,
+        span: Span,
         items: Vec<T>,
         steps: &mut Steps,
-    ) -> Result<(), Vec<T>>
-        requires order { from ≤ to }
-        requires within { to ≤ length self.old }
+    ) -> Result<(), PutError<T>>
+        // The span lies in the list, and its sum and length after it fit.
+        requires order { span.from ≤ span.to }
+        requires within { span.to ≤ length self.old }
         requires fits { T.Sum.fits
-            (total T.Sum.empty T.Sum.joined T.summary (splice self.old from to items.items)) }
-        requires small { length (splice self.old from to items.items) < 2 ^ 32 }
-        ensures put { MatchResult result (λ _. self.new ≡ splice self.old from to items.items)
-            (λ back. (self.new ≡ self.old) × (back ≡ items)) }
+            (total T.Sum.empty T.Sum.joined T.summary (refilled self.old span items.items)) }
+        requires small { length (refilled self.old span items.items) < 2 ^ 32 }
+
+        // What is there after it.
+        ensures put { IsRefilledAlone self.old span items.items items self.new result }
+
+        // The work, and what of it is done where there is no room.
         ensures counted { steps.old ≤ steps.new }
-        ensures few { steps.new ≤ steps.old + 15 }
+        ensures few { steps.new ≤ steps.old + 14 }
+        ensures few_in_vain { IfNoRoom result (steps.new ≤ steps.old + 12) }
         ensures steps { TakesAtMost placing (length self.old) steps.old steps.new }
+        ensures in_vain { IfNoRoom result (TakesAtMost way (length self.old) steps.old steps.new) }
     {
         if items.len() > MOST {
-            return Err(items);
+            return Err(PutError::NoRoom(items));
         }
         let Some(mut tree) = self.tree.take() else {
-            return Err(items);
-        };
-        let span = Span {
-            from: from as usize,
-            to: to as usize,
+            return Err(PutError::NoRoom(items));
         };
         let put = put_in_tree(alloc, &mut tree, span, items, steps);
         self.tree = Some(tree);

@@ -1,11 +1,15 @@
 -- What a write in place asks of a list and of the nodes that hold it, and what it leaves. `items` and `sums` are what the
 -- bounds on items and on their sums say.
-use Rattle.std.specs.Prelude.{◌≡◌, ℕ, ◌+◌, ◌*◌, ◌^◌, ◌<◌, ◌≤◌, List, length, Result, MatchResult, min}
+use Rattle.std.specs.Prelude.{◌≡◌, ℕ, ◌+◌, ◌^◌, ◌<◌, ◌≤◌, List, length, Result, MatchResult, Ok, Err}
 use Rattle.std.specs.List.{splice}
+use Rattle.std.specs.declared.alloc.Global.{Global}
+use Rattle.std.specs.declared.vec.Vec.{Vec}
 use Rattle.sum_core.specs.Nodes.{IsLawful, width, contents}
 use Rattle.sum_core.specs.declared.node.Entries.{Entries}
 use Rattle.sum_core.specs.declared.summary.Item.{Ghosts as Items}
 use Rattle.sum_core.specs.declared.summary.Summary.{Ghosts as Sums}
+use Rattle.sum_tree.specs.declared.in_place.PutError.{PutError}
+use Rattle.sum_tree.specs.declared.in_place.PutError.TheVariants.{NoRoom, NoMemory}
 use Rattle.sum_tree.specs.declared.in_place.Span.{Span}
 use Rattle.sum_tree.specs.inside.Nodes.{SumFits, sum_of}
 
@@ -13,9 +17,26 @@ use Rattle.sum_tree.specs.inside.Nodes.{SumFits, sum_of}
 abbrev pub refilled : {T : Type 0} → List T → Span → List T → List T
 refilled held span new = splice held span.from span.to new
 
--- A write opens one node a level of a tree of this height. Above a leaf that is cut in two it opens one more and makes two.
+-- A write opens one node a level of a tree of this height, and makes two leaves in the place of one that would be too full.
 abbrev pub placing : ℕ → ℕ
-placing height = height + 1 + 3 * min height 1
+placing height = height + 3
+
+module _ {T : Type 0} where
+  -- where there is no room
+  abbrev pub IfNoRoom : {V : Type 0} → Result V (PutError T) → Type 0 → Type 0
+  IfNoRoom (Ok _) P = Unit {0}
+  IfNoRoom (Err (NoRoom _)) P = P
+  IfNoRoom (Err NoMemory) P = Unit {0}
+
+  -- without room, what was given is handed back
+  abbrev pub HandsBack : Vec T Global → PutError T → Type 0
+  HandsBack given (NoRoom back) = back ≡ given
+  HandsBack given NoMemory = Unit {0}
+
+  -- `held` became `after`, or stayed as it was.
+  abbrev pub IsRefilledAlone : List T → Span → List T → Vec T Global → List T → Result (Unit {0}) (PutError T) → Type 0
+  IsRefilledAlone held span new given after result =
+      MatchResult result (λ _. after ≡ refilled held span new) (λ error. (after ≡ held) × HandsBack given error)
 
 module _ {T S : Type 0} (items : Items T S) (sums : Sums S) where
   -- The span lies in the list, and `new` may stand in its place.
@@ -24,7 +45,6 @@ module _ {T S : Type 0} (items : Items T S) (sums : Sums S) where
     pub within : span.to ≤ length held
     pub small : length held < 2 ^ 32
     pub still_small : length (refilled held span new) < 2 ^ 32
-    pub held_fits : SumFits items sums held
     pub fits : SumFits items sums (refilled held span new)
 
   -- A lawful node of this height with at least `least` entries, which is one or more where it is no leaf.
@@ -38,12 +58,7 @@ module _ {T S : Type 0} (items : Items T S) (sums : Sums S) where
     pub sum_is : s.0 ≡ sum_of items sums held
     pub count_is : s.1 ≡ length held
 
-  -- `held` became `after`, whose sum and number are known, or stayed as it was, with what was given handed back.
-  abbrev pub IsRefilled : {V : Type 0} → List T → Span → List T → V → List T → Result (S × ℕ) V → Type 0
+  -- the same with the sum and the number of the items that are there then
+  abbrev pub IsRefilled : List T → Span → List T → Vec T Global → List T → Result (S × ℕ) (PutError T) → Type 0
   IsRefilled held span new given after result =
-      MatchResult result (λ s. (after ≡ refilled held span new) × IsSumOf after s) (λ back. (after ≡ held) × (back ≡ given))
-
-  -- the same without the sum
-  abbrev pub IsRefilledAlone : {V : Type 0} → List T → Span → List T → V → List T → Result (Unit {0}) V → Type 0
-  IsRefilledAlone held span new given after result =
-      MatchResult result (λ _. after ≡ refilled held span new) (λ back. (after ≡ held) × (back ≡ given))
+      MatchResult result (λ s. (after ≡ refilled held span new) × IsSumOf after s) (λ error. (after ≡ held) × HandsBack given error)

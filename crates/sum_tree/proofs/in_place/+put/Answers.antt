@@ -1,99 +1,132 @@
-use Rattle.std.proofs.Common.{◌≡◌, ◌-◌, ◌<◌, ◌∙◌, ap, sym, refl, subst, get_or, arith, map, length, is_ok}
+use Rattle.std.proofs.Common.{◌≡◌, ◌-◌, ◌<◌, ◌∙◌, ap, sym, refl, subst, arith, map, length, is_ok}
 use Rattle.std.proofs.lemmas.List.{length-map}
-use Rattle.sum_core.specs.Sums.{total}
-use Rattle.sum_core.specs.Nodes.{IsLawful, entries_of, contents, width, inner, child_value, items_in}
+use Rattle.sum_core.specs.Nodes.{IsLawful, entries_of, contents, width, inner, child_value, items_in, items_of}
 use Rattle.sum_core.proofs.Levels.{contents-Inner, contents-Leaf, items-seen, items-leaf, lawful_below, inner-high}
 use Rattle.sum_core.proofs.Children.{children-at}
-use Rattle.sum_tree.specs.inside.InPlace.{IsNode, refilled}
+use Rattle.sum_tree.specs.inside.InPlace.{IsNode}
 use Rattle.sum_tree.specs.inside.Nodes.{AreChildren, items_below}
-use Rattle.sum_tree.proofs.Puts.{IsPlaced, can-below, can-same, refilled-same, items-put, items-kept, children-set, node-same, node-leaf, node-inner, leaf-few, same-items, err-passed}
+use Rattle.sum_tree.proofs.Puts.{IsPlaced, below-child, can-below, can-same, refilled-same, refilled-below, items-two, length-splice, children-set, children-two, node-same, node-leaf, node-inner, leaf-few, same-items}
 use Rattle.sum_tree.proofs.in_place.+put.Goals as goal
 
-pub put_in_children-put_in_child-requires : goal.put_in_children-put_in_child-requires
-put_in_children-put_in_child-requires g t c κs within =
-    let xs = c.make_room.new.children.items in
+pub put_below-takes_two-requires-clause-leaf : goal.put_below-takes_two-requires-clause-leaf
+put_below-takes_two-requires-clause-leaf g t c =
+    let m = g.T.Sum.Summary in
+    let xs = c.args.children.now.items in
+    let i = c.find_child-found.result.0 in
+    let lt = subst (λ l. i < length l) c.deref.ensures.value c.find_child-found.ensures.index in
+    let leaves = subst (λ h. AreChildren g.T.Item m h xs) c.if-below-eq0.true c.requires.children in
+    children-at m.empty m.joined g.T.Item.summary (IsLawful m.empty m.joined g.T.Item.summary 0) 6 xs i c.index-child.result.now lt c.index-child.ensures leaves
+
+pub put_below-takes_two-requires-clause-within : goal.put_below-takes_two-requires-clause-within
+put_below-takes_two-requires-clause-within g t c =
+    let xs = c.args.children.now.items in
+    let f = c.find_child-found.ensures in
+    let i = c.find_child-found.result.0 in
+    let o = c.find_child-found.result.1 in
+    let p : IsPlaced xs i o c.args.span.to = subst (λ l. IsPlaced l i o c.args.span.to) c.deref.ensures.value (record { index = f.index; offset_is = f.offset; low = f.low; high = f.high }) in
+    (below-child xs i c.args.span.from c.args.span.to o c.index-child.result.now c.args.items.items p c.index-child.ensures (omega arith) c.requires.can.order).within
+
+pub put_below-refill_in_two-requires-clause-leaf : goal.put_below-refill_in_two-requires-clause-leaf
+put_below-refill_in_two-requires-clause-leaf g t c =
+    let m = g.T.Sum.Summary in
+    let xs = c.args.children.now.items in
+    let i = c.find_child-found.result.0 in
+    let lt = subst (λ l. i < length l) c.deref.ensures.value c.find_child-found.ensures.index in
+    let leaves = subst (λ h. AreChildren g.T.Item m h xs) c.if-below-eq0.true c.requires.children in
+    (children-at m.empty m.joined g.T.Item.summary (IsLawful m.empty m.joined g.T.Item.summary 0) 6 xs i c.index-child.result.now lt c.index-child.ensures leaves).below
+
+pub put_below-refill_in_two-requires-clause-can : goal.put_below-refill_in_two-requires-clause-can
+put_below-refill_in_two-requires-clause-can g t c =
+    let xs = c.args.children.now.items in
+    let f = c.find_child-found.ensures in
+    let i = c.find_child-found.result.0 in
+    let o = c.find_child-found.result.1 in
+    let p : IsPlaced xs i o c.args.span.to = subst (λ l. IsPlaced l i o c.args.span.to) c.deref.ensures.value (record { index = f.index; offset_is = f.offset; low = f.low; high = f.high }) in
+    can-below g.T.Item g.T.Sum.Summary g.met.T.Sum.Summary.laws xs i o c.args.span c.index-child.result.now c.args.items.items p c.index-child.ensures (omega arith) c.requires.can
+
+pub put_below-refill_in_two-requires-clause-enough : goal.put_below-refill_in_two-requires-clause-enough
+put_below-refill_in_two-requires-clause-enough g t c =
+    let xs = c.args.children.now.items in
+    let k = c.index-child.result.now in
+    let f = c.find_child-found.ensures in
+    let i = c.find_child-found.result.0 in
+    let o = c.find_child-found.result.1 in
+    let p : IsPlaced xs i o c.args.span.to = subst (λ l. IsPlaced l i o c.args.span.to) c.deref.ensures.value (record { index = f.index; offset_is = f.offset; low = f.low; high = f.high }) in
+    let b = below-child xs i c.args.span.from c.args.span.to o k c.args.items.items p c.index-child.ensures (omega arith) c.requires.can.order in
+    let n = length-splice (items_of k.node) (c.args.span.from - o) (c.args.span.to - o) c.args.items.items (omega (arith, c.requires.can.order)) b.within in
+    omega (arith, n, c.if-takes_two.ensures.enough refl, c.len-then-len-lt-MOST.ensures)
+
+pub put_below-refill_in_two-requires-clause-room : goal.put_below-refill_in_two-requires-clause-room
+put_below-refill_in_two-requires-clause-room g t c =
+    let xs = c.args.children.now.items in
+    let k = c.index-child.result.now in
+    let f = c.find_child-found.ensures in
+    let i = c.find_child-found.result.0 in
+    let o = c.find_child-found.result.1 in
+    let p : IsPlaced xs i o c.args.span.to = subst (λ l. IsPlaced l i o c.args.span.to) c.deref.ensures.value (record { index = f.index; offset_is = f.offset; low = f.low; high = f.high }) in
+    let b = below-child xs i c.args.span.from c.args.span.to o k c.args.items.items p c.index-child.ensures (omega arith) c.requires.can.order in
+    let n = length-splice (items_of k.node) (c.args.span.from - o) (c.args.span.to - o) c.args.items.items (omega (arith, c.requires.can.order)) b.within in
+    omega (arith, n, c.if-takes_two.ensures.room refl, c.len-then-len-lt-MOST.ensures)
+
+pub put_below-put_in_child-requires : goal.put_below-put_in_child-requires
+put_below-put_in_child-requires g t c κs within =
+    let m = g.T.Sum.Summary in
+    let xs = c.args.children.now.items in
     let f = c.find_child-found.ensures in
     let i = c.find_child-found.result.0 in
     let o = c.find_child-found.result.1 in
     let k = c.index_mut.result.now in
-    let p : IsPlaced xs i o c.args.span.to = subst (λ l. IsPlaced l i o c.args.span.to) c.deref.ensures.value (record { index = f.index; offset_is = f.offset; low = f.low; high = f.high }) in
-    let is : k ≡ get_or xs i k = c.index_mut.ensures.value in
-    let m = g.T.Sum.Summary in
-    let can = can-same g.T.Item m (items_below c.args.children.now.items) (items_below xs) c.args.span c.args.items.items (sym c.make_room.ensures.items) c.requires.can in (
+    let p : IsPlaced xs i o c.args.span.to = subst (λ l. IsPlaced l i o c.args.span.to) c.deref.ensures.value (record { index = f.index; offset_is = f.offset; low = f.low; high = f.high }) in (
       omega arith,
       (
         within.0,
         (
           within.1,
           (
-            children-at m.empty m.joined g.T.Item.summary (IsLawful m.empty m.joined g.T.Item.summary (c.args.height - 1)) 6 xs i k p.index is c.make_room.ensures.children,
-            can-below g.T.Item m g.met.T.Sum.Summary.laws xs i o c.args.span k c.args.items.items p is (omega arith) can,
+            children-at m.empty m.joined g.T.Item.summary (IsLawful m.empty m.joined g.T.Item.summary c.args.below) 6 xs i k p.index c.index_mut.ensures.value c.requires.children,
+            can-below g.T.Item m g.met.T.Sum.Summary.laws xs i o c.args.span k c.args.items.items p c.index_mut.ensures.value (omega arith) c.requires.can,
           ),
         ),
       ),
     )
 
-pub put_in_children-returns-in_err-put_in_child-clause-children : goal.put_in_children-returns-in_err-put_in_child-clause-children
-put_in_children-returns-in_err-put_in_child-clause-children g t c =
-    let i = c.find_child-found.result.0 in
-    let lt = subst (λ l. i < length l) c.deref.ensures.value c.find_child-found.ensures.index in
-    children-set g.T.Item g.T.Sum.Summary (c.args.height - 1) c.make_room.new.children.items i c.put_in_child.new.child lt c.put_in_child.ensures.child c.make_room.ensures.children
-
-pub put_in_children-returns-in_err-put_in_child-clause-put : goal.put_in_children-returns-in_err-put_in_child-clause-put
-put_in_children-returns-in_err-put_in_child-clause-put g t c =
-    let xs = c.make_room.new.children.items in
-    let i = c.find_child-found.result.0 in
-    let lt = subst (λ l. i < length l) c.deref.ensures.value c.find_child-found.ensures.index in
-    let kept = items-kept xs i c.index_mut.result.now c.put_in_child.new.child lt c.index_mut.ensures.value c.in_err-put_in_child.ensures.put.0 in
-    err-passed c.from_residual.result c.in_err-put_in_child.field-0.0 _ _ c.from_residual.ensures.1 (kept ∙ c.make_room.ensures.items, c.in_err-put_in_child.ensures.put.1)
-
-pub put_in_children-sum_children-requires-clause-children : goal.put_in_children-sum_children-requires-clause-children
-put_in_children-sum_children-requires-clause-children g t c =
-    let i = c.find_child-found.result.0 in
-    let lt = subst (λ l. i < length l) c.deref.ensures.value c.find_child-found.ensures.index in
-    subst (AreChildren g.T.Item g.T.Sum.Summary (c.args.height - 1)) (sym c.deref-2.ensures.value)
-    (children-set g.T.Item g.T.Sum.Summary (c.args.height - 1) c.make_room.new.children.items i c.put_in_child.new.child lt c.put_in_child.ensures.child c.make_room.ensures.children)
-
-pub put_in_children-sum_children-requires-clause-fits : goal.put_in_children-sum_children-requires-clause-fits
-put_in_children-sum_children-requires-clause-fits g t c =
+pub put_below-returns-in_ok-replace_by_two-clause-children : goal.put_below-returns-in_ok-replace_by_two-clause-children
+put_below-returns-in_ok-replace_by_two-clause-children g t c =
     let m = g.T.Sum.Summary in
+    let xs = c.args.children.now.items in
+    let i = c.find_child-found.result.0 in
+    let l = c.in_ok-left.left in
+    let r = c.in_ok-left.right in
+    let lt = subst (λ l. i < length l) c.deref.ensures.value c.find_child-found.ensures.index in
+    let leaves = subst (λ h. AreChildren g.T.Item m h xs) c.if-below-eq0.true c.requires.children in
+    subst (λ h. AreChildren g.T.Item m h c.replace_by_two.new.children.items) (sym c.if-below-eq0.true)
+    (subst (AreChildren g.T.Item m 0) (sym c.in_ok-replace_by_two.ensures.ok)
+    (children-two g.T.Item m 0 xs i l r lt c.in_ok-left.ensures.left c.in_ok-left.ensures.right leaves))
+
+pub put_below-returns-in_ok-replace_by_two-clause-put : goal.put_below-returns-in_ok-replace_by_two-clause-put
+put_below-returns-in_ok-replace_by_two-clause-put g t c =
+    let xs = c.args.children.now.items in
+    let f = c.find_child-found.ensures in
     let i = c.find_child-found.result.0 in
     let o = c.find_child-found.result.1 in
-    let f = c.find_child-found.ensures in
-    let p : IsPlaced c.make_room.new.children.items i o c.args.span.to = subst (λ l. IsPlaced l i o c.args.span.to) c.deref.ensures.value (record { index = f.index; offset_is = f.offset; low = f.low; high = f.high }) in
-    let e = items-put c.make_room.new.children.items i c.args.span.from c.args.span.to o c.args.items.items c.index_mut.result.now c.put_in_child.new.child p c.index_mut.ensures.value (omega arith) c.requires.can.order c.in_ok-put_in_child.ensures.put ∙ ap (λ l. refilled l c.args.span c.args.items.items) c.make_room.ensures.items in
-    subst (λ l. m.fits (total m.empty m.joined g.T.Item.summary l)) (sym (ap items_below c.deref-2.ensures.value ∙ e)) c.requires.can.fits
+    let p : IsPlaced xs i o c.args.span.to = subst (λ l. IsPlaced l i o c.args.span.to) c.deref.ensures.value (record { index = f.index; offset_is = f.offset; low = f.low; high = f.high }) in
+    ap items_below c.in_ok-replace_by_two.ensures.ok
+    ∙ items-two xs i o c.args.span c.args.items.items c.index-child.result.now c.in_ok-left.left c.in_ok-left.right p c.index-child.ensures (omega arith) c.requires.can.order c.in_ok-left.ensures.items
 
-pub put_in_children-sum_children-requires-clause-small : goal.put_in_children-sum_children-requires-clause-small
-put_in_children-sum_children-requires-clause-small g t c =
-    let i = c.find_child-found.result.0 in
-    let o = c.find_child-found.result.1 in
-    let f = c.find_child-found.ensures in
-    let p : IsPlaced c.make_room.new.children.items i o c.args.span.to = subst (λ l. IsPlaced l i o c.args.span.to) c.deref.ensures.value (record { index = f.index; offset_is = f.offset; low = f.low; high = f.high }) in
-    let e = items-put c.make_room.new.children.items i c.args.span.from c.args.span.to o c.args.items.items c.index_mut.result.now c.put_in_child.new.child p c.index_mut.ensures.value (omega arith) c.requires.can.order c.in_ok-put_in_child.ensures.put ∙ ap (λ l. refilled l c.args.span c.args.items.items) c.make_room.ensures.items in
-    subst (λ l. length l < 4294967296) (sym (ap items_below c.deref-2.ensures.value ∙ e)) c.requires.can.still_small
-
-pub put_in_children-returns-clause-children : goal.put_in_children-returns-clause-children
-put_in_children-returns-clause-children g t c =
+pub put_below-returns-else-below-eq0-clause-children : goal.put_below-returns-else-below-eq0-clause-children
+put_below-returns-else-below-eq0-clause-children g t c =
     let i = c.find_child-found.result.0 in
     let lt = subst (λ l. i < length l) c.deref.ensures.value c.find_child-found.ensures.index in
-    children-set g.T.Item g.T.Sum.Summary (c.args.height - 1) c.make_room.new.children.items i c.put_in_child.new.child lt c.put_in_child.ensures.child c.make_room.ensures.children
+    children-set g.T.Item g.T.Sum.Summary c.args.below c.args.children.now.items i c.put_in_child.new.child lt c.put_in_child.ensures.child c.requires.children
 
-pub put_in_children-returns-clause-put : goal.put_in_children-returns-clause-put
-put_in_children-returns-clause-put g t c =
-    let m = g.T.Sum.Summary in
+pub put_below-returns-else-below-eq0-clause-put : goal.put_below-returns-else-below-eq0-clause-put
+put_below-returns-else-below-eq0-clause-put g t c =
+    let xs = c.args.children.now.items in
+    let f = c.find_child-found.ensures in
     let i = c.find_child-found.result.0 in
     let o = c.find_child-found.result.1 in
-    let f = c.find_child-found.ensures in
-    let p : IsPlaced c.make_room.new.children.items i o c.args.span.to = subst (λ l. IsPlaced l i o c.args.span.to) c.deref.ensures.value (record { index = f.index; offset_is = f.offset; low = f.low; high = f.high }) in
-    let e = items-put c.make_room.new.children.items i c.args.span.from c.args.span.to o c.args.items.items c.index_mut.result.now c.put_in_child.new.child p c.index_mut.ensures.value (omega arith) c.requires.can.order c.in_ok-put_in_child.ensures.put ∙ ap (λ l. refilled l c.args.span c.args.items.items) c.make_room.ensures.items in
-    let all = ap items_below c.deref-2.ensures.value in (
-      e,
-      record {
-        sum_is = c.sum_children.ensures.sum ∙ ap (total m.empty m.joined g.T.Item.summary) all;
-        count_is = c.sum_children.ensures.count ∙ ap length all;
-      },
-    )
+    let p : IsPlaced xs i o c.args.span.to = subst (λ l. IsPlaced l i o c.args.span.to) c.deref.ensures.value (record { index = f.index; offset_is = f.offset; low = f.low; high = f.high }) in
+    refilled-below xs i o c.args.span c.args.items.items c.args.items c.index_mut.result.now c.put_in_child.new.child c.put_in_child.result p c.index_mut.ensures.value (omega arith) c.requires.can.order c.put_in_child.ensures.put
 
 pub put_in_entries-put_in_leaf-put-requires-clause-room : goal.put_in_entries-put_in_leaf-put-requires-clause-room
 put_in_entries-put_in_leaf-put-requires-clause-room g t c =
@@ -211,4 +244,4 @@ put_in_node-returns-in-Err-clause-node g t c =
 pub put_in_node-returns-in-Err-clause-put : goal.put_in_node-returns-in-Err-clause-put
 put_in_node-returns-in-Err-clause-put g t c =
     let same = rw c.in-Err.is at c.alter.follows.holds-at-none in
-    (same-items (entries_of c.alter.follows.lender-at-none) (entries_of c.args.node.now) same, refl)
+    (same-items (entries_of c.alter.follows.lender-at-none) (entries_of c.args.node.now) same, tt)
