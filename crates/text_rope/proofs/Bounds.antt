@@ -3,6 +3,7 @@ use Rattle.std.proofs.Common.{◌≡◌, ℕ, ◌+◌, ◌-◌, ◌*◌, ◌/◌
 use Rattle.std.proofs.Math.Nat.{add-mul, mul_assoc, one-mul}
 use Rattle.std.proofs.lemmas.List.Elements.{All-get_or}
 use Rattle.std.proofs.lemmas.Nat.{mul-le}
+use Rattle.sum_tree.specs.Bounds as trees
 use Rattle.text_rope.specs.Chunks.{AreFull, least}
 
 -- one turn more
@@ -30,7 +31,7 @@ slice_steps n more h s0 s1 s2 le first then =
     omega (arith, first, then, most, split)
 
 -- a turn for each chunk that is made, of which there are few
-pub replace_steps : (n k h s0 s1 s2 : ℕ) → 60 * k ≤ n + 572 → s1 ≤ s0 + 6 * (h + 1) → s2 ≤ s1 + (160 * h + (87 + 4 * (k + 1))) → s2 ≤ s0 + 166 * (n / 64 + 1) * (h + 1)
+pub replace_steps : (n k h s0 s1 s2 : ℕ) → 60 * k ≤ n + 572 → s1 ≤ s0 + 6 * (h + 1) → s2 ≤ s1 + trees.replacing k h → s2 ≤ s0 + 166 * (n / 64 + 1) * (h + 1)
 replace_steps n k h s0 s1 s2 few first second =
     let p = (n / 64 + 1) * (h + 1) in
     let high : 1 * (h + 1) ≤ p = mul-le 1 (h + 1) (n / 64 + 1) (h + 1) (omega arith) (omega arith) in

@@ -5,6 +5,7 @@ use Rattle.cell_units.specs.Operation.{replaced_text}
 use Rattle.cell_units.specs.declared.limits.TheConstants.{TEXT_LIMIT}
 use Rattle.edit_patch.specs.declared.edit.Edit.{Edit}
 use Rattle.edit_patch.specs.Fits.{replacement}
+use Rattle.sum_tree.specs.Bounds as trees
 use Rattle.text_rope.specs.Edits.{IsRange, IsRenewed, IsReplaced}
 use Rattle.text_rope.specs.Ropes.{HasHeight, IsRope}
 use Rattle.text_rope.proofs.Bounds.{replace_steps}
@@ -29,7 +30,7 @@ replaced_by chunks text start end s from to made new patch view range small rene
 -- the tree ticks little more than its height where it is reached
 pub replaced_steps : (chunks : List (List ℕ)) (text : List ℕ) (start end : ℕ) (s : List ℕ) (from to : ℕ) (made : List (List ℕ)) (s0 s1 s2 : ℕ) → concat chunks ≡ text → IsRope chunks → IsRope (with_made chunks from to made) →
     IsRenewed chunks start end s from to made → ((h : ℕ) → HasHeight h (concat chunks) → s1 ≤ s0 + 6 * (h + 1)) →
-    ((h : ℕ) → length chunks < 2 * 6 ^ (h + 1) → length (with_made chunks from to made) < 2 * 6 ^ (h + 1) → s2 ≤ s1 + (160 * h + (87 + 4 * (length made + 1)))) →
+    ((h : ℕ) → length chunks < 2 * 6 ^ (h + 1) → length (with_made chunks from to made) < 2 * 6 ^ (h + 1) → s2 ≤ s1 + trees.replacing (length made) h) →
     (h : ℕ) → HasHeight h text → HasHeight h (replaced_text text start end s) → s2 ≤ s0 + 166 * (length s / 64 + 1) * (h + 1)
 replaced_steps chunks text start end s from to made s0 s1 s2 view rope is_rope renewed first last h high higher =
     let old : HasHeight h (concat chunks) = subst (HasHeight h) (sym view) high in

@@ -1,7 +1,7 @@
 -- Sums of steps.
 use Rattle.std.proofs.Common.{ℕ, ◌+◌, ◌*◌, ◌≤◌, arith, mul-le-mul_right}
 use Rattle.wrap_map.specs.Bounds.{landing}
-use Rattle.wrap_map.specs.inside.Bounds.{putting_run}
+use Rattle.wrap_map.specs.inside.Bounds.{closing, putting_run}
 
 -- one more of n calls that take k steps each
 pub one-more : (n m k first before after : ℕ) → before ≤ first + n * k → after ≤ before + k → n + 1 ≤ m → after ≤ first + m * k
@@ -9,7 +9,7 @@ one-more n m k first before after a b le = let h = mul-le-mul_right k le in omeg
 
 -- a group is closed after n lines of a run
 pub landing-closed : (n count h fresh first before after : ℕ) → before + 4 * fresh ≤ first + n * (170 * (h + 1))
-    → after ≤ before + (2 * (h + 1) + (160 * h + (87 + 4 * (fresh + 2 + 1)))) → n ≤ count → after ≤ first + putting_run count h
+    → after ≤ before + closing fresh h → n ≤ count → after ≤ first + putting_run count h
 landing-closed n count h fresh first before after a b le =
     let p = mul-le-mul_right (h + 1) le in
     omega (arith, a, b, p)

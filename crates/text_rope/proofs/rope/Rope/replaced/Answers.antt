@@ -2,6 +2,7 @@ use Rattle.std.proofs.Common.{◌≡◌, ◌+◌, ◌*◌, ◌/◌, ◌^◌, ◌
 use Rattle.cell_units.specs.Text.{clean}
 use Rattle.cell_units.proofs.TextLaws.{clean-no_return}
 use Rattle.cell_units.specs.Operation.{replaced_text}
+use Rattle.sum_tree.specs.Bounds as trees
 use Rattle.text_rope.specs.Ropes.{HasHeight, IsRope}
 use Rattle.text_rope.proofs.Limits.{rope_few, rope_fits}
 use Rattle.text_rope.proofs.Renewals.{renewed_rope}
@@ -49,7 +50,7 @@ returns-clause-cases c =
 
 -- what the tree ticks, of these chunks
 abbrev ticks : In_ok-chunks → ℕ → List (List ℕ) → Type 0
-ticks c s2 chunks = (h : ℕ) → length chunks < 2 * 6 ^ (h + 1) → length (with_new c chunks) < 2 * 6 ^ (h + 1) → s2 ≤ c.renewed.new.steps + (160 * h + (87 + 4 * (length c.in_ok-new.new.chunks.items + 1)))
+ticks c s2 chunks = (h : ℕ) → length chunks < 2 * 6 ^ (h + 1) → length (with_new c chunks) < 2 * 6 ^ (h + 1) → s2 ≤ c.renewed.new.steps + trees.replacing (length c.in_ok-new.new.chunks.items) h
 
 steps_by : (c : In_ok-chunks) (s2 : ℕ) → ticks c s2 c.in_ok-chunks.chunks → (h : ℕ) → HasHeight h c.args.self.now → HasHeight h (replaced_text c.args.self.now c.args.start c.args.end (clean c.args.text.now)) → s2 ≤ c.args.steps.now + 166 * (length (clean c.args.text.now) / 64 + 1) * (h + 1)
 steps_by c s2 last =
