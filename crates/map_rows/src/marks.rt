@@ -122,7 +122,7 @@ fn ranges_are_met_shortened_and_dropped(rt: HostRuntime) -> Result<(), Fail> {
 }
 
 /// Of ranges that start before the replaced bytes [3, 7), for which one byte comes, the ends move; of two that start
-/// At 1 the longer one has the lesser id and comes to the same end.
+/// at 1 the longer one has the lesser id and comes to the same end.
 #[test]
 fn ranges_that_start_before_a_replacement_are_sorted_again(rt: HostRuntime) -> Result<(), Fail> {
     let alloc = rt.alloc();
