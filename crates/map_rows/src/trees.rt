@@ -123,27 +123,6 @@ fn single_items_are_put_where_they_belong(rt: HostRuntime) -> Result<(), Fail> {
     Ok(())
 }
 
-/// 24 items are two full leaves below a root. One more makes two leaves of the first: the root and that leaf are opened,
-/// and the two are made.
-#[test]
-fn a_full_leaf_becomes_two(rt: HostRuntime) -> Result<(), Fail> {
-    let alloc = rt.alloc();
-    let mut items = Vec::new(alloc);
-    for weight in 0..24 {
-        items.push(Weight(weight))?;
-    }
-    let mut tree = SumTree::from_vec(alloc, items, &mut Steps::new())?;
-    let more = Vec::from_array(alloc, [Weight(100)])?;
-    let mut steps = Steps::new();
-    tree.replace(alloc, 5, 5, more, &mut steps)?;
-    let told = format!(in alloc; "{steps:?}")?;
-    assert_eq!(rt; told.as_str(), "Steps { count: 4 }");
-    assert_eq!(rt; (tree.len(), tree.sum().total), (25, 376));
-    assert_eq!(rt; tree.get(5, &mut steps).map(|w| w.0), Some(100));
-    assert_eq!(rt; tree.get(6, &mut steps).map(|w| w.0), Some(5));
-    Ok(())
-}
-
 /// A seek among 1,000,000 items makes at most 8 steps.
 fn seek_among_a_million(tree: &SumTree<Weight>, target: u64, steps: &mut Steps)
     requires { length tree.now ≡ 1000000 }
