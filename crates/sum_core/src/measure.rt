@@ -36,7 +36,8 @@ pub struct By<S: Summary, M: Measure<S>> {
 impl<S: Summary, M: Measure<S>> By<S, M> {
     /// The place at which the measure is `at`, to be sought.
     pub fn target(at: u64) -> By<S, M>
-        ensures { result.at ≡ at }
+        ensures at { result.at ≡ at }
+        ensures sum { result.sum ≡ S.empty }
     {
         By {
             at,

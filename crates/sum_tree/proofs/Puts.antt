@@ -1,9 +1,9 @@
 -- Items put in the place of others, below a node.
 use Rattle.std.proofs.Common.{◌≡◌, ℕ, zero, suc, ◌+◌, ◌-◌, ◌<◌, ◌≤◌, List, [], ◌∷◌, ◌++◌, map, length, take, drop, get_or, set, ap, ◌∙◌, subst, sym, refl, arith, append_assoc, Result, Ok, Err}
-use Rattle.std.proofs.lemmas.List.{length-map, length-append, length-drop, length-take-le, length_push, map-append, map-set, take-map, drop-map, take-set, drop-set, take-append-drop, take-append-le, take_at, drop_at, take_more_set, drop-set-lt}
+use Rattle.std.proofs.lemmas.List.{length-map, length-append, length-drop, length-take-le, map-append, map-set, take-map, drop-map, take-set, drop-set, take-append-drop, take-append-le, drop_at}
 use Rattle.std.specs.List.{splice, insert}
 use Rattle.sum_core.specs.Sums.{SummaryLaws}
-use Rattle.sum_core.specs.Nodes.{IsLawful, IsLawfulLeaf, IsLawfulInner, IsChildList, leaf, inner, contents, width, contents_items, child_value, items_in, items_under}
+use Rattle.sum_core.specs.Nodes.{IsLawful, IsLawfulLeaf, IsLawfulInner, IsChildList, inner, contents, width, contents_items, child_value, items_in, items_under}
 use Rattle.sum_core.specs.declared.node.Child.{Child}
 use Rattle.sum_core.specs.declared.node.Entries.{Entries}
 use Rattle.sum_core.specs.declared.summary.Item.{Ghosts as Items}
@@ -52,37 +52,15 @@ set-insert xs i x y lt =
     ∙ ap (λ l. l ++ (x ∷ drop (i + 1) all)) (take-append-le i front (y ∷ drop (i + 1) xs) (omega (arith, n)) ∙ same)
     ∙ ap (λ l. take i xs ++ (x ∷ l)) (drop_at front (y ∷ drop (i + 1) xs) (i + 1) n)
 
--- the first of the new elements, written over one of those in whose place they come
-pub splice-set : {X : Type 0} (xs : List X) (at end : ℕ) (x : X) (new : List X) → at < end → at < length xs → splice (set xs at x) (at + 1) end new ≡ splice xs at end (x ∷ new)
-splice-set xs at end x new before within =
-    ap (λ l. l ++ (new ++ drop end (set xs at x))) (take_more_set xs at x within)
-    ∙ ap (λ l. (take at xs ++ x ∷ []) ++ (new ++ l)) (drop-set-lt end xs at x before)
-    ∙ append_assoc (take at xs) (x ∷ []) (new ++ drop end xs)
-
--- the first of the new elements, inserted
-pub splice-insert : {X : Type 0} (xs : List X) (at : ℕ) (x : X) (new : List X) → at ≤ length xs → splice (insert xs at x) (at + 1) (at + 1) new ≡ splice xs at at (x ∷ new)
-splice-insert xs at x new within =
-    let front = take at xs ++ x ∷ [] in
-    let n : length front ≡ at + 1 = omega (arith, length_push (take at xs) x, length-take-le at xs within) in
-    let parts : insert xs at x ≡ front ++ drop at xs = sym (append_assoc (take at xs) (x ∷ []) (drop at xs)) in
-    ap (λ l. take (at + 1) l ++ (new ++ drop (at + 1) l)) parts
-    ∙ ap (λ l. l ++ (new ++ drop (at + 1) (front ++ drop at xs))) (take_at front (drop at xs) (at + 1) n)
-    ∙ ap (λ l. front ++ (new ++ l)) (drop_at front (drop at xs) (at + 1) n)
-    ∙ append_assoc (take at xs) (x ∷ []) (new ++ drop at xs)
-
 -- how many there are then
 pub length-splice : {X : Type 0} (xs : List X) (from to : ℕ) (new : List X) → from ≤ to → to ≤ length xs → length (splice xs from to new) ≡ length xs - (to - from) + length new
 length-splice xs from to new order within =
     omega (arith, length-append (take from xs) (new ++ drop to xs), length-append new (drop to xs), length-take-le from xs (omega (arith, order, within)), length-drop to xs, order, within)
 
--- nothing in the place of nothing
-pub splice-none : {X : Type 0} (xs : List X) (at end : ℕ) → at ≡ end → splice xs at end [] ≡ xs
-splice-none xs at end same = ap (λ k. take at xs ++ drop k xs) (sym same) ∙ take-append-drop at xs
-
 -- what follows from what holds where there is no room
-pub in-vain-then : {T V P Q : Type 0} → (r : Result V (PutError T)) → (P → Q) → IfNoRoom r P → IfNoRoom r Q
+pub in-vain-then : {V P Q : Type 0} → (r : Result V PutError) → (P → Q) → IfNoRoom r P → IfNoRoom r Q
 in-vain-then (Ok _) f p = tt
-in-vain-then (Err (NoRoom _)) f p = f p
+in-vain-then (Err NoRoom) f p = f p
 in-vain-then (Err NoMemory) f p = tt
 
 module _ {T S : Type 0} where
@@ -158,9 +136,9 @@ module _ {T S : Type 0} where
       ∙ sym (items-split children i k lt is)
 
   -- what a write below child i, which then is l, leaves below the children
-  pub refilled-below : (children : List (Child T S)) (i offset : ℕ) (span : Span) (new : List T) (given : Vec T Global) (k l : Child T S) (r : Result (Unit {0}) (PutError T)) → IsPlaced children i offset span.to → k ≡ get_or children i k → offset ≤ span.from → span.from ≤ span.to → IsRefilledAlone (items_in (child_value k).2) (record { from = span.from - offset; to = span.to - offset }) new given (items_in (child_value l).2) r → IsRefilledAlone (items_below children) span new given (items_below (set children i l)) r
-  refilled-below children i offset span new given k l (Ok x) p is low order m = items-put children i span.from span.to offset new k l p is low order m
-  refilled-below children i offset span new given k l (Err x) p is low order m = (items-kept children i k l p.index is m.0, m.1)
+  pub refilled-below : (children : List (Child T S)) (i offset : ℕ) (span : Span) (given left : Vec T Global) (k l : Child T S) (r : Result (Unit {0}) PutError) → IsPlaced children i offset span.to → k ≡ get_or children i k → offset ≤ span.from → span.from ≤ span.to → IsRefilledAlone (items_in (child_value k).2) (record { from = span.from - offset; to = span.to - offset }) given left (items_in (child_value l).2) r → IsRefilledAlone (items_below children) span given left (items_below (set children i l)) r
+  refilled-below children i offset span given left k l (Ok x) p is low order m = items-put children i span.from span.to offset given.items k l p is low order m
+  refilled-below children i offset span given left k l (Err x) p is low order m = (items-kept children i k l p.index is m.0, m.1)
 
 module _ {T S : Type 0} (items : Items T S) (sums : Sums S) where
   pub children-set : (h : ℕ) (children : List (Child T S)) (i : ℕ) (k : Child T S) → i < length children → IsChildAt items sums h k → AreChildren items sums h children → AreChildren items sums h (set children i k)
@@ -205,9 +183,9 @@ module _ {T S : Type 0} (items : Items T S) (sums : Sums S) where
   pub can-same : (held same : List T) (span : Span) (new : List T) → held ≡ same → CanRefill items sums held span new → CanRefill items sums same span new
   can-same held same span new e c = subst (λ l. CanRefill items sums l span new) e c
 
-  pub refilled-same : (held same : List T) (span : Span) (new : List T) (given : Vec T Global) (after now : List T) (r : Result (S × ℕ) (PutError T)) → held ≡ same → after ≡ now → IsRefilled items sums held span new given after r → IsRefilled items sums same span new given now r
-  refilled-same held same span new given after now r e f m =
-      subst (λ l. IsRefilled items sums l span new given now r) e (subst (λ l. IsRefilled items sums held span new given l r) f m)
+  pub refilled-same : (held same : List T) (span : Span) (given left : Vec T Global) (after now : List T) (r : Result (S × ℕ) PutError) → held ≡ same → after ≡ now → IsRefilled items sums held span given left after r → IsRefilled items sums same span given left now r
+  refilled-same held same span given left after now r e f m =
+      subst (λ l. IsRefilled items sums l span given left now r) e (subst (λ l. IsRefilled items sums held span given left l r) f m)
 
   same-lawful : (h : ℕ) (a b : Entries T S) → contents a ≡ contents b → IsLawful sums.empty sums.joined items.summary h a → IsLawful sums.empty sums.joined items.summary h b
   same-lawful zero a b e l = subst (IsLawfulLeaf sums.empty sums.joined items.summary) e l
@@ -216,21 +194,6 @@ module _ {T S : Type 0} (items : Items T S) (sums : Sums S) where
   -- the entries with other addresses
   pub node-same : (h least : ℕ) (a b : Entries T S) → contents a ≡ contents b → IsNode items sums h least a → IsNode items sums h least b
   node-same h least a b e n = record { lawful = same-lawful h a b e n.lawful; wide = omega (arith, n.wide, ap width e); some = n.some }
-
-  pub leaf-few : (h : ℕ) (e : Entries T S) (xs : List T) → IsLawful sums.empty sums.joined items.summary h e → contents e ≡ leaf xs → length xs ≤ 12
-  leaf-few zero e xs l is = subst (IsLawfulLeaf sums.empty sums.joined items.summary) is l
-  leaf-few (suc h) e xs l is = absurd (subst (IsLawfulInner sums.empty sums.joined items.summary (IsLawful sums.empty sums.joined items.summary h)) is l)
-
-  -- other items in the place of a leaf's
-  pub node-leaf : (h least : ℕ) (e f : Entries T S) (xs ys : List T) → IsLawful sums.empty sums.joined items.summary h e → contents e ≡ leaf xs → contents f ≡ leaf ys → length ys ≤ 12 → least ≤ length ys → IsNode items sums h least f
-  node-leaf zero least e f xs ys l is to few wide =
-      record {
-        lawful = subst (IsLawfulLeaf sums.empty sums.joined items.summary) (sym to) few;
-        wide = omega (arith, ap width to, wide);
-        some = λ up. absurd (omega (arith, up));
-      }
-  node-leaf (suc h) least e f xs ys l is to few wide =
-      absurd (subst (IsLawfulInner sums.empty sums.joined items.summary (IsLawful sums.empty sums.joined items.summary h)) is l)
 
   -- as many other children or more in the place of a node's
   pub node-inner : (h least : ℕ) (e f : Entries T S) (cs ds : List (Child T S)) → 1 ≤ h → IsNode items sums h least e → contents e ≡ inner (map child_value cs) → contents f ≡ inner (map child_value ds) → length cs ≤ length ds → length ds ≤ 12 → AreChildren items sums (h - 1) ds → IsNode items sums h least f

@@ -27,13 +27,18 @@ way h = h + 1
 abbrev pub Searches : ℕ → ℕ → ℕ → Type 0
 Searches n old new = 5 * new ≤ 5 * old + (n + 5)
 
--- Two trees are joined on the way down the higher one, which is no higher than 11.
+-- A tree of fewer than 2^32 items has no more levels below its root.
+abbrev pub highest : ℕ
+highest = 11
+
+-- Two trees are joined on the way down the higher one.
 abbrev pub joining : ℕ
 joining = 38
 
--- An item at the end is put into the last leaf, or else makes a leaf that is joined to the tree.
+-- An item at the end is put into the last leaf, or two leaves take its place. Else the way down was in vain, and a leaf is made of
+-- the item and joined to the tree.
 abbrev pub pushing : ℕ
-pushing = 51
+pushing = way highest + (1 + joining)
 
 -- A cut goes one way down, and on each level joins what lies before it and what lies behind.
 abbrev pub cutting : ℕ → ℕ
@@ -43,6 +48,10 @@ cutting h = 79 * h + 3
 abbrev pub building : ℕ → ℕ
 building k = 4 * (k + 1)
 
--- k items are put in place, or else a tree of them stands between two cuts that are joined again.
+-- Three trees that stand in the place of one: it is cut twice, and they are joined.
+abbrev pub cuts_and_joins : ℕ → ℕ
+cuts_and_joins h = 2 * cutting h + 2 * joining
+
+-- k items are put in place. Else the way down was in vain, and a tree of them is made, which is spliced in.
 abbrev pub replacing : ℕ → ℕ → ℕ
-replacing k h = 159 * h + (83 + 4 * (k + 1))
+replacing k h = way h + (building k + cuts_and_joins h)

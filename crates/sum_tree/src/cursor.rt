@@ -38,9 +38,12 @@ impl<'a, T: Item, D: Dimension<T::Sum>> Model for Cursor<'a, T, D> {
 impl<'a, T: Item, D: Dimension<T::Sum>> Cursor<'a, T, D> {
     /// A cursor before the first item of a tree.
     pub(crate) fn new(alloc: Global, root: Option<&'a Tree<T>>) -> Cursor<'a, T, D>
+        // No tree, or a lawful one whose sum fits and whose items are fewer than 2^32.
         requires tree { IsTreeSeen T.Sum.empty T.Sum.joined T.summary root }
         requires fits { T.Sum.fits (total T.Sum.empty T.Sum.joined T.summary (items_seen root)) }
         requires small { length (items_seen root) < 2 ^ 32 }
+
+        // The items of the tree, and the place before the first of them.
         ensures items { result.items ≡ items_seen root.entry }
         ensures place { result.place ≡ 0 }
     {

@@ -1,5 +1,5 @@
 //! Writing a few items in place: on nodes that nobody else holds, and on copies of those that are shared.
-ghost use Rattle.std.specs.Prelude.{◌≡◌, ◌+◌, ◌-◌, ◌<◌, ◌≤◌, ◌++◌, true, IfOk, OnOk, OnErr, insert, length, set, vec_capacity, vec_len};
+ghost use Rattle.std.specs.Prelude.{◌≡◌, ◌+◌, ◌-◌, ◌<◌, ◌≤◌, ◌++◌, ◌↔◌, true, IfOk, OnOk, OnErr, insert, length, set, vec_capacity, vec_len};
 ghost use Rattle.sum_core.specs.Nodes.{child_value, entries_of, items_in, items_of};
 ghost use Rattle.sum_tree.specs.inside.InPlace.{CanRefill, IfNoRoom, IsNode, IsRefilled, IsRefilledAlone, placing, refilled};
 ghost use Rattle.sum_tree.specs.inside.Nodes.{AreChildren, IsChildAt, IsLawfulNode, IsLawfulTree, items_below};
@@ -10,7 +10,6 @@ use crate::pack::{FEWEST, MOST, make_leaves, sum_children, sum_items};
 use crate::trees::Tree;
 use cell_units::{NoMemory, Steps};
 use std::alloc::Global;
-use std::mem;
 use sum_core::{Child, Entries, Item, Node};
 
 /// A range of a list's items, by their places.
@@ -21,41 +20,41 @@ pub struct Span {
 }
 
 /// Why items were not put in place. The tree is as it was.
-#[derive(Drop)]
-pub enum PutError<T: Drop> {
-    /// No leaf has room for them in the place of those in the span. They are handed back.
-    NoRoom(Vec<T>),
+#[derive(Clone, Copy)]
+pub enum PutError {
+    /// Not one leaf holds all items of the span, or it would be too full or too empty. What was to be put stays as it was.
+    NoRoom,
     NoMemory,
 }
 
-impl<T: Drop> From<NoMemory> for PutError<T> {
+impl From<NoMemory> for PutError {
     ghost use Rattle.std.specs.Prelude.{◌≡◌};
     ghost use Rattle.sum_tree.specs.declared.in_place.PutError.TheVariants as errors;
 
     ghost from_gives = { λ _ e. e ≡ errors.NoMemory };
 
-    fn from(_error: NoMemory) -> PutError<T> {
+    fn from(_error: NoMemory) -> PutError {
         PutError::NoMemory
     }
 }
 
-/// Puts `items` in the place of those in the span, where one leaf holds all of these. The leaf is then neither less than half
-/// full, where it is no root, nor too full: two leaves stand in its place then, if its parent has room for one more.
+/// Puts `items` in the place of those in the span, which one leaf has to hold. With them it may not be less than half full,
+/// where it is no root. Where it would be too full and its parent has room for one child more, two leaves take its place.
 pub fn put_in_tree<T: Item>(
     alloc: Global,
     tree: &mut Tree<T>,
     span: Span,
-    items: Vec<T>,
+    items: &mut Vec<T>,
     steps: &mut Steps,
-) -> Result<(), PutError<T>>
+) -> Result<(), PutError>
     // The span lies in the tree, and the items may stand in its place.
     requires tree { IsLawfulTree T.Item T.Sum.Summary tree.old }
-    requires can { CanRefill T.Item T.Sum.Summary (items_of tree.old.node) span items.items }
+    requires can { CanRefill T.Item T.Sum.Summary (items_of tree.old.node) span items.old.items }
 
     // The tree with the items, or as it was.
     ensures tree { IsLawfulTree T.Item T.Sum.Summary tree.new }
     ensures put { let held = items_of tree.old.node in
-        IsRefilledAlone held span items.items items (items_of tree.new.node) result }
+        IsRefilledAlone held span items.old items.new (items_of tree.new.node) result }
 
     // One node a level is opened at most, and two leaves are made. Where there is no room, none is made.
     ensures counted { steps.old ≤ steps.new }
@@ -86,14 +85,14 @@ fn put_in_node<T: Item>(
     height: usize,
     least: usize,
     span: Span,
-    items: Vec<T>,
+    items: &mut Vec<T>,
     steps: &mut Steps,
-) -> Result<(T::Sum, usize), PutError<T>>
+) -> Result<(T::Sum, usize), PutError>
     requires node { IsNode T.Item T.Sum.Summary height least (entries_of node.old) }
-    requires can { CanRefill T.Item T.Sum.Summary (items_of node.old) span items.items }
+    requires can { CanRefill T.Item T.Sum.Summary (items_of node.old) span items.old.items }
     ensures node { IsNode T.Item T.Sum.Summary height least (entries_of node.new) }
     ensures put { let held = items_of node.old in
-        IsRefilled T.Item T.Sum.Summary held span items.items items (items_of node.new) result }
+        IsRefilled T.Item T.Sum.Summary held span items.old items.new (items_of node.new) result }
     ensures counted { steps.old ≤ steps.new }
     ensures steps { steps.new ≤ steps.old + placing height }
     ensures in_vain { IfNoRoom result (steps.new ≤ steps.old + height + 1) }
@@ -104,7 +103,7 @@ fn put_in_node<T: Item>(
     }
 }
 
-/// The same in entries that were lent. A node's entries are taken out of it meanwhile, and put back.
+/// The same in the entries of a node, which it lends.
 #[cycle(put)]
 fn put_in_entries<T: Item>(
     alloc: Global,
@@ -112,29 +111,21 @@ fn put_in_entries<T: Item>(
     height: usize,
     least: usize,
     span: Span,
-    items: Vec<T>,
+    items: &mut Vec<T>,
     steps: &mut Steps,
-) -> Result<(T::Sum, usize), PutError<T>>
+) -> Result<(T::Sum, usize), PutError>
     requires node { IsNode T.Item T.Sum.Summary height least entries.old }
-    requires can { CanRefill T.Item T.Sum.Summary (items_in entries.old) span items.items }
+    requires can { CanRefill T.Item T.Sum.Summary (items_in entries.old) span items.old.items }
     ensures node { IsNode T.Item T.Sum.Summary height least entries.new }
     ensures put { let held = items_in entries.old in
-        IsRefilled T.Item T.Sum.Summary held span items.items items (items_in entries.new) result }
+        IsRefilled T.Item T.Sum.Summary held span items.old items.new (items_in entries.new) result }
     ensures counted { steps.old ≤ steps.new }
     ensures steps { steps.new + 1 ≤ steps.old + placing height }
     ensures in_vain { IfNoRoom result (steps.new ≤ steps.old + height) }
 {
-    match mem::replace(entries, Entries::Leaf(Vec::new(alloc))) {
-        Entries::Leaf(mut leaf) => {
-            let put = put_in_leaf(&mut leaf, least, span, items);
-            *entries = Entries::Leaf(leaf);
-            put
-        }
-        Entries::Inner(mut children) => {
-            let put = put_in_children(alloc, &mut children, height, span, items, steps);
-            *entries = Entries::Inner(children);
-            put
-        }
+    match entries {
+        Entries::Leaf(leaf) => put_in_leaf(leaf, least, span, items),
+        Entries::Inner(children) => put_in_children(alloc, children, height, span, items, steps),
     }
 }
 
@@ -145,15 +136,15 @@ fn put_in_children<T: Item>(
     children: &mut Vec<Child<T>>,
     height: usize,
     span: Span,
-    items: Vec<T>,
+    items: &mut Vec<T>,
     steps: &mut Steps,
-) -> Result<(T::Sum, usize), PutError<T>>
+) -> Result<(T::Sum, usize), PutError>
     // The children of an inner node, with the span below them.
     requires is_inner { 1 ≤ height }
     requires some { 1 ≤ length children.old.items }
     requires room { length children.old.items ≤ 12 }
     requires children { AreChildren T.Item T.Sum.Summary (height - 1) children.old.items }
-    requires can { CanRefill T.Item T.Sum.Summary (items_below children.old.items) span items.items }
+    requires can { CanRefill T.Item T.Sum.Summary (items_below children.old.items) span items.old.items }
 
     // The children of such a node, as many or more, with the items put below them.
     ensures more { length children.old.items ≤ length children.new.items }
@@ -161,7 +152,7 @@ fn put_in_children<T: Item>(
     ensures children { AreChildren T.Item T.Sum.Summary (height - 1) children.new.items }
     ensures put { let held = items_below children.old.items in
         let after = items_below children.new.items in
-        IsRefilled T.Item T.Sum.Summary held span items.items items after result }
+        IsRefilled T.Item T.Sum.Summary held span items.old items.new after result }
 
     // The node of these children was opened before.
     ensures counted { steps.old ≤ steps.new }
@@ -180,14 +171,14 @@ fn put_below<T: Item>(
     children: &mut Vec<Child<T>>,
     below: usize,
     span: Span,
-    items: Vec<T>,
+    items: &mut Vec<T>,
     steps: &mut Steps,
-) -> Result<(), PutError<T>>
+) -> Result<(), PutError>
     // The children of an inner node, with the span below them.
     requires some { 1 ≤ length children.old.items }
     requires room { length children.old.items ≤ 12 }
     requires children { AreChildren T.Item T.Sum.Summary below children.old.items }
-    requires can { CanRefill T.Item T.Sum.Summary (items_below children.old.items) span items.items }
+    requires can { CanRefill T.Item T.Sum.Summary (items_below children.old.items) span items.old.items }
 
     // The children of such a node, as many or more, with the items put below them.
     ensures more { length children.old.items ≤ length children.new.items }
@@ -195,7 +186,7 @@ fn put_below<T: Item>(
     ensures children { AreChildren T.Item T.Sum.Summary below children.new.items }
     ensures put { let held = items_below children.old.items in
         let after = items_below children.new.items in
-        IsRefilledAlone held span items.items items after result }
+        IsRefilledAlone held span items.old items.new after result }
 
     // The node of these children was opened before.
     ensures counted { steps.old ≤ steps.new }
@@ -204,7 +195,7 @@ fn put_below<T: Item>(
 {
     let found = find_child(children, below, span.to);
     if span.from < found.1 {
-        return Err(PutError::NoRoom(items));
+        return Err(PutError::NoRoom);
     }
     let within = Span {
         from: span.from - found.1,
@@ -225,10 +216,8 @@ fn takes_two<T: Item>(leaf: &Child<T>, span: Span, count: usize) -> bool
     requires leaf { IsChildAt T.Item T.Sum.Summary 0 leaf.now }
     requires order { span.from ≤ span.to }
     requires within { span.to ≤ length (items_of leaf.now.node) }
-    ensures enough { result ≡ true →
-        12 < length (items_of leaf.now.node) - (span.to - span.from) + count }
-    ensures room { result ≡ true →
-        length (items_of leaf.now.node) - (span.to - span.from) + count ≤ 24 }
+    ensures { let all = length (items_of leaf.now.node) - (span.to - span.from) + count in
+        (result ≡ true) ↔ ((12 < all) × (all ≤ 24)) }
 {
     let kept = leaf.count - (span.to - span.from);
     count <= 2 * MOST && MOST < kept + count && kept + count <= 2 * MOST
@@ -239,21 +228,21 @@ fn refill_in_two<T: Item>(
     alloc: Global,
     leaf: &Node<T>,
     span: Span,
-    items: Vec<T>,
+    items: &mut Vec<T>,
     steps: &mut Steps,
 ) -> Result<(Child<T>, Child<T>), NoMemory>
     // A leaf in which the items may stand, and enough of them for two that are no roots.
     requires leaf { IsLawfulNode T.Item T.Sum.Summary 0 leaf.now }
-    requires can { CanRefill T.Item T.Sum.Summary (items_of leaf.now) span items.items }
-    requires enough { 12 ≤ length (refilled (items_of leaf.now) span items.items) }
-    requires room { length (refilled (items_of leaf.now) span items.items) ≤ 24 }
+    requires can { CanRefill T.Item T.Sum.Summary (items_of leaf.now) span items.old.items }
+    requires enough { 12 ≤ length (refilled (items_of leaf.now) span items.old.items) }
+    requires room { length (refilled (items_of leaf.now) span items.old.items) ≤ 24 }
 
     // Leaves that need no root, of all items in their order.
     ensures left { IfOk result (λ two. IsChildAt T.Item T.Sum.Summary 0 two.0) }
     ensures right { IfOk result (λ two. IsChildAt T.Item T.Sum.Summary 0 two.1) }
     ensures items { IfOk result (λ two.
         items_in (child_value two.0).2 ++ items_in (child_value two.1).2 ≡
-        refilled (items_of leaf.now) span items.items) }
+        refilled (items_of leaf.now) span items.old.items) }
 
     // The leaf is opened, and two are made.
     ensures counted { steps.old ≤ steps.new }
@@ -288,14 +277,14 @@ fn put_in_child<T: Item>(
     child: &mut Child<T>,
     below: usize,
     span: Span,
-    items: Vec<T>,
+    items: &mut Vec<T>,
     steps: &mut Steps,
-) -> Result<(), PutError<T>>
+) -> Result<(), PutError>
     requires child { IsChildAt T.Item T.Sum.Summary below child.old }
-    requires can { CanRefill T.Item T.Sum.Summary (items_of child.old.node) span items.items }
+    requires can { CanRefill T.Item T.Sum.Summary (items_of child.old.node) span items.old.items }
     ensures child { IsChildAt T.Item T.Sum.Summary below child.new }
     ensures put { let held = items_of child.old.node in
-        IsRefilledAlone held span items.items items (items_of child.new.node) result }
+        IsRefilledAlone held span items.old items.new (items_of child.new.node) result }
     ensures counted { steps.old ≤ steps.new }
     ensures steps { steps.new ≤ steps.old + placing below }
     ensures in_vain { IfNoRoom result (steps.new ≤ steps.old + below + 1) }
@@ -311,59 +300,57 @@ fn put_in_leaf<T: Item>(
     leaf: &mut Vec<T>,
     least: usize,
     span: Span,
-    items: Vec<T>,
-) -> Result<(T::Sum, usize), PutError<T>>
+    items: &mut Vec<T>,
+) -> Result<(T::Sum, usize), PutError>
     requires room { length leaf.old.items ≤ 12 }
     requires wide { least ≤ length leaf.old.items }
-    requires can { CanRefill T.Item T.Sum.Summary leaf.old.items span items.items }
+    requires can { CanRefill T.Item T.Sum.Summary leaf.old.items span items.old.items }
     ensures room { length leaf.new.items ≤ 12 }
     ensures wide { least ≤ length leaf.new.items }
     ensures put { let held = leaf.old.items in
-        IsRefilled T.Item T.Sum.Summary held span items.items items leaf.new.items result }
+        IsRefilled T.Item T.Sum.Summary held span items.old items.new leaf.new.items result }
 {
     let count = leaf.len() - (span.to - span.from) + items.len();
     if count < least || MOST < count {
-        return Err(PutError::NoRoom(items));
+        return Err(PutError::NoRoom);
     }
     write_over(leaf, span, items)?;
     Ok((sum_items(leaf), count))
 }
 
-/// The items alone.
-fn write_over<T: Item>(leaf: &mut Vec<T>, span: Span, items: Vec<T>) -> Result<(), NoMemory>
+/// The same without the sum and the number, in a leaf that has room for the items.
+fn write_over<T: Item>(leaf: &mut Vec<T>, span: Span, items: &mut Vec<T>) -> Result<(), NoMemory>
     requires order { span.from ≤ span.to }
     requires within { span.to ≤ length leaf.old.items }
-    ensures ok { OnOk result (leaf.new.items ≡ refilled leaf.old.items span items.items) }
+    ensures ok { OnOk result (leaf.new.items ≡ refilled leaf.old.items span items.old.items) }
     ensures err { OnErr result (leaf.new.items ≡ leaf.old.items) }
 {
-    let more = items.len().saturating_sub(span.to - span.from);
-    leaf.reserve(more)?;
+    leaf.reserve(items.len().saturating_sub(span.to - span.from))?;
     write_reserved(leaf, span, items);
     Ok(())
 }
 
-/// The same where there is room: over the items in the span as far as they go, and behind those or instead of the last.
-fn write_reserved<T: Item>(leaf: &mut Vec<T>, span: Span, items: Vec<T>)
+/// The same where the room is reserved. A span that has more than the items loses its last ones first. Then, from the last
+/// item on, those beyond the span are inserted behind it, and the others are written over it.
+fn write_reserved<T: Item>(leaf: &mut Vec<T>, span: Span, items: &mut Vec<T>)
     requires order { span.from ≤ span.to }
     requires within { span.to ≤ length leaf.old.items }
-    requires room { length leaf.old.items + length items.items ≤
+    requires room { length leaf.old.items + length items.old.items ≤
         vec_capacity leaf.old + (span.to - span.from) }
-    ensures { leaf.new.items ≡ refilled leaf.old.items span items.items }
+    ensures { leaf.new.items ≡ refilled leaf.old.items span items.old.items }
 {
-    let mut at = span.from;
     let mut end = span.to;
-    for item in items {
-        if at < end {
-            leaf[at] = item;
-        } else {
-            insert_reserved(leaf, at, item);
-            end += 1;
-        }
-        at += 1;
-    }
-    while at < end {
+    while items.len() < end - span.from {
         end -= 1;
         leaf.remove(end);
+    }
+    while let Some(item) = items.pop() {
+        if items.len() < end - span.from {
+            end -= 1;
+            leaf[end] = item;
+        } else {
+            insert_reserved(leaf, end, item);
+        }
     }
 }
 

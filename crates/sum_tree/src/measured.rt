@@ -113,10 +113,13 @@ impl<'a, T: Item> Path<'a, T> {
 impl<T: Item> SumTree<T> {
     /// The item of this index and the sum of those before it, or the end and the sum of all.
     pub fn find_at(&self, index: u32, steps: &mut Steps) -> Found<'_, T>
+        // Where the item stands, and the sum of what is before it.
         ensures index { result.index ≡ min index (length self.now) }
         ensures before { result.before ≡
             total T.Sum.empty T.Sum.joined T.summary (take result.index self.now) }
         ensures item { option_copied result.item ≡ slice_get self.now result.index }
+
+        // One node a level is opened at most.
         ensures counted { steps.old ≤ steps.new }
         ensures steps { TakesAtMost way (length self.now) steps.old steps.new }
     {
@@ -130,11 +133,14 @@ impl<T: Item> SumTree<T> {
         bias: Bias,
         steps: &mut Steps,
     ) -> Found<'_, T>
+        // Where the item stands, and the sum of what is before it.
         ensures first { IsFirst T.Sum.empty T.Sum.joined T.summary M.number self.now target bias
             result.index }
         ensures before { result.before ≡
             total T.Sum.empty T.Sum.joined T.summary (take result.index self.now) }
         ensures item { option_copied result.item ≡ slice_get self.now result.index }
+
+        // One node a level is opened at most.
         ensures counted { steps.old ≤ steps.new }
         ensures steps { TakesAtMost way (length self.now) steps.old steps.new }
     {

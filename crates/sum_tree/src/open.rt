@@ -38,9 +38,14 @@ pub fn copy_inner<T: Item>(
     height: usize,
     steps: &mut Steps,
 ) -> Result<Vec<Child<T>>, NoMemory>
+    // An inner node.
     requires lawful { IsLawfulNode T.Item T.Sum.Summary height node.now }
     requires is_inner { 1 ≤ height }
+
+    // All its children, in their order.
     ensures opened { IfOk result (λ v. AreChildrenOf T.Item T.Sum.Summary height node.now v.items) }
+
+    // The node is opened.
     ensures counted { steps.old ≤ steps.new }
     ensures steps { steps.new ≤ steps.old + 1 }
 {

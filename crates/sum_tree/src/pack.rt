@@ -27,9 +27,12 @@ pub fn sum_items<T: Item>(items: &[T]) -> T::Sum
 
 /// The sum and the number of the items below the children.
 pub fn sum_children<T: Item>(children: &[Child<T>], below: usize) -> (T::Sum, usize)
+    // Children of the height `below`, of which the items may stand in one tree.
     requires children { AreChildren T.Item T.Sum.Summary below children.now }
     requires fits { SumFits T.Item T.Sum.Summary (items_below children.now) }
     requires small { length (items_below children.now) < 2 ^ 32 }
+
+    // The sum and the number of all items below them.
     ensures sum { result.0 ≡ sum_of T.Item T.Sum.Summary (items_below children.now) }
     ensures count { result.1 ≡ length (items_below children.now) }
 {
@@ -137,10 +140,15 @@ pub fn pack_items<T: Item>(
     items: Vec<T>,
     steps: &mut Steps,
 ) -> Result<Vec<Child<T>>, NoMemory>
+    // No more items than two nodes hold, and their sum fits.
     requires room { vec_len items ≤ 24 }
     requires fits { SumFits T.Item T.Sum.Summary items.items }
+
+    // One leaf or two, of all items in their order.
     ensures packed { IfOk result
         (λ v. ArePacked T.Item T.Sum.Summary 0 (vec_len items) items.items v.items) }
+
+    // Two nodes are made at most.
     ensures counted { steps.old ≤ steps.new }
     ensures steps { steps.new ≤ steps.old + 2 }
 {

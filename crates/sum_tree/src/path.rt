@@ -87,12 +87,17 @@ impl<'a, T: Item> Path<'a, T> {
         items: &'a [T],
         aim: &Aim<D>,
     ) -> Option<Found<'a, T, D>>
+        // The path leads through its tree, and a place in it has these items.
         requires path { IsWay T.Item T.Sum.Summary self.now }
         requires place { IsPlaceIn T.Item T.Sum.Summary (items_seen self.now.root) top.now }
         requires items { items_in top.now.entries.now ≡ items.now }
+
+        // The sum of the items before the place, which don't go as far as the aim.
         requires start { start ≡
             measure_at T.Item T.Sum.Summary D.measure (items_seen self.now.root) top.now.first }
         requires not_before { 0 < top.now.first → is_met D.cmp aim.now top.now.first start ≡ false }
+
+        // The item, or `None` where the items up to the place's end don't go so far.
         ensures found { FindsItem T.Item T.Sum.Summary D.measure D.cmp (items_seen self.now.root)
             aim.now (top.now.first + top.now.count) result }
     {
@@ -122,15 +127,22 @@ impl<'a, T: Item> Path<'a, T> {
         aim: &Aim<D>,
         steps: &mut Steps,
     ) -> Option<Ahead<'a, T, D>>
+        // The path leads through its tree, and a place in it has these children.
         requires path { IsWay T.Item T.Sum.Summary self.now }
         requires place { IsPlaceIn T.Item T.Sum.Summary (items_seen self.now.root) top.now }
         requires children { contents top.now.entries.now ≡ inner (map child_value children.now) }
+
+        // The sum of the items before the place, which don't go as far as the aim.
         requires start { start ≡
             measure_at T.Item T.Sum.Summary D.measure (items_seen self.now.root) top.now.first }
         requires not_before { 0 < top.now.first → is_met D.cmp aim.now top.now.first start ≡ false }
+
+        // A child's place, or `None` where the items up to the place's end don't go so far.
         ensures found { FindsPlace T.Item T.Sum.Summary D.measure D.cmp (items_seen self.now.root)
             aim.now (top.now.first + top.now.count) result }
         ensures height { IfSome result (λ a. a.place.height + 1 ≡ top.now.height) }
+
+        // One node is opened at most.
         ensures counted { steps.old ≤ steps.new }
         ensures steps { steps.new ≤ steps.old + 1 }
     {
@@ -156,9 +168,12 @@ impl<'a, T: Item> Path<'a, T> {
 
     /// The path of a tree, with no node on it yet.
     pub fn new(alloc: Global, root: Option<&'a Tree<T>>) -> Path<'a, T>
+        // No tree, or a lawful one whose sum fits and whose items are fewer than 2^32.
         requires tree { IsTreeSeen T.Sum.empty T.Sum.joined T.summary root }
         requires fits { SumFits T.Item T.Sum.Summary (items_seen root) }
         requires small { length (items_seen root) < 2 ^ 32 }
+
+        // The path leads through this tree.
         ensures path { IsWay T.Item T.Sum.Summary result }
         ensures root { result.root ≡ root.entry }
     {
@@ -192,12 +207,17 @@ impl<'a, T: Item> Path<'a, T> {
 
     /// The place of the root.
     fn top(&self, steps: &mut Steps) -> Option<Place<'a, T>>
+        // The path leads through its tree.
         requires path { IsWay T.Item T.Sum.Summary self.now }
+
+        // The root, with its height and all items below it, or `None` where there are no items.
         ensures place { MatchOption result (items_seen self.now.root ≡ [])
             (λ p. IsPlaceIn T.Item T.Sum.Summary (items_seen self.now.root) p) }
         ensures height { IfSome result (λ p. p.height ≡ height_seen self.now.root) }
         ensures whole { IfSome result
             (λ p. (p.first ≡ 0) × (p.count ≡ length (items_seen self.now.root))) }
+
+        // One node is opened at most.
         ensures counted { steps.old ≤ steps.new }
         ensures steps { steps.new ≤ steps.old + 1 }
     {
@@ -220,15 +240,22 @@ impl<'a, T: Item> Path<'a, T> {
         aim: &Aim<D>,
         steps: &mut Steps,
     ) -> Option<Ahead<'a, T, D>>
+        // The path leads through its tree, and the place is an inner node in it.
         requires path { IsWay T.Item T.Sum.Summary self.now }
         requires place { IsPlaceIn T.Item T.Sum.Summary (items_seen self.now.root) top.now }
         requires is_inner { 1 ≤ top.now.height }
+
+        // The sum of the items before the place, which don't go as far as the aim.
         requires start { start ≡
             measure_at T.Item T.Sum.Summary D.measure (items_seen self.now.root) top.now.first }
         requires not_before { 0 < top.now.first → is_met D.cmp aim.now top.now.first start ≡ false }
+
+        // A child's place, or `None` where the items up to the place's end don't go so far.
         ensures found { FindsPlace T.Item T.Sum.Summary D.measure D.cmp (items_seen self.now.root)
             aim.now (top.now.first + top.now.count) result }
         ensures height { IfSome result (λ a. a.place.height + 1 ≡ top.now.height) }
+
+        // One node is opened at most.
         ensures counted { steps.old ≤ steps.new }
         ensures steps { steps.new ≤ steps.old + 1 }
     {
@@ -245,12 +272,17 @@ impl<'a, T: Item> Path<'a, T> {
         start: D,
         aim: &Aim<D>,
     ) -> Option<Found<'a, T, D>>
+        // The path leads through its tree, and the place is a leaf in it.
         requires path { IsWay T.Item T.Sum.Summary self.now }
         requires place { IsPlaceIn T.Item T.Sum.Summary (items_seen self.now.root) top.now }
         requires is_leaf { top.now.height ≡ 0 }
+
+        // The sum of the items before the place, which don't go as far as the aim.
         requires start { start ≡
             measure_at T.Item T.Sum.Summary D.measure (items_seen self.now.root) top.now.first }
         requires not_before { 0 < top.now.first → is_met D.cmp aim.now top.now.first start ≡ false }
+
+        // The item, or `None` where the items up to the place's end don't go so far.
         ensures found { FindsItem T.Item T.Sum.Summary D.measure D.cmp (items_seen self.now.root)
             aim.now (top.now.first + top.now.count) result }
     {
@@ -268,16 +300,25 @@ impl<'a, T: Item> Path<'a, T> {
         aim: &Aim<D>,
         steps: &mut Steps,
     ) -> Option<Found<'a, T, D>>
+        // The path leads through the place's tree, and has a node for each level above the place.
         requires path { IsWay T.Item T.Sum.Summary self.old }
         requires place { IsPlaceIn T.Item T.Sum.Summary (items_seen self.old.root) top }
         requires height { top.height + small_vec_len self.old.places ≡ height_seen self.old.root }
+
+        // The sum of the items before the place, which don't go as far as the aim.
         requires start { start ≡
             measure_at T.Item T.Sum.Summary D.measure (items_seen self.old.root) top.first }
         requires not_before { 0 < top.first → is_met D.cmp aim.now top.first start ≡ false }
+
+        // The path leads through the same tree then.
         ensures path { IsWay T.Item T.Sum.Summary self.new }
         ensures root { self.new.root ≡ self.old.root }
+
+        // The item, or `None` where the items up to the place's end don't go so far.
         ensures found { FindsItem T.Item T.Sum.Summary D.measure D.cmp (items_seen self.old.root)
             aim.now (top.entry.first + top.entry.count) result }
+
+        // One node for each level below the place is opened at most.
         ensures counted { steps.old ≤ steps.new }
         ensures steps { steps.new ≤ steps.old + top.entry.height }
     {
@@ -301,9 +342,14 @@ impl<'a, T: Item> Path<'a, T> {
 
     /// Up to the lowest place on the path that has the item of this index below it.
     fn climb(&mut self, index: usize) -> Option<Place<'a, T>>
+        // The path leads through its tree.
         requires path { IsWay T.Item T.Sum.Summary self.old }
+
+        // It leads through the same tree then.
         ensures path { IsWay T.Item T.Sum.Summary self.new }
         ensures root { self.new.root ≡ self.old.root }
+
+        // The place, if any, has the item below it, and the path has a node for each level above the place.
         ensures place { IfSome result
             (λ p. IsPlaceIn T.Item T.Sum.Summary (items_seen self.old.root) p) }
         ensures height { IfSome result
@@ -320,13 +366,18 @@ impl<'a, T: Item> Path<'a, T> {
 
     /// The child below an inner node that has the item of this index below it.
     fn child_with(&self, top: &Place<'a, T>, index: usize, steps: &mut Steps) -> Place<'a, T>
+        // The path leads through its tree, and the place is an inner node in it that has the item below.
         requires path { IsWay T.Item T.Sum.Summary self.now }
         requires place { IsPlaceIn T.Item T.Sum.Summary (items_seen self.now.root) top.now }
         requires is_inner { 1 ≤ top.now.height }
         requires around { (top.now.first ≤ index) × (index < top.now.first + top.now.count) }
+
+        // A place one level lower, with the item below it too.
         ensures place { IsPlaceIn T.Item T.Sum.Summary (items_seen self.now.root) result }
         ensures height { result.height + 1 ≡ top.now.height }
         ensures around { (result.first ≤ index) × (index < result.first + result.count) }
+
+        // The child is opened.
         ensures counted { steps.old ≤ steps.new }
         ensures steps { steps.new ≤ steps.old + 1 }
     {
@@ -347,10 +398,13 @@ impl<'a, T: Item> Path<'a, T> {
 
     /// The item of this index in a leaf.
     fn item_of(&self, top: &Place<'a, T>, index: usize) -> &'a T
+        // The path leads through its tree, and the place is a leaf in it that has the item.
         requires path { IsWay T.Item T.Sum.Summary self.now }
         requires place { IsPlaceIn T.Item T.Sum.Summary (items_seen self.now.root) top.now }
         requires is_leaf { top.now.height ≡ 0 }
         requires around { (top.now.first ≤ index) × (index < top.now.first + top.now.count) }
+
+        // The item.
         ensures item { slice_get (items_seen self.now.root) index ≡ Some result.now }
     {
         match top.entries {
@@ -361,13 +415,22 @@ impl<'a, T: Item> Path<'a, T> {
 
     /// From a place on down to the item of this index.
     fn down_to(&mut self, top: Place<'a, T>, index: usize, steps: &mut Steps) -> &'a T
+        // The path leads through the place's tree, and has a node for each level above the place.
         requires path { IsWay T.Item T.Sum.Summary self.old }
         requires place { IsPlaceIn T.Item T.Sum.Summary (items_seen self.old.root) top }
         requires height { top.height + small_vec_len self.old.places ≡ height_seen self.old.root }
+
+        // The item lies below the place.
         requires around { (top.first ≤ index) × (index < top.first + top.count) }
+
+        // The path leads through the same tree then.
         ensures path { IsWay T.Item T.Sum.Summary self.new }
         ensures root { self.new.root ≡ self.old.root }
+
+        // The item.
         ensures item { slice_get (items_seen self.old.root) index ≡ Some result.now }
+
+        // One node for each level below the place is opened at most.
         ensures counted { steps.old ≤ steps.new }
         ensures steps { steps.new ≤ steps.old + top.entry.height }
     {

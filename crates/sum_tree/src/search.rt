@@ -48,12 +48,17 @@ fn before_under<T: Item, Q: Probe<T>>(
     probe: &Q,
     steps: &mut Steps,
 ) -> usize
+    // Children of the height `below`, and their items can be counted.
     requires children { let lawful = IsLawful T.Sum.empty T.Sum.joined T.summary below in
         let values = map child_value children.now in
         IsChildList T.Sum.empty T.Sum.joined T.summary lawful 6 values }
     requires small { length (items_under (map child_value children.now)) < 2 ^ 32 }
+
+    // The items before the first that passes, or all.
     ensures place { let items = items_under (map child_value children.now) in
         result ≡ position_or_len (Q.is_passed probe.now) items }
+
+    // At most a fifth as many nodes are opened as there are items but for one of each child.
     ensures counted { steps.old ≤ steps.new }
     ensures steps { let n = length (items_under (map child_value children.now)) in
         5 * steps.new + length children.now ≤ 5 * steps.old + n }
@@ -77,11 +82,16 @@ fn before_in<T: Item, Q: Probe<T>>(
     probe: &Q,
     steps: &mut Steps,
 ) -> usize
+    // A child of the height `below`, and its items can be counted.
     requires child { let lawful = IsLawful T.Sum.empty T.Sum.joined T.summary below in
         IsChild T.Sum.empty T.Sum.joined T.summary lawful 6 (child_value child.now) }
     requires small { length (items_in (child_value child.now).2) < 2 ^ 32 }
+
+    // The items before the first that passes, or all.
     ensures place { let items = items_in (child_value child.now).2 in
         result ≡ position_or_len (Q.is_passed probe.now) items }
+
+    // Fewer nodes are opened than a fifth of the items.
     ensures counted { steps.old ≤ steps.new }
     ensures steps { let n = length (items_in (child_value child.now).2) in
         5 * steps.new + 1 ≤ 5 * steps.old + n }

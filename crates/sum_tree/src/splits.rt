@@ -175,13 +175,18 @@ fn split_leaf<T: Item>(
     at: usize,
     steps: &mut Steps,
 ) -> Result<Halves<T>, NoMemory>
+    // A leaf whose sum fits, and a place in it or at its end.
     requires tree { IsLawfulRoot T.Item T.Sum.Summary 0 node.now }
     requires within { at ≤ length (items_of node.now) }
     requires fits { SumFits T.Item T.Sum.Summary (items_of node.now) }
+
+    // The two halves.
     ensures left { IfOk result
         (λ p. IsTreeHolding T.Item T.Sum.Summary p.left (take at (items_of node.now))) }
     ensures right { IfOk result
         (λ p. IsTreeHolding T.Item T.Sum.Summary p.right (drop at (items_of node.now))) }
+
+    // The leaf is opened, and two are made.
     ensures counted { steps.old ≤ steps.new }
     ensures steps { steps.new ≤ steps.old + 3 }
 {

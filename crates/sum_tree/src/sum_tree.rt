@@ -3,7 +3,7 @@ ghost use Rattle.std.specs.Prelude.{ℕ, ◌≡◌, ◌+◌, ◌*◌, ◌^◌, �
 ghost use Rattle.std.specs.List.{position};
 ghost use Rattle.std.specs.Option.{option_copied};
 ghost use Rattle.sum_core.specs.Sums.{total};
-ghost use Rattle.sum_tree.specs.Bounds.{ChangesAtMost, OpensEachLevel, Searches, TakesAtMost, building, cutting, joining, pushing, replacing, way};
+ghost use Rattle.sum_tree.specs.Bounds.{ChangesAtMost, OpensEachLevel, Searches, TakesAtMost, building, cutting, highest, joining, pushing, replacing, cuts_and_joins, way};
 ghost use Rattle.sum_tree.specs.inside.InPlace.{IfNoRoom, IsRefilledAlone, placing, refilled};
 ghost use Rattle.sum_tree.specs.inside.Paths.{items_seen};
 ghost use Rattle.sum_tree.specs.inside.Ways.{IsWay};
@@ -141,8 +141,11 @@ impl<T: Item> SumTree<T> {
 
     /// A tree of these items. Its time is linear in their number.
     pub fn from_vec(alloc: Global, items: Vec<T>, steps: &mut Steps) -> Result<SumTree<T>, NoMemory>
+        // The sum of the items and their number fit.
         requires fits { T.Sum.fits (total T.Sum.empty T.Sum.joined T.summary items.items) }
         requires small { length items.items < 2 ^ 32 }
+
+        // The list, and the work.
         ensures ok { IfOk result (λ t. t ≡ items.items) }
         ensures counted { steps.old ≤ steps.new }
         ensures steps { steps.new ≤ steps.old + building (length items.items) }
@@ -162,8 +165,11 @@ impl<T: Item> SumTree<T> {
 
     /// A list of at most 12 items, in one leaf.
     fn in_one_leaf(alloc: Global, items: Vec<T>, steps: &mut Steps) -> Result<SumTree<T>, NoMemory>
+        // A leaf has room for the items, and their sum fits.
         requires room { vec_len items ≤ 12 }
         requires fits { T.Sum.fits (total T.Sum.empty T.Sum.joined T.summary items.items) }
+
+        // The list of them, for which one node is made.
         ensures ok { IfOk result (λ t. t ≡ items.items) }
         ensures counted { steps.old ≤ steps.new }
         ensures steps { steps.new ≤ steps.old + 1 }
@@ -175,7 +181,7 @@ impl<T: Item> SumTree<T> {
         })
     }
 
-    /// Adds an item at the end: in place where the last leaf has room, and else by a join.
+    /// Adds an item at the end: in place where the last leaf has room, or two may take its place, and else by a join.
     pub fn push(&mut self, alloc: Global, item: T, steps: &mut Steps) -> Result<(), NoMemory>
         // The sum and the length of the list after it fit.
         requires fits { T.Sum.fits
@@ -194,10 +200,10 @@ impl<T: Item> SumTree<T> {
         items.push(item)?;
         let end = self.len() as usize;
         let span = Span { from: end, to: end };
-        match self.put_in_place(alloc, span, items, steps) {
+        match self.put_in_place(alloc, span, &mut items, steps) {
             Ok(()) => Ok(()),
             Err(PutError::NoMemory) => Err(NoMemory),
-            Err(PutError::NoRoom(items)) => {
+            Err(PutError::NoRoom) => {
                 let last = SumTree::in_one_leaf(alloc, items, steps)?;
                 self.concat(alloc, last, steps)
             }
@@ -294,54 +300,53 @@ impl<T: Item> SumTree<T> {
         ensures steps { ChangesAtMost (replacing (length items.items)) (length self.old)
             (length (take from self.old ++ items.items ++ drop to self.old)) steps.old steps.new }
     {
+        let mut items = items;
         let span = Span {
             from: from as usize,
             to: to as usize,
         };
-        match self.put_in_place(alloc, span, items, steps) {
+        match self.put_in_place(alloc, span, &mut items, steps) {
             Ok(()) => Ok(()),
             Err(PutError::NoMemory) => Err(NoMemory),
-            Err(PutError::NoRoom(items)) => {
+            Err(PutError::NoRoom) => {
                 let middle = SumTree::from_vec(alloc, items, steps)?;
                 self.splice(alloc, from, to, middle, steps)
             }
         }
     }
 
-    /// The same on the nodes that lead there alone, where a leaf there has room for them.
+    /// The same on the one way down to the leaf that holds the span, where it has room for the items.
     fn put_in_place(
         &mut self,
         alloc: Global,
         span: Span,
-        items: Vec<T>,
+        items: &mut Vec<T>,
         steps: &mut Steps,
-    ) -> Result<(), PutError<T>>
+    ) -> Result<(), PutError>
         // The span lies in the list, and its sum and length after it fit.
         requires order { span.from ≤ span.to }
         requires within { span.to ≤ length self.old }
         requires fits { T.Sum.fits
-            (total T.Sum.empty T.Sum.joined T.summary (refilled self.old span items.items)) }
-        requires small { length (refilled self.old span items.items) < 2 ^ 32 }
+            (total T.Sum.empty T.Sum.joined T.summary (refilled self.old span items.old.items)) }
+        requires small { length (refilled self.old span items.old.items) < 2 ^ 32 }
 
         // What is there after it.
-        ensures put { IsRefilledAlone self.old span items.items items self.new result }
+        ensures put { IsRefilledAlone self.old span items.old items.new self.new result }
 
         // The work, and what of it is done where there is no room.
         ensures counted { steps.old ≤ steps.new }
-        ensures few { steps.new ≤ steps.old + 14 }
-        ensures few_in_vain { IfNoRoom result (steps.new ≤ steps.old + 12) }
+        ensures few { steps.new ≤ steps.old + placing highest }
+        ensures few_in_vain { IfNoRoom result (steps.new ≤ steps.old + way highest) }
         ensures steps { TakesAtMost placing (length self.old) steps.old steps.new }
         ensures in_vain { IfNoRoom result (TakesAtMost way (length self.old) steps.old steps.new) }
     {
         if items.len() > MOST {
-            return Err(PutError::NoRoom(items));
+            return Err(PutError::NoRoom);
         }
-        let Some(mut tree) = self.tree.take() else {
-            return Err(PutError::NoRoom(items));
+        let Some(tree) = &mut self.tree else {
+            return Err(PutError::NoRoom);
         };
-        let put = put_in_tree(alloc, &mut tree, span, items, steps);
-        self.tree = Some(tree);
-        put
+        put_in_tree(alloc, tree, span, items, steps)
     }
 
     /// Puts the items of another tree in the place of those from place `from` to place `to`, by cuts and joins.
@@ -353,17 +358,21 @@ impl<T: Item> SumTree<T> {
         middle: SumTree<T>,
         steps: &mut Steps,
     ) -> Result<(), NoMemory>
+        // The places stand in the list, and its sum and length after it fit.
         requires order { from ≤ to }
         requires within { to ≤ length self.old }
         requires fits { T.Sum.fits
             (total T.Sum.empty T.Sum.joined T.summary
             (take from self.old ++ middle ++ drop to self.old)) }
         requires small { length (take from self.old ++ middle ++ drop to self.old) < 2 ^ 32 }
+
+        // What is there after it.
         ensures ok { OnOk result (self.new ≡ take from self.old ++ middle ++ drop to self.old) }
         ensures err { OnErr result (self.new ≡ self.old) }
+
+        // The work.
         ensures counted { steps.old ≤ steps.new }
-        ensures steps { (h : ℕ) → length self.old < 2 * 6 ^ (h + 1) →
-            steps.new ≤ steps.old + 158 * h + 82 }
+        ensures steps { TakesAtMost cuts_and_joins (length self.old) steps.old steps.new }
     {
         let mut front = self.share()?;
         let mut back = front.split_off(alloc, from, steps)?;

@@ -1,6 +1,7 @@
 //! Whole trees: made of pieces, joined, and built from a list.
 ghost use Rattle.std.specs.Prelude.{◌≡◌, ◌+◌, ◌*◌, ◌^◌, ◌<◌, ◌≤◌, ◌++◌, IfOk, map, length, vec_len, min, max};
 ghost use Rattle.sum_core.specs.Nodes.{child_value, entries_of, items_of};
+ghost use Rattle.sum_tree.specs.Bounds.{joining};
 ghost use Rattle.sum_tree.specs.inside.Trees.{IsSameTree};
 ghost use Rattle.sum_tree.specs.inside.Nodes.{AreRaisable, IsLawfulTree, IsTreeHolding, SumFits, items_below};
 
@@ -100,12 +101,11 @@ pub fn join<T: Item>(
         (λ t. (max left.now.height right.now.height ≤ t.height) ×
         (t.height ≤ max left.now.height right.now.height + 1)) }
 
-    // Three nodes for each level that the one is higher, and five.
-    // Whatever the heights are, no more than 38 are opened and made.
+    // Three nodes for each level that the one is higher, and five. Whatever the heights are, no more than `joining`.
     ensures climb { steps.new + 3 * min left.now.height right.now.height ≤ steps.old +
         3 * max left.now.height right.now.height + 5 }
     ensures counted { steps.old ≤ steps.new }
-    ensures steps { steps.new ≤ steps.old + 38 }
+    ensures steps { steps.new ≤ steps.old + joining }
 {
     let pieces = meld(
         alloc,

@@ -21,22 +21,22 @@ refilled held span new = splice held span.from span.to new
 abbrev pub placing : ℕ → ℕ
 placing height = height + 3
 
-module _ {T : Type 0} where
-  -- where there is no room
-  abbrev pub IfNoRoom : {V : Type 0} → Result V (PutError T) → Type 0 → Type 0
-  IfNoRoom (Ok _) P = Unit {0}
-  IfNoRoom (Err (NoRoom _)) P = P
-  IfNoRoom (Err NoMemory) P = Unit {0}
+-- where there is no room
+abbrev pub IfNoRoom : {V : Type 0} → Result V PutError → Type 0 → Type 0
+IfNoRoom (Ok _) P = Unit {0}
+IfNoRoom (Err NoRoom) P = P
+IfNoRoom (Err NoMemory) P = Unit {0}
 
-  -- without room, what was given is handed back
-  abbrev pub HandsBack : Vec T Global → PutError T → Type 0
-  HandsBack given (NoRoom back) = back ≡ given
-  HandsBack given NoMemory = Unit {0}
+module _ {T : Type 0} where
+  -- without room, what was given is left
+  abbrev pub IsLeft : Vec T Global → Vec T Global → PutError → Type 0
+  IsLeft given left NoRoom = left ≡ given
+  IsLeft given left NoMemory = Unit {0}
 
   -- `held` became `after`, or stayed as it was.
-  abbrev pub IsRefilledAlone : List T → Span → List T → Vec T Global → List T → Result (Unit {0}) (PutError T) → Type 0
-  IsRefilledAlone held span new given after result =
-      MatchResult result (λ _. after ≡ refilled held span new) (λ error. (after ≡ held) × HandsBack given error)
+  abbrev pub IsRefilledAlone : List T → Span → Vec T Global → Vec T Global → List T → Result (Unit {0}) PutError → Type 0
+  IsRefilledAlone held span given left after result =
+      MatchResult result (λ _. after ≡ refilled held span given.items) (λ error. (after ≡ held) × IsLeft given left error)
 
 module _ {T S : Type 0} (items : Items T S) (sums : Sums S) where
   -- The span lies in the list, and `new` may stand in its place.
@@ -59,6 +59,6 @@ module _ {T S : Type 0} (items : Items T S) (sums : Sums S) where
     pub count_is : s.1 ≡ length held
 
   -- the same with the sum and the number of the items that are there then
-  abbrev pub IsRefilled : List T → Span → List T → Vec T Global → List T → Result (S × ℕ) (PutError T) → Type 0
-  IsRefilled held span new given after result =
-      MatchResult result (λ s. (after ≡ refilled held span new) × IsSumOf after s) (λ error. (after ≡ held) × HandsBack given error)
+  abbrev pub IsRefilled : List T → Span → Vec T Global → Vec T Global → List T → Result (S × ℕ) PutError → Type 0
+  IsRefilled held span given left after result =
+      MatchResult result (λ s. (after ≡ refilled held span given.items) × IsSumOf after s) (λ error. (after ≡ held) × IsLeft given left error)

@@ -1,11 +1,13 @@
-use Rattle.std.proofs.Common.{◌≡◌, ◌-◌, ◌<◌, ◌∙◌, ap, sym, refl, subst, arith, map, length, is_ok}
+use Rattle.std.proofs.Common.{◌≡◌, ◌-◌, ◌<◌, ◌≤◌, ◌∙◌, ap, sym, refl, subst, arith, map, length, is_ok}
 use Rattle.std.proofs.lemmas.List.{length-map}
+use Rattle.sum_core.specs.declared.node.Entries as entries
+use Rattle.sum_core.specs.declared.node.Entries.TheVariants.{Inner}
 use Rattle.sum_core.specs.Nodes.{IsLawful, entries_of, contents, width, inner, child_value, items_in, items_of}
-use Rattle.sum_core.proofs.Levels.{contents-Inner, contents-Leaf, items-seen, items-leaf, lawful_below, inner-high}
+use Rattle.sum_core.proofs.Levels.{contents-Inner, items-seen, lawful_below, inner-high}
 use Rattle.sum_core.proofs.Children.{children-at}
-use Rattle.sum_tree.specs.inside.InPlace.{IsNode}
+use Rattle.sum_tree.specs.inside.InPlace.{IsNode, IsRefilled}
 use Rattle.sum_tree.specs.inside.Nodes.{AreChildren, items_below}
-use Rattle.sum_tree.proofs.Puts.{IsPlaced, below-child, can-below, can-same, refilled-same, refilled-below, items-two, length-splice, children-set, children-two, node-same, node-leaf, node-inner, leaf-few, same-items}
+use Rattle.sum_tree.proofs.Puts.{IsPlaced, below-child, can-below, can-same, refilled-same, refilled-below, items-two, length-splice, children-set, children-two, node-same, node-inner, same-items}
 use Rattle.sum_tree.proofs.in_place.+put.Goals as goal
 
 pub put_below-takes_two-requires-clause-leaf : goal.put_below-takes_two-requires-clause-leaf
@@ -24,7 +26,7 @@ put_below-takes_two-requires-clause-within g t c =
     let i = c.find_child-found.result.0 in
     let o = c.find_child-found.result.1 in
     let p : IsPlaced xs i o c.args.span.to = subst (λ l. IsPlaced l i o c.args.span.to) c.deref.ensures.value (record { index = f.index; offset_is = f.offset; low = f.low; high = f.high }) in
-    (below-child xs i c.args.span.from c.args.span.to o c.index-child.result.now c.args.items.items p c.index-child.ensures (omega arith) c.requires.can.order).within
+    (below-child xs i c.args.span.from c.args.span.to o c.index-child.result.now c.args.items.now.items p c.index-child.ensures (omega arith) c.requires.can.order).within
 
 pub put_below-refill_in_two-requires-clause-leaf : goal.put_below-refill_in_two-requires-clause-leaf
 put_below-refill_in_two-requires-clause-leaf g t c =
@@ -42,7 +44,7 @@ put_below-refill_in_two-requires-clause-can g t c =
     let i = c.find_child-found.result.0 in
     let o = c.find_child-found.result.1 in
     let p : IsPlaced xs i o c.args.span.to = subst (λ l. IsPlaced l i o c.args.span.to) c.deref.ensures.value (record { index = f.index; offset_is = f.offset; low = f.low; high = f.high }) in
-    can-below g.T.Item g.T.Sum.Summary g.met.T.Sum.Summary.laws xs i o c.args.span c.index-child.result.now c.args.items.items p c.index-child.ensures (omega arith) c.requires.can
+    can-below g.T.Item g.T.Sum.Summary g.met.T.Sum.Summary.laws xs i o c.args.span c.index-child.result.now c.args.items.now.items p c.index-child.ensures (omega arith) c.requires.can
 
 pub put_below-refill_in_two-requires-clause-enough : goal.put_below-refill_in_two-requires-clause-enough
 put_below-refill_in_two-requires-clause-enough g t c =
@@ -52,9 +54,9 @@ put_below-refill_in_two-requires-clause-enough g t c =
     let i = c.find_child-found.result.0 in
     let o = c.find_child-found.result.1 in
     let p : IsPlaced xs i o c.args.span.to = subst (λ l. IsPlaced l i o c.args.span.to) c.deref.ensures.value (record { index = f.index; offset_is = f.offset; low = f.low; high = f.high }) in
-    let b = below-child xs i c.args.span.from c.args.span.to o k c.args.items.items p c.index-child.ensures (omega arith) c.requires.can.order in
-    let n = length-splice (items_of k.node) (c.args.span.from - o) (c.args.span.to - o) c.args.items.items (omega (arith, c.requires.can.order)) b.within in
-    omega (arith, n, c.if-takes_two.ensures.enough refl, c.len-then-len-lt-MOST.ensures)
+    let b = below-child xs i c.args.span.from c.args.span.to o k c.args.items.now.items p c.index-child.ensures (omega arith) c.requires.can.order in
+    let n = length-splice (items_of k.node) (c.args.span.from - o) (c.args.span.to - o) c.args.items.now.items (omega (arith, c.requires.can.order)) b.within in
+    omega (arith, n, (c.if-takes_two.ensures.0 refl).0, c.len-then-len-lt-MOST.ensures)
 
 pub put_below-refill_in_two-requires-clause-room : goal.put_below-refill_in_two-requires-clause-room
 put_below-refill_in_two-requires-clause-room g t c =
@@ -64,9 +66,9 @@ put_below-refill_in_two-requires-clause-room g t c =
     let i = c.find_child-found.result.0 in
     let o = c.find_child-found.result.1 in
     let p : IsPlaced xs i o c.args.span.to = subst (λ l. IsPlaced l i o c.args.span.to) c.deref.ensures.value (record { index = f.index; offset_is = f.offset; low = f.low; high = f.high }) in
-    let b = below-child xs i c.args.span.from c.args.span.to o k c.args.items.items p c.index-child.ensures (omega arith) c.requires.can.order in
-    let n = length-splice (items_of k.node) (c.args.span.from - o) (c.args.span.to - o) c.args.items.items (omega (arith, c.requires.can.order)) b.within in
-    omega (arith, n, c.if-takes_two.ensures.room refl, c.len-then-len-lt-MOST.ensures)
+    let b = below-child xs i c.args.span.from c.args.span.to o k c.args.items.now.items p c.index-child.ensures (omega arith) c.requires.can.order in
+    let n = length-splice (items_of k.node) (c.args.span.from - o) (c.args.span.to - o) c.args.items.now.items (omega (arith, c.requires.can.order)) b.within in
+    omega (arith, n, (c.if-takes_two.ensures.0 refl).1, c.len-then-len-lt-MOST.ensures)
 
 pub put_below-put_in_child-requires : goal.put_below-put_in_child-requires
 put_below-put_in_child-requires g t c κs within =
@@ -84,7 +86,7 @@ put_below-put_in_child-requires g t c κs within =
           within.1,
           (
             children-at m.empty m.joined g.T.Item.summary (IsLawful m.empty m.joined g.T.Item.summary c.args.below) 6 xs i k p.index c.index_mut.ensures.value c.requires.children,
-            can-below g.T.Item m g.met.T.Sum.Summary.laws xs i o c.args.span k c.args.items.items p c.index_mut.ensures.value (omega arith) c.requires.can,
+            can-below g.T.Item m g.met.T.Sum.Summary.laws xs i o c.args.span k c.args.items.now.items p c.index_mut.ensures.value (omega arith) c.requires.can,
           ),
         ),
       ),
@@ -111,7 +113,7 @@ put_below-returns-in_ok-replace_by_two-clause-put g t c =
     let o = c.find_child-found.result.1 in
     let p : IsPlaced xs i o c.args.span.to = subst (λ l. IsPlaced l i o c.args.span.to) c.deref.ensures.value (record { index = f.index; offset_is = f.offset; low = f.low; high = f.high }) in
     ap items_below c.in_ok-replace_by_two.ensures.ok
-    ∙ items-two xs i o c.args.span c.args.items.items c.index-child.result.now c.in_ok-left.left c.in_ok-left.right p c.index-child.ensures (omega arith) c.requires.can.order c.in_ok-left.ensures.items
+    ∙ items-two xs i o c.args.span c.args.items.now.items c.index-child.result.now c.in_ok-left.left c.in_ok-left.right p c.index-child.ensures (omega arith) c.requires.can.order c.in_ok-left.ensures.items
 
 pub put_below-returns-else-below-eq0-clause-children : goal.put_below-returns-else-below-eq0-clause-children
 put_below-returns-else-below-eq0-clause-children g t c =
@@ -126,83 +128,7 @@ put_below-returns-else-below-eq0-clause-put g t c =
     let i = c.find_child-found.result.0 in
     let o = c.find_child-found.result.1 in
     let p : IsPlaced xs i o c.args.span.to = subst (λ l. IsPlaced l i o c.args.span.to) c.deref.ensures.value (record { index = f.index; offset_is = f.offset; low = f.low; high = f.high }) in
-    refilled-below xs i o c.args.span c.args.items.items c.args.items c.index_mut.result.now c.put_in_child.new.child c.put_in_child.result p c.index_mut.ensures.value (omega arith) c.requires.can.order c.put_in_child.ensures.put
-
-pub put_in_entries-put_in_leaf-put-requires-clause-room : goal.put_in_entries-put_in_leaf-put-requires-clause-room
-put_in_entries-put_in_leaf-put-requires-clause-room g t c =
-    leaf-few g.T.Item g.T.Sum.Summary c.args.height c.args.entries.now c.in-Leaf.leaf.items c.requires.node.lawful (ap contents (sym c.replace.ensures.value ∙ c.in-Leaf.is) ∙ contents-Leaf c.in-Leaf.leaf)
-
-pub put_in_entries-put_in_leaf-put-requires-clause-wide : goal.put_in_entries-put_in_leaf-put-requires-clause-wide
-put_in_entries-put_in_leaf-put-requires-clause-wide g t c =
-    omega (arith, c.requires.node.wide, ap width (ap contents (sym c.replace.ensures.value ∙ c.in-Leaf.is) ∙ contents-Leaf c.in-Leaf.leaf))
-
-pub put_in_entries-put_in_leaf-put-requires-clause-can : goal.put_in_entries-put_in_leaf-put-requires-clause-can
-put_in_entries-put_in_leaf-put-requires-clause-can g t c =
-    let e = c.args.entries.now in
-    let xs = c.in-Leaf.leaf.items in
-    let is = ap contents (sym c.replace.ensures.value ∙ c.in-Leaf.is) ∙ contents-Leaf c.in-Leaf.leaf in
-    can-same g.T.Item g.T.Sum.Summary (items_in e) xs c.args.span c.args.items.items (items-leaf e xs is) c.requires.can
-
-pub put_in_entries-put_in_children-put-requires : goal.put_in_entries-put_in_children-put-requires
-put_in_entries-put_in_children-put-requires g t c κs within =
-    let m = g.T.Sum.Summary in
-    let e = c.args.entries.now in
-    let xs = c.in-Inner.children.items in
-    let is : contents e ≡ inner (map child_value xs) = ap contents (sym c.replace.ensures.value ∙ c.in-Inner.is) ∙ contents-Inner c.in-Inner.children in
-    let high = inner-high m.empty m.joined g.T.Item.summary c.args.height e (map child_value xs) c.requires.node.lawful is in
-    let below = lawful_below m.empty m.joined g.T.Item.summary c.args.height e (map child_value xs) c.requires.node.lawful is in (
-      omega (arith, high),
-      (
-        within.0,
-        (
-          within.1,
-          (
-            high,
-            (
-              omega (arith, c.requires.node.some high, c.requires.node.wide, ap width is, length-map xs child_value),
-              (
-                omega (arith, below.0, length-map xs child_value),
-                (
-                  below.1,
-                  can-same g.T.Item m (items_in e) (items_below xs) c.args.span c.args.items.items (items-seen e (map child_value xs) is) c.requires.can,
-                ),
-              ),
-            ),
-          ),
-        ),
-      ),
-    )
-
-pub put_in_entries-returns-in-Leaf-clause-node : goal.put_in_entries-returns-in-Leaf-clause-node
-put_in_entries-returns-in-Leaf-clause-node g t c =
-    node-leaf g.T.Item g.T.Sum.Summary c.args.height c.args.least c.args.entries.now _ c.in-Leaf.leaf.items c.put_in_leaf-put.new.leaf.items c.requires.node.lawful
-    (ap contents (sym c.replace.ensures.value ∙ c.in-Leaf.is) ∙ contents-Leaf c.in-Leaf.leaf)
-    (contents-Leaf c.put_in_leaf-put.new.leaf) c.put_in_leaf-put.ensures.room c.put_in_leaf-put.ensures.wide
-
-pub put_in_entries-returns-in-Leaf-clause-put : goal.put_in_entries-returns-in-Leaf-clause-put
-put_in_entries-returns-in-Leaf-clause-put g t c =
-    let e = c.args.entries.now in
-    let xs = c.in-Leaf.leaf.items in
-    let ys = c.put_in_leaf-put.new.leaf.items in
-    let is = ap contents (sym c.replace.ensures.value ∙ c.in-Leaf.is) ∙ contents-Leaf c.in-Leaf.leaf in
-    refilled-same g.T.Item g.T.Sum.Summary xs (items_in e) c.args.span c.args.items.items c.args.items ys _ c.put_in_leaf-put.result (sym (items-leaf e xs is)) (sym (items-leaf _ ys (contents-Leaf c.put_in_leaf-put.new.leaf))) c.put_in_leaf-put.ensures.put
-
-pub put_in_entries-returns-in-Inner-clause-node : goal.put_in_entries-returns-in-Inner-clause-node
-put_in_entries-returns-in-Inner-clause-node g t c =
-    let m = g.T.Sum.Summary in
-    let e = c.args.entries.now in
-    let xs = c.in-Inner.children.items in
-    let is : contents e ≡ inner (map child_value xs) = ap contents (sym c.replace.ensures.value ∙ c.in-Inner.is) ∙ contents-Inner c.in-Inner.children in
-    let high = inner-high m.empty m.joined g.T.Item.summary c.args.height e (map child_value xs) c.requires.node.lawful is in
-    node-inner g.T.Item m c.args.height c.args.least e _ xs c.put_in_children-put.new.children.items high c.requires.node is (contents-Inner c.put_in_children-put.new.children) c.put_in_children-put.ensures.more c.put_in_children-put.ensures.room c.put_in_children-put.ensures.children
-
-pub put_in_entries-returns-in-Inner-clause-put : goal.put_in_entries-returns-in-Inner-clause-put
-put_in_entries-returns-in-Inner-clause-put g t c =
-    let e = c.args.entries.now in
-    let xs = c.in-Inner.children.items in
-    let ys = c.put_in_children-put.new.children.items in
-    let is : contents e ≡ inner (map child_value xs) = ap contents (sym c.replace.ensures.value ∙ c.in-Inner.is) ∙ contents-Inner c.in-Inner.children in
-    refilled-same g.T.Item g.T.Sum.Summary (items_below xs) (items_in e) c.args.span c.args.items.items c.args.items (items_below ys) _ c.put_in_children-put.result (sym (items-seen e (map child_value xs) is)) (sym (items-seen _ (map child_value ys) (contents-Inner c.put_in_children-put.new.children))) c.put_in_children-put.ensures.put
+    refilled-below xs i o c.args.span c.args.items.now c.put_in_child.new.items c.index_mut.result.now c.put_in_child.new.child c.put_in_child.result p c.index_mut.ensures.value (omega arith) c.requires.can.order c.put_in_child.ensures.put
 
 pub put_in_node-put_in_entries-requires : goal.put_in_node-put_in_entries-requires
 put_in_node-put_in_entries-requires g t c κs within =
@@ -216,7 +142,7 @@ put_in_node-put_in_entries-requires g t c κs within =
           within.1,
           (
             node-same g.T.Item g.T.Sum.Summary c.args.height c.args.least n e same c.requires.node,
-            can-same g.T.Item g.T.Sum.Summary (items_in n) (items_in e) c.args.span c.args.items.items (same-items n e same) c.requires.can,
+            can-same g.T.Item g.T.Sum.Summary (items_in n) (items_in e) c.args.span c.args.items.now.items (same-items n e same) c.requires.can,
           ),
         ),
       ),
@@ -234,7 +160,7 @@ put_in_node-returns-in-Ok-clause-put g t c =
     let held : w ≡ entries_of (c.alter.follows.lender w) = sym (c.alter.follows.holds w (ap is_ok c.in-Ok.is)) in
     let e = c.in-Ok.entries.now in
     let n = entries_of c.args.node.now in
-    refilled-same g.T.Item g.T.Sum.Summary (items_in e) (items_in n) c.args.span c.args.items.items c.args.items (items_in w) _ c.put_in_entries.result (same-items e n c.in-Ok.ensures.value) (ap items_in held) c.put_in_entries.ensures.put
+    refilled-same g.T.Item g.T.Sum.Summary (items_in e) (items_in n) c.args.span c.args.items.now c.put_in_entries.new.items (items_in w) _ c.put_in_entries.result (same-items e n c.in-Ok.ensures.value) (ap items_in held) c.put_in_entries.ensures.put
 
 pub put_in_node-returns-in-Err-clause-node : goal.put_in_node-returns-in-Err-clause-node
 put_in_node-returns-in-Err-clause-node g t c =
@@ -245,3 +171,57 @@ pub put_in_node-returns-in-Err-clause-put : goal.put_in_node-returns-in-Err-clau
 put_in_node-returns-in-Err-clause-put g t c =
     let same = rw c.in-Err.is at c.alter.follows.holds-at-none in
     (same-items (entries_of c.alter.follows.lender-at-none) (entries_of c.args.node.now) same, tt)
+
+pub put_in_entries-put_in_children-requires : goal.put_in_entries-put_in_children-requires
+put_in_entries-put_in_children-requires g t c κs within =
+    let m = g.T.Sum.Summary in
+    let e = c.args.entries.now in
+    let xs = c.in-Inner.children.items in
+    let is : contents e ≡ inner (map child_value xs) = ap contents c.in-Inner.is ∙ contents-Inner c.in-Inner.children in
+    let high = inner-high m.empty m.joined g.T.Item.summary c.args.height e (map child_value xs) c.requires.node.lawful is in
+    let below = lawful_below m.empty m.joined g.T.Item.summary c.args.height e (map child_value xs) c.requires.node.lawful is in
+    rw c.in-Inner.children-is (
+      omega (arith, high),
+      (
+        within.0,
+        (
+          within.1,
+          (
+            high,
+            (
+              omega (arith, c.requires.node.some high, c.requires.node.wide, ap width is, length-map xs child_value),
+              (
+                omega (arith, below.0, length-map xs child_value),
+                (
+                  below.1,
+                  can-same g.T.Item m (items_in e) (items_below xs) c.args.span c.args.items.now.items (items-seen e (map child_value xs) is) c.requires.can,
+                ),
+              ),
+            ),
+          ),
+        ),
+      ),
+    )
+
+-- What was lent of the entries is seen in them again where the checker's own way to read a recursive type is unfolded.
+pub put_in_entries-returns-in-Inner-clause-node : goal.put_in_entries-returns-in-Inner-clause-node
+unfolding entries.out-Entries denote.Hole.Carrier.out
+put_in_entries-returns-in-Inner-clause-node g t c =
+    let m = g.T.Sum.Summary in
+    let e = c.args.entries.now in
+    let xs = c.in-Inner.children.items in
+    let ys = c.put_in_children.new.children in
+    let is : contents e ≡ inner (map child_value xs) = ap contents c.in-Inner.is ∙ contents-Inner c.in-Inner.children in
+    let high = inner-high m.empty m.joined g.T.Item.summary c.args.height e (map child_value xs) c.requires.node.lawful is in
+    let more : length xs ≤ length ys.items = subst (λ v. length v.items ≤ length ys.items) c.in-Inner.children-is c.put_in_children.ensures.more in
+    rw c.in-Inner.is (node-inner g.T.Item m c.args.height c.args.least e (Inner ys) xs ys.items high c.requires.node is (contents-Inner ys) more c.put_in_children.ensures.room c.put_in_children.ensures.children)
+
+pub put_in_entries-returns-in-Inner-clause-put : goal.put_in_entries-returns-in-Inner-clause-put
+unfolding entries.out-Entries denote.Hole.Carrier.out
+put_in_entries-returns-in-Inner-clause-put g t c =
+    let old = c.in-Inner.children in
+    let new = c.put_in_children.new.children in
+    let put = subst (λ v. IsRefilled g.T.Item g.T.Sum.Summary (items_below v.items) c.args.span c.args.items.now c.put_in_children.new.items (items_below new.items) c.put_in_children.result) c.in-Inner.children-is c.put_in_children.ensures.put in
+    rw c.in-Inner.is
+    (refilled-same g.T.Item g.T.Sum.Summary (items_below old.items) (items_in (Inner old)) c.args.span c.args.items.now c.put_in_children.new.items (items_below new.items) (items_in (Inner new)) c.put_in_children.result
+    (sym (items-seen (Inner old) (map child_value old.items) (contents-Inner old))) (sym (items-seen (Inner new) (map child_value new.items) (contents-Inner new))) put)

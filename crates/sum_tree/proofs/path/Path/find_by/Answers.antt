@@ -16,7 +16,7 @@ returns-in-None-clause-first g c =
     let is : n ≡ length items = c.count.ensures ∙ ap (λ r. length (items_seen r)) c.in-None.ensures.root in
     record {
       within = omega arith;
-      short = λ some. subst (λ x. IsShort c.args.bias x (number_to m.empty m.joined g.T.Item.summary g.M.Measure.number items n)) c.target.ensures
+      short = λ some. subst (λ x. IsShort c.args.bias x (number_to m.empty m.joined g.T.Item.summary g.M.Measure.number items n)) c.target.ensures.at
           (subst (λ k. IsShort c.args.bias t.at (number_to m.empty m.joined g.T.Item.summary g.M.Measure.number items k)) (sym is)
           (short-from_test c.args.bias t (measure_to m.empty m.joined g.T.Item.summary (by_sum g.M.Measure.number) items (length items)) (c.in-None.ensures.found (omega arith))));
       reaching = λ lt. absurd (omega arith);
@@ -38,8 +38,8 @@ returns-clause-first g c =
     let within = f.item.within in
     record {
       within = omega arith;
-      short = λ some. subst (λ x. IsShort c.args.bias x (number_to m.empty m.joined g.T.Item.summary g.M.Measure.number items n)) c.target.ensures
+      short = λ some. subst (λ x. IsShort c.args.bias x (number_to m.empty m.joined g.T.Item.summary g.M.Measure.number items n)) c.target.ensures.at
           (subst (λ u. IsShort c.args.bias t.at u.at) f.item.start_is (short-from_test c.args.bias t c.in-Some.found.start (f.not_before some)));
-      reaching = λ lt. subst (λ x. IsReaching c.args.bias x (number_to m.empty m.joined g.T.Item.summary g.M.Measure.number items (n + 1))) c.target.ensures
+      reaching = λ lt. subst (λ x. IsReaching c.args.bias x (number_to m.empty m.joined g.T.Item.summary g.M.Measure.number items (n + 1))) c.target.ensures.at
           (subst (λ u. IsReaching c.args.bias t.at u.at) f.item.end_is (reaching-from_test c.args.bias t c.in-Some.found.end f.met));
     }
