@@ -2,6 +2,7 @@
 use Rattle.std.proofs.Common.{◌≡◌, ℕ, ◌+◌, ◌*◌, ◌≤◌, sym, ap, ◌∙◌, arith}
 use Rattle.std.proofs.Math.Nat.{add-mul, mul_assoc, mul_comm, one-mul}
 use Rattle.std.proofs.lemmas.Nat.{mul-le}
+use Rattle.splice_tree.specs.Bounds.{splicing}
 
 -- so many of k + 1 things at each of h + 1 levels, with the numbers in either order
 module _ (n k h : ℕ) where
@@ -21,7 +22,7 @@ pub long : (k h : ℕ) → k + 1 ≤ (k + 1) * (h + 1)
 long k h = let l = mul-le (k + 1) 1 (k + 1) (h + 1) (omega arith) (omega arith) in omega (arith, l)
 
 -- k folds are found, and m splices put in place
-pub rejoined-steps : (k m h a b c d e : ℕ) → m ≤ k + 1 → b ≤ a + 2 * (h + 1) → c ≤ b + 82 * (h + 1) * (k + 1) → d ≤ c + (h + 1) → e ≤ d + (161 * h + (88 + 4 * (m + 2))) → e ≤ a + 250 * (k + 1) * (h + 1)
+pub rejoined-steps : (k m h a b c d e : ℕ) → m ≤ k + 1 → b ≤ a + 2 * (h + 1) → c ≤ b + 82 * (h + 1) * (k + 1) → d ≤ c + (h + 1) → e ≤ d + splicing m h → e ≤ a + 250 * (k + 1) * (h + 1)
 rejoined-steps k m h a b c d e few first second third fourth =
     omega (arith, few, first, second, third, fourth, whole 250 k h, turned 82 k h, high k h, long k h)
 

@@ -12,11 +12,12 @@ use Rattle.cell_units.proofs.SortedLists.{count-cons}
 use Rattle.mark_tree.specs.declared.mark.Mark.{Mark}
 use Rattle.mark_tree.specs.Marks.{is_met}
 use Rattle.shifted_lists.specs.Leads.{reach_of}
+use Rattle.splice_tree.specs.Bounds.{splicing}
 use Rattle.inlay_map.specs.Bounds.{met}
 use Rattle.inlay_map.specs.Splices.{inlay_of}
 use Rattle.inlay_map.proofs.Spread.{IsSpread}
 
-pub respliced-steps : (k h a o b c d : ℕ) → o ≤ a + (h + 1) → b ≤ o + k * (2 * (h + 1)) → c ≤ b + 2 * (h + 1) → d ≤ c + (161 * h + (88 + 4 * (k + 2))) → d ≤ a + 164 * (k + 1) * (h + 1)
+pub respliced-steps : (k h a o b c d : ℕ) → o ≤ a + (h + 1) → b ≤ o + k * (2 * (h + 1)) → c ≤ b + 2 * (h + 1) → d ≤ c + splicing k h → d ≤ a + 164 * (k + 1) * (h + 1)
 respliced-steps k h a o b c d zeroth first second third =
     let x = h + 1 in
     let p = (k + 1) * x in

@@ -7,6 +7,7 @@ use Rattle.std.proofs.lemmas.Bool.Decides.{nat_tests}
 use Rattle.std.proofs.lemmas.Option.{get_or_from_slice_get, slice_get_within}
 use Rattle.cell_units.specs.declared.place.Shift.{Shift}
 use Rattle.cell_units.specs.Sorting.{insert_by}
+use Rattle.mark_tree.specs.Bounds.{splicing, taking}
 use Rattle.mark_tree.specs.declared.entry.Placed.{Placed}
 use Rattle.mark_tree.specs.Entries.{end_at, IsSpaced, IsCodable, shifted, spliced}
 use Rattle.mark_tree.specs.declared.key.Key.{Key}
@@ -175,11 +176,11 @@ module _ {P : Type 0} where
     distinct = λ n. omega (arith, count-filter (lacks_placed_id id) (has_placed_id n) ps, o.distinct n);
   }
 
-pub put-steps : (h s₀ s₁ s₂ : ℕ) → s₁ ≤ s₀ + 34 * (h + 1) → s₂ ≤ s₁ + (162 * h + (89 + 4 * (1 + 2))) → s₂ ≤ s₀ + 196 * (h + 1)
+pub put-steps : (h s₀ s₁ s₂ : ℕ) → s₁ ≤ s₀ + 34 * (h + 1) → s₂ ≤ s₁ + splicing 1 h → s₂ ≤ s₀ + 196 * (h + 1)
 put-steps h s₀ s₁ s₂ a b = omega arith
 
 pub add-steps : (h n s₀ s₁ s₂ : ℕ) → 5 * s₁ ≤ 5 * s₀ + (n + 5) → s₂ ≤ s₁ + 196 * (h + 1) → 5 * s₂ ≤ 5 * s₀ + ((n + 1) + 5 * (200 * (h + 1)))
 add-steps h n s₀ s₁ s₂ a b = omega arith
 
-pub take-steps : (h n s₀ s₁ s₂ : ℕ) → 5 * s₁ ≤ 5 * s₀ + (n + 5) → s₂ ≤ s₁ + (163 * h + 98) → 5 * s₂ ≤ 5 * s₀ + (n + 5 * (200 * (h + 1)))
+pub take-steps : (h n s₀ s₁ s₂ : ℕ) → 5 * s₁ ≤ 5 * s₀ + (n + 5) → s₂ ≤ s₁ + taking h → 5 * s₂ ≤ 5 * s₀ + (n + 5 * (200 * (h + 1)))
 take-steps h n s₀ s₁ s₂ a b = omega arith

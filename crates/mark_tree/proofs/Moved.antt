@@ -9,6 +9,7 @@ use Rattle.cell_units.specs.declared.place.Shift.{Shift}
 use Rattle.cell_units.specs.declared.place.Bias.{Bias}
 use Rattle.cell_units.specs.Anchor.{move, is_left}
 use Rattle.cell_units.specs.Sorting.{sort_by}
+use Rattle.mark_tree.specs.Bounds.{splicing}
 use Rattle.mark_tree.specs.declared.entry.Placed.{Placed}
 use Rattle.mark_tree.specs.Entries.{end_at, IsCodable, shifted, spliced}
 use Rattle.mark_tree.specs.Order.{placed_le, has_placed_id, meets_offset, move_placed, moved_placed, IsOrdered}
@@ -213,5 +214,5 @@ module _ {P : Type 0} where
         met [] x y = tt
         met (q ∷ qs) x y = (both s.start q.offset s.end x.0 y.0, met qs x.1 y.1)
 
-pub move-steps : (h k m s₀ s₁ s₂ s₃ : ℕ) → k ≤ m → s₁ ≤ s₀ + 2 * (h + 1) → s₂ ≤ s₁ + (h + 1) * k → s₃ ≤ s₂ + (162 * h + (89 + 4 * (k + 2))) → s₃ ≤ s₀ + 170 * (h + 1) * (m + 1)
+pub move-steps : (h k m s₀ s₁ s₂ s₃ : ℕ) → k ≤ m → s₁ ≤ s₀ + 2 * (h + 1) → s₂ ≤ s₁ + (h + 1) * k → s₃ ≤ s₂ + splicing k h → s₃ ≤ s₀ + 170 * (h + 1) * (m + 1)
 move-steps h k m s₀ s₁ s₂ s₃ le a b c = omega (arith, mul-le-mul_left (h + 1) le)

@@ -29,11 +29,11 @@ pub record ArePlaced {P : Type 0} (s : Shift) (first last : ℕ) (old : List (Pl
   pub below : All (λ p. p.offset < s.end + 1) (take last old)
   pub above : All (λ p. s.end + 1 ≤ p.offset) (drop last old)
 
-pub placed : {P : Type 0} (s : Shift) (first last : ℕ) (old : List (Placed P)) → s.start ≤ s.end → AreRanges old → All (IsFittingMoved s) old → first ≤ length old → All (λ p. p.offset < s.start) (take first old) → All (λ p. s.start ≤ p.offset) (drop first old)
+pub placed : {P : Type 0} (s : Shift) (first last : ℕ) (old : List (Placed P)) → AreRanges old → All (IsFittingMoved s) old → first ≤ length old → All (λ p. p.offset < s.start) (take first old) → All (λ p. s.start ≤ p.offset) (drop first old)
     → last ≤ length old → All (λ p. p.offset < s.end + 1) (take last old) → All (λ p. s.end + 1 ≤ p.offset) (drop last old) → ArePlaced s first last old
-placed s first last old order ranges fits within before from within' below above = record {
-  split = record { order = order; ranges = ranges; within = within; before = before; from = from; fits = fits };
-  order = places-in_order s.start s.end old first last order within before above;
+placed s first last old ranges fits within before from within' below above = record {
+  split = record { ranges = ranges; within = within; before = before; from = from; fits = fits };
+  order = places-in_order s.start s.end old first last s.ordered within before above;
   within = within';
   below = below;
   above = above;
@@ -65,16 +65,16 @@ module _ {P : Type 0} (s : Shift) (first last : ℕ) (old : List (Placed P)) (a 
     go (q ∷ qs) a b = ((λ e. let in' = move-within q.offset Right s.start s.end s.count a.0 (omega (arith, b.0)) in (in'.0, omega (arith, in'.1))), go qs a.1 b.1)
 
   left-back : all_left_over s (drop last old) ≡ map (shifted s) (drop last old)
-  left-back = left-behind s (drop last old) a.split.order behind-ranges behind-starts
+  left-back = left-behind s (drop last old) s.ordered behind-ranges behind-starts
 
   back-above : Every (λ p. s.start + s.count + 1 ≤ p.offset) (all_left_over s (drop last old))
-  back-above = subst (Every (λ p. s.start + s.count + 1 ≤ p.offset)) (sym left-back) (shifted-above s (drop last old) a.split.order behind-starts)
+  back-above = subst (Every (λ p. s.start + s.count + 1 ≤ p.offset)) (sym left-back) (shifted-above s (drop last old) s.ordered behind-starts)
 
   back-sorted : moved_extents s (drop last old) ≡ map (shifted s) (drop last old)
   back-sorted =
       ap (sort_by placed_le) left-back
       ∙ sort-sorted placed_le (map (shifted s) (drop last old))
-      (shifted-sorted s (drop last old) a.split.order behind-starts
+      (shifted-sorted s (drop last old) s.ordered behind-starts
       (sorted-right placed_le (run first last old) (drop last old) (sorted-right placed_le (take first old) (run first last old ++ drop last old) (subst (IsSorted placed_le) (three-parts old first last a.order) (sorted-placed old a.split.ranges.ordered.sorted)))))
 
   parts : moved_extents s old ≡ moved_extents s (take first old) ++ (moved_extents s (run first last old) ++ map (shifted s) (drop last old))
@@ -100,8 +100,8 @@ module _ {P : Type 0} (s : Shift) (first last : ℕ) (old : List (Placed P)) (a 
       let back = drop last old in
       ap (emptied_ids s) (three-parts old first last a.order)
       ∙ gone-append s (take first old) (mid ++ back)
-      ∙ (λ i. gone-none s (take first old) (all-kept-before s (take first old) a.split.order before-ranges before-starts) i ++ gone-append s mid back i)
-      ∙ ap (λ l. emptied_ids s mid ++ l) (gone-none s back (all-kept-behind s back a.split.order behind-ranges behind-starts))
+      ∙ (λ i. gone-none s (take first old) (all-kept-before s (take first old) s.ordered before-ranges before-starts) i ++ gone-append s mid back i)
+      ∙ ap (λ l. emptied_ids s mid ++ l) (gone-none s back (all-kept-behind s back s.ordered behind-ranges behind-starts))
       ∙ append-none (emptied_ids s mid)
 
   -- each that starts before the replacement and reaches it is met, and each that starts in it
@@ -126,7 +126,7 @@ module _ {P : Type 0} (s : Shift) (first last : ℕ) (old : List (Placed P)) (a 
   -- the same, once those before it have been moved
   module _ (ps : List (Placed P)) (is : ps ≡ moved_extents s (take first old) ++ drop first old) where
     moved-count : length (moved_extents s (take first old)) ≡ first
-    moved-count = let in' = a.split.within in omega (arith, length-moved_before s (take first old) a.split.order before-ranges before-starts, length-take first old)
+    moved-count = let in' = a.split.within in omega (arith, length-moved_before s (take first old) s.ordered before-ranges before-starts, length-take first old)
 
     front-same : take first ps ≡ moved_extents s (take first old)
     front-same = ap (take first) is ∙ take_at (moved_extents s (take first old)) (drop first old) first moved-count

@@ -41,7 +41,7 @@ module _ {P : Type 0} where
       let before = every-run (λ p. p.offset < s.start) old at first first low (omega arith) f.before in
       let ranges = every-run IsRange old at first first low (omega arith) (All-take IsRange first old f.ranges.each) in
       let stays : moved_extents s mine ≡ mine =
-      ap (sort_by placed_le) (left-short s mine f.order ranges before short) ∙ sort-sorted placed_le mine (sorted-run placed_le old at first low (sorted-placed old f.ranges.ordered.sorted)) in
+      ap (sort_by placed_le) (left-short s mine s.ordered ranges before short) ∙ sort-sorted placed_le mine (sorted-run placed_le old at first low (sorted-placed old f.ranges.ordered.sorted)) in
       three-parts ps at first low
       ∙ sym (append_assoc (take at ps) (run at first ps) (drop first ps))
       ∙ ap (λ l. (take at ps ++ l) ++ drop first ps) (here ∙ sym stays)
@@ -99,10 +99,10 @@ module _ {P : Type 0} where
           omega (arith, ap (count_by (has_placed_id id)) here-same, count-run (has_placed_id id) old from to (omega arith), f.ranges.ordered.distinct id)
 
       pub here-codable : IsCodable ps → IsCodable (spliced from to (moved_extents s (run from to ps)) no_shift ps)
-      here-codable c = codable-group s from to ps f.order c g here-ranges here-before here-fits
+      here-codable c = codable-group s from to ps s.ordered c g here-ranges here-before here-fits
 
       size : length (moved_extents s (run from to ps)) ≡ to - from
-      size = length-moved_before s (run from to ps) f.order here-ranges here-before ∙ length-run ps from to g.within
+      size = length-moved_before s (run from to ps) s.ordered here-ranges here-before ∙ length-run ps from to g.within
 
       here-reaching : Every (λ p. s.start ≤ end_at p) (run from to ps)
       here-reaching =
@@ -138,7 +138,7 @@ module _ {P : Type 0} where
           let before = every-append (λ p. p.offset < s.start) front here front-before here-before in
           ap (moved_extents s) whole
           ∙ moved-append s (g.start + 1) (front ++ here) rest (offsets-before (λ n. n < g.start + 1) s (front ++ here) before below) (offsets-before (λ n. g.start + 1 ≤ n) s rest rest-before behind)
-          ∙ ap (λ l. l ++ moved_extents s rest) (moved-front s front here f.order front-ranges here-ranges front-before front-short here-before here-reaching up)
+          ∙ ap (λ l. l ++ moved_extents s rest) (moved-front s front here s.ordered front-ranges here-ranges front-before front-short here-before here-reaching up)
           ∙ append_assoc front (moved_extents s here) (moved_extents s rest)
         where
           front-below : (o : ℕ) (us vs : List (Placed P)) → 1 ≤ length vs → Every (λ p. p.offset ≡ o) vs → IsSorted placed_le (us ++ vs) → Every (λ p. p.offset < o + 1) us
@@ -194,7 +194,7 @@ module _ {P : Type 0} where
 
             met : (qs : List (Placed P)) → Every (λ p. p.offset < s.start) qs → Every (λ p. s.start ≤ end_at p) qs → Every (λ p. meets_extent s p ≡ true) qs
             met [] a b = tt
-            met (q ∷ qs) a b = (both q.offset (end_at q) a.0 b.0 f.order, met qs a.1 b.1)
+            met (q ∷ qs) a b = (both q.offset (end_at q) a.0 b.0 s.ordered, met qs a.1 b.1)
 
 -- A round's steps: of finding, of copying and of splicing.
 pub round-steps : (h k n n₀ s₀ s₁ s₂ s₃ s₄ : ℕ) → 1 ≤ k → s₁ + 250 * (h + 1) * n₀ ≤ s₀ → s₂ ≤ s₁ + 81 * (h + 1) → s₃ ≤ s₂ + 2 * (h + 1) → s₄ ≤ s₃ + (162 * (h + 1) + 5 * (h + 1) * k) → k + n ≤ n₀ → s₄ + 250 * (h + 1) * n ≤ s₀

@@ -5,6 +5,7 @@ use Rattle.std.proofs.lemmas.List.Elements.{All-nil, All-cons, All-head, All-tai
 use Rattle.std.proofs.lemmas.Bool.Decides.{nat_tests}
 use Rattle.cell_units.specs.declared.place.Shift.{Shift}
 use Rattle.cell_units.specs.Sorting.{sort_by}
+use Rattle.mark_tree.specs.Bounds.{splicing}
 use Rattle.mark_tree.specs.declared.entry.Placed.{Placed}
 use Rattle.mark_tree.specs.declared.mark.RangeMark.{RangeMark}
 use Rattle.mark_tree.specs.Entries.{end_at, IsCodable}
@@ -122,5 +123,5 @@ module _ {P : Type 0} where
       All-cons (IsFittingMoved s) p ps (All-head (λ r. (r.start < 2 ^ 32) × (r.end < 2 ^ 32)) (move_range s (range_of p)) (map (move_range s) (map range_of ps)) f)
       (fits-range s ps (All-tail (λ r. (r.start < 2 ^ 32) × (r.end < 2 ^ 32)) (move_range s (range_of p)) (map (move_range s) (map range_of ps)) f))
 
-pub run-steps : (h k n s₀ s₁ s₂ : ℕ) → n ≤ k → s₁ ≤ s₀ + (h + 1) * k → s₂ ≤ s₁ + (162 * h + (89 + 4 * (n + 2))) → s₂ ≤ s₀ + (162 * (h + 1) + 5 * (h + 1) * k)
+pub run-steps : (h k n s₀ s₁ s₂ : ℕ) → n ≤ k → s₁ ≤ s₀ + (h + 1) * k → s₂ ≤ s₁ + splicing n h → s₂ ≤ s₀ + (162 * (h + 1) + 5 * (h + 1) * k)
 run-steps h k n s₀ s₁ s₂ few a b = omega arith

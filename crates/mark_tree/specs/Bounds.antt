@@ -1,6 +1,7 @@
 -- How many steps calls on marks and ranges take at most. Like those of sum trees, they are costs of a height h that the tree
 -- can't exceed.
 use Rattle.std.specs.Prelude.{ℕ, ◌+◌, ◌*◌, ◌^◌, ◌<◌, ◌≤◌}
+use Rattle.sum_tree.specs.Bounds.{replacing, way}
 
 -- A call by an id may look at every entry of a list of n, on a fifth as many nodes, and takes at most `cost h` steps beside.
 abbrev pub SearchesAndTakes : (ℕ → ℕ) → ℕ → ℕ → ℕ → Type 0
@@ -16,11 +17,11 @@ halving h = 34 * (h + 1)
 
 -- k things in the place of others: two ways down to what stands before and behind, and one replacement of k + 1 entries.
 abbrev pub splicing : ℕ → ℕ → ℕ
-splicing k h = 162 * h + (89 + 4 * (k + 2))
+splicing k h = 2 * way h + replacing (k + 1) h
 
 -- One thing taken off: a way down to it, and what is behind it is spliced.
 abbrev pub taking : ℕ → ℕ
-taking h = 163 * h + 98
+taking h = way h + splicing 0 h
 
 -- One thing put in order: its place is found and its neighbours are spliced.
 abbrev pub adding : ℕ → ℕ

@@ -70,7 +70,6 @@ module _ {P : Type 0} where
 
   -- Ranges that fit after the replacement, of which those before place `first` start before it, and no others.
   pub record AreSplit (s : Shift) (first : ℕ) (ps : List (Placed P)) : Type 0 where
-    pub order : s.start ≤ s.end
     pub ranges : AreRanges ps
     pub within : first ≤ length ps
     pub before : All (λ p. p.offset < s.start) (take first ps)

@@ -250,9 +250,14 @@ impl<P: Load> MarkTree<P> {
 
     /// Moves each mark as the replacement does, and sorts the marks again.
     pub fn apply(&mut self, alloc: Global, shift: Shift, steps: &mut Steps) -> Result<(), NoMemory>
+        // Each offset is a u32 after the replacement.
         requires fits { All (λ m. m.offset < 2 ^ 32) (map (move_mark shift) self.old) }
+
+        // What is there after it.
         ensures ok { OnOk result (self.new ≡ moved_marks shift self.old) }
         ensures err { OnErr result (self.new ≡ self.old) }
+
+        // The work, by the number of marks that the replacement meets.
         ensures counted { steps.old ≤ steps.new }
         ensures steps { let met = count_by (is_met shift) self.old in
             TakesAtMost (moving met) (length self.old) steps.old steps.new }

@@ -54,10 +54,15 @@ impl<P: Load> Spaced<P> {
         end: u32,
         steps: &mut Steps,
     ) -> Result<Option<Met>, NoMemory>
+        // A place in the list or at its end.
         requires within { at ≤ length self.now }
+
+        // The first range that is met from there on, and its place in the list, or none.
         ensures met { IfOk result (IsNextMet start end at self.now) }
         ensures place { IfOk result (λ m.
             IfSome m (λ n. (at ≤ n.place) × (n.place < length self.now))) }
+
+        // The work.
         ensures counted { steps.old ≤ steps.new }
         ensures steps { TakesAtMost next_meeting (length self.now) steps.old steps.new }
     {

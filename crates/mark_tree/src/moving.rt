@@ -57,12 +57,19 @@ fn moved_all<P: Load>(
 impl<P: Load> Spaced<P> {
     /// The places of the things that the replacement meets.
     pub(crate) fn places_met(&self, shift: &Shift, steps: &mut Steps) -> Places
+        // The places stand in the list.
         ensures order { result.from ≤ result.to }
         ensures within { result.to ≤ length self.now }
+
+        // Before `from` each offset is less than the replacement's start, and from there on none is.
         ensures before { All (λ p. p.offset < shift.now.start) (take result.from self.now) }
         ensures from { All (λ p. shift.now.start ≤ p.offset) (drop result.from self.now) }
+
+        // Before `to` each offset is at most the replacement's end, and from there on none is.
         ensures upto { All (λ p. p.offset < shift.now.end + 1) (take result.to self.now) }
         ensures behind { All (λ p. shift.now.end + 1 ≤ p.offset) (drop result.to self.now) }
+
+        // The work, at most two ways down the tree.
         ensures counted { steps.old ≤ steps.new }
         ensures steps { TakesAtMost both_ends (length self.now) steps.old steps.new }
     {
@@ -76,11 +83,16 @@ impl<P: Load> Spaced<P> {
         shift: &Shift,
         steps: &mut Steps,
     ) -> Result<(), NoMemory>
+        // The list is in order, and each end is a u32 after the replacement.
         requires ordered { IsOrdered self.old }
         requires fits { All (λ p. end_at p < 2 ^ 32) (map (move_placed shift.now) self.old) }
+
+        // What is there after it. Either way the list is in order.
         ensures ok { OnOk result (self.new ≡ moved_placed shift.now self.old) }
         ensures err { OnErr result (self.new ≡ self.old) }
         ensures ordered { IsOrdered self.new }
+
+        // The work, by the number of things that the replacement meets.
         ensures counted { steps.old ≤ steps.new }
         ensures steps { let met = count_by (meets_offset shift.now) self.old in
             TakesAtMost (moving met) (length self.old) steps.old steps.new }

@@ -82,17 +82,24 @@ impl<P: Load> Spaced<P> {
         fresh: Placed<P>,
         steps: &mut Steps,
     ) -> Result<u32, Fault>
+        // The list is in order, and the thing's end and the length with it are u32.
         requires ordered { IsOrdered self.old }
         requires end { end_at fresh < 2 ^ 32 }
         requires small { length self.old + 1 < 2 ^ 32 }
+
+        // The list after it, and where the thing stands in it.
         ensures ok { OnOk result (self.new ≡ insert_by placed_le fresh self.old) }
         ensures place { IfOk result (λ at.
             self.new ≡ take at self.old ++ fresh ∷ drop at self.old) }
         ensures fresh { OnOk result (list_any (has_placed_id fresh.id) self.old ≡ false) }
+
+        // Why it is refused, and what stays then. Either way the list is in order.
         ensures refused { let is_there = list_any (has_placed_id fresh.id) self.old in
             IfErr result (IsRefusedFor Refusal.IdInUse is_there) }
         ensures err { OnErr result (self.new ≡ self.old) }
         ensures ordered { IsOrdered self.new }
+
+        // The work.
         ensures counted { steps.old ≤ steps.new }
         ensures steps { SearchesAndTakes changing (length self.old + 1) steps.old steps.new }
     {
@@ -109,16 +116,23 @@ impl<P: Load> Spaced<P> {
         fresh: Placed<P>,
         steps: &mut Steps,
     ) -> Result<u32, NoMemory>
+        // The list is in order and lacks the id, and the thing's end and the length with it are u32.
         requires ordered { IsOrdered self.old }
         requires end { end_at fresh < 2 ^ 32 }
         requires small { length self.old + 1 < 2 ^ 32 }
         requires fresh { list_any (has_placed_id fresh.id) self.old ≡ false }
+
+        // The list after it, and where the thing stands in it.
         ensures ok { OnOk result (self.new ≡ insert_by placed_le fresh self.old) }
         ensures place { IfOk result (λ at.
             self.new ≡ take at self.old ++ fresh ∷ drop at self.old) }
         ensures within { IfOk result (λ at. at ≤ length self.old) }
+
+        // The list stays where there is no memory. Either way it is in order.
         ensures err { OnErr result (self.new ≡ self.old) }
         ensures ordered { IsOrdered self.new }
+
+        // The work.
         ensures counted { steps.old ≤ steps.new }
         ensures steps { TakesAtMost adding (length self.old + 1) steps.old steps.new }
     {
@@ -137,16 +151,23 @@ impl<P: Load> Spaced<P> {
         id: u32,
         steps: &mut Steps,
     ) -> Result<Taken<P>, Fault>
+        // The list is in order.
         requires ordered { IsOrdered self.old }
+
+        // The list after it, and where the thing stood before.
         ensures ok { OnOk result (self.new ≡ filter (lacks_placed_id id) self.old) }
         ensures thing { IfOk result (λ t. slice_get self.old t.place ≡ Some t.thing) }
         ensures rest { IfOk result (λ t.
             self.new ≡ take t.place self.old ++ drop (t.place + 1) self.old) }
         ensures id { IfOk result (λ t. t.thing.id ≡ id) }
+
+        // Why it is refused, and what stays then. Either way the list is in order.
         ensures refused { let is_there = list_any (has_placed_id id) self.old in
             IfErr result (IsRefusedFor Refusal.UnknownId (not is_there)) }
         ensures err { OnErr result (self.new ≡ self.old) }
         ensures ordered { IsOrdered self.new }
+
+        // The work.
         ensures counted { steps.old ≤ steps.new }
         ensures steps { SearchesAndTakes changing (length self.old) steps.old steps.new }
     {
@@ -164,12 +185,19 @@ impl<P: Load> Spaced<P> {
         at: u32,
         steps: &mut Steps,
     ) -> Result<Placed<P>, NoMemory>
+        // The list is in order, and has a thing at the place.
         requires ordered { IsOrdered self.old }
         requires within { at < length self.old }
+
+        // The list after it, and the thing that stood there.
         ensures ok { OnOk result (self.new ≡ take at self.old ++ drop (at + 1) self.old) }
         ensures thing { IfOk result (λ p. slice_get self.old at ≡ Some p) }
+
+        // The list stays where there is no memory. Either way it is in order.
         ensures err { OnErr result (self.new ≡ self.old) }
         ensures ordered { IsOrdered self.new }
+
+        // The work.
         ensures counted { steps.old ≤ steps.new }
         ensures steps { TakesAtMost taking (length self.old) steps.old steps.new }
     {

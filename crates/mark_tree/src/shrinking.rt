@@ -79,12 +79,19 @@ impl<P: Load> Spaced<P> {
         shift: &Shift,
         steps: &mut Steps,
     ) -> Result<Vec<u32>, NoMemory>
+        // Ranges in order, none empty, of which both ends are u32 after the replacement.
         requires ranges { AreRanges self.old }
         requires fits { All (IsFittingMoved shift.now) self.old }
+
+        // The list after it, and the ids of the ranges that the replacement empties.
         ensures ok { OnOk result (self.new ≡ moved_extents shift.now self.old) }
         ensures dropped { IfOk result (λ ids. ids.items ≡ emptied_ids shift.now self.old) }
+
+        // The list stays where there is no memory. Either way its ranges are in order, none empty.
         ensures err { OnErr result (self.new ≡ self.old) }
         ensures ranges { AreRanges self.new }
+
+        // The work, by the number of ranges that the replacement meets.
         ensures counted { steps.old ≤ steps.new }
         ensures steps { let met = count_by (meets_extent shift.now) self.old in
             TakesAtMost (shrinking met) (length self.old) steps.old steps.new }
@@ -157,16 +164,25 @@ impl<P: Load> Spaced<P> {
         behind: &Shift,
         steps: &mut Steps,
     ) -> Result<Vec<u32>, NoMemory>
+        // The places stand in the list.
         requires order { from ≤ to }
         requires within { to ≤ length self.old }
+
+        // In the run from the one to the other no id stands twice, and both ends of each are u32 after `shift`.
         requires fits { All (IsFittingMoved shift.now) (run from to self.old) }
         requires distinct { let ran = run from to self.old in
             (id : ℕ) → count_by (has_placed_id id) ran ≤ 1 }
+
+        // All behind the run stand at or behind the end of `behind`, and the list after it can be coded.
         requires behind { All (λ p. behind.now.end ≤ p.offset) (drop to self.old) }
         requires codable { IsCodable (with_run_moved from to shift.now behind.now self.old) }
+
+        // The list after it, and the ids of the ranges that `shift` empties.
         ensures ok { OnOk result (self.new ≡ with_run_moved from to shift.now behind.now self.old) }
         ensures dropped { let ran = run from to self.old in
             IfOk result (λ ids. ids.items ≡ emptied_ids shift.now ran) }
+
+        // The work, by the number of ranges in the run.
         ensures counted { steps.old ≤ steps.new }
         ensures steps { let after = with_run_moved from to shift.now behind.now self.old in
             let cost = moving_run (to - from) in

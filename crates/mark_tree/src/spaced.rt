@@ -76,9 +76,12 @@ impl<P: Load> Spaced<P> {
 
     /// A cursor on the entry at place `at`, or past the last.
     fn cursor_at(&self, at: u32, steps: &mut Steps) -> Cursor<'_, Entry<P>, ByItems>
+        // It goes over the list's entries, is on the one at `at` or past the last, and their greatest end is a u32.
         ensures items { placed_from 0 result.items ≡ self.now }
         ensures place { result.place ≡ min at (length self.now) + 1 }
         ensures fits { end_of (extent_over result.items) < 2 ^ 32 }
+
+        // The work, at most one way down the tree.
         ensures counted { steps.old ≤ steps.new }
         ensures steps { TakesAtMost way (length self.now) steps.old steps.new }
     {
@@ -119,9 +122,12 @@ impl<P: Load> Spaced<P> {
 
     /// The place of the first thing at or behind the offset, which may be that past the last.
     pub(crate) fn first_at(&self, offset: u64, steps: &mut Steps) -> u32
+        // A place in the list or at its end. Before it each offset is less than `offset`, and from there on none is.
         ensures within { result ≤ length self.now }
         ensures before { All (λ p. p.offset < offset) (take result self.now) }
         ensures from { All (λ p. offset ≤ p.offset) (drop result self.now) }
+
+        // The work, at most one way down the tree.
         ensures counted { steps.old ≤ steps.new }
         ensures steps { TakesAtMost way (length self.now) steps.old steps.new }
     {
@@ -130,12 +136,17 @@ impl<P: Load> Spaced<P> {
 
     /// The same place, with the offset of what stands there, if anything does.
     pub(crate) fn next_at(&self, offset: u64, steps: &mut Steps) -> Next
+        // A place in the list or at its end. Before it each offset is less than `offset`, and from there on none is.
         ensures within { result.place ≤ length self.now }
         ensures before { All (λ p. p.offset < offset) (take result.place self.now) }
         ensures from { All (λ p. offset ≤ p.offset) (drop result.place self.now) }
+
+        // The offset of what stands there, and `None` exactly past the end.
         ensures offset { (d : Placed P) →
             MatchOption result.offset (length self.now ≤ result.place)
             (λ o. (slice_index_or self.now result.place d).offset ≡ o) }
+
+        // The work, at most one way down the tree.
         ensures counted { steps.old ≤ steps.new }
         ensures steps { TakesAtMost way (length self.now) steps.old steps.new }
     {
@@ -154,13 +165,22 @@ impl<P: Load> Spaced<P> {
 
     /// The places of the things from one offset on that lie before another one. Where there is none, one look tells.
     pub(crate) fn places_between(&self, start: u64, end: u64, steps: &mut Steps) -> Places
+        // The first offset is not behind the second.
         requires { start ≤ end }
+
+        // The places stand in the list.
         ensures order { result.from ≤ result.to }
         ensures within { result.to ≤ length self.now }
+
+        // Before `from` each offset is less than `start`, and from there on none is.
         ensures before { All (λ p. p.offset < start) (take result.from self.now) }
         ensures from { All (λ p. start ≤ p.offset) (drop result.from self.now) }
+
+        // Before `to` each offset is less than `end`, and from there on none is.
         ensures upto { All (λ p. p.offset < end) (take result.to self.now) }
         ensures behind { All (λ p. end ≤ p.offset) (drop result.to self.now) }
+
+        // The work, at most two ways down the tree.
         ensures counted { steps.old ≤ steps.new }
         ensures steps { TakesAtMost both_ends (length self.now) steps.old steps.new }
     {
@@ -214,9 +234,14 @@ impl<P: Load> Spaced<P> {
         to: u32,
         steps: &mut Steps,
     ) -> Result<Vec<Placed<P>>, NoMemory>
+        // The places stand in the list.
         requires order { from ≤ to }
         requires within { to ≤ length self.now }
+
+        // What stands from the one to the other.
         ensures copies { IfOk result (λ v. v.items ≡ take (to - from) (drop from self.now)) }
+
+        // The work, at most one way down the tree for each copy.
         ensures counted { steps.old ≤ steps.new }
         ensures steps { let k = to - from in
             TakesAtMost (λ h. way h * k) (length self.now) steps.old steps.new }
@@ -239,12 +264,19 @@ impl<P: Load> Spaced<P> {
         shift: &Shift,
         steps: &mut Steps,
     ) -> Result<(), NoMemory>
+        // The places stand in the list.
         requires order { from ≤ to }
         requires within { to ≤ length self.old }
+
+        // All behind them stand at or behind the replacement's end, and the list after it can be coded.
         requires behind { All (λ p. shift.now.end ≤ p.offset) (drop to self.old) }
         requires codable { IsCodable (spliced from to fresh.items shift.now self.old) }
+
+        // What is there after it.
         ensures ok { OnOk result (self.new ≡ spliced from to fresh.items shift.now self.old) }
         ensures err { OnErr result (self.new ≡ self.old) }
+
+        // The work, by the number of things put in.
         ensures counted { steps.old ≤ steps.new }
         ensures steps { let after = spliced from to fresh.items shift.now self.old in
             let cost = splicing (length fresh.items) in
@@ -266,14 +298,21 @@ impl<P: Load> Spaced<P> {
         shift: &Shift,
         steps: &mut Steps,
     ) -> Result<Refill<P>, NoMemory>
+        // A place in the list or at its end.
         requires within { to ≤ length self.now }
+
+        // All from there on stand at or behind the replacement's end, and their ends are u32 after it.
         requires behind { All (λ p. shift.now.end ≤ p.offset) (drop to self.now) }
         requires codable { let behind = map (shifted shift.now) (drop to self.now) in
             All (λ p. end_at p < 2 ^ 32) behind }
+
+        // What takes the place of all up to `end`, and the offset of the last thing before `to`, where it was met.
         ensures refill { IfOk result (λ r.
             IsRefill self.now to fresh.items shift.now r.placed.items r.end) }
         ensures before { IfOk result (λ r.
             IfSome r.before (λ o. o ≡ last_offset 0 (take to self.now))) }
+
+        // The work, at most one way down the tree.
         ensures counted { steps.old ≤ steps.new }
         ensures steps { TakesAtMost way (length self.now) steps.old steps.new }
     {

@@ -63,9 +63,14 @@ impl<S: Summary, P: Load> SpliceTree<S, P> {
         splices: Vec<Splice<S, P>>,
         steps: &mut Steps,
     ) -> Result<SpliceTree<S, P>, NoMemory>
+        // What they cover fits on both sides, and their number is a u32.
         requires fits { BothFit S.fits (covered S.empty S.joined splices.items) }
         requires small { length splices.items < 2 ^ 32 }
+
+        // A list of just these.
         ensures ok { IfOk result (λ t. t ≡ splices.items) }
+
+        // The work, by their number.
         ensures counted { steps.old ≤ steps.new }
         ensures steps { steps.new ≤ steps.old + building (length splices.items) }
     {
@@ -95,10 +100,13 @@ impl<S: Summary, P: Load> SpliceTree<S, P> {
         bias: Bias,
         steps: &mut Steps,
     ) -> Place<'_, S, P>
+        // The index, what the splices before it cover, and the splice that stands there, if one does.
         ensures first { let at = result.index in
             IsFirstLower S.empty S.joined M.number self.now target bias at }
         ensures before { result.before ≡ covered S.empty S.joined (take result.index self.now) }
         ensures splice { option_copied result.splice ≡ slice_get self.now result.index }
+
+        // The work, at most one way down the tree.
         ensures counted { steps.old ≤ steps.new }
         ensures steps { TakesAtMost way (length self.now) steps.old steps.new }
     {
@@ -117,10 +125,13 @@ impl<S: Summary, P: Load> SpliceTree<S, P> {
         bias: Bias,
         steps: &mut Steps,
     ) -> Place<'_, S, P>
+        // The index, what the splices before it cover, and the splice that stands there, if one does.
         ensures first { let at = result.index in
             IsFirstUpper S.empty S.joined M.number self.now target bias at }
         ensures before { result.before ≡ covered S.empty S.joined (take result.index self.now) }
         ensures splice { option_copied result.splice ≡ slice_get self.now result.index }
+
+        // The work, at most one way down the tree.
         ensures counted { steps.old ≤ steps.new }
         ensures steps { TakesAtMost way (length self.now) steps.old steps.new }
     {
@@ -134,9 +145,12 @@ impl<S: Summary, P: Load> SpliceTree<S, P> {
 
     /// The splice of this index, or the end.
     pub fn find_at(&self, index: u32, steps: &mut Steps) -> Place<'_, S, P>
+        // The index, what the splices before it cover, and the splice that stands there, if one does.
         ensures index { result.index ≡ min index (length self.now) }
         ensures before { result.before ≡ covered S.empty S.joined (take result.index self.now) }
         ensures splice { option_copied result.splice ≡ slice_get self.now result.index }
+
+        // The work, at most one way down the tree.
         ensures counted { steps.old ≤ steps.new }
         ensures steps { TakesAtMost way (length self.now) steps.old steps.new }
     {
@@ -219,10 +233,15 @@ impl<S: Summary, P: Load> SpliceTree<S, P> {
         gap: S,
         steps: &mut Steps,
     ) -> Result<Refill<S, P>, NoMemory>
+        // A place in the list or at its end, and with the gap the splice there covers no more than fits.
         requires within { to ≤ length self.now }
         requires gap_fits { GapFits S.joined S.fits gap to self.now }
+
+        // What takes the place of all up to `end`: `fresh`, and the one behind them with its new gap, if there is one.
         ensures refill { IfOk result (λ r.
             IsRefill self.now to fresh.items gap r.splices.items r.end) }
+
+        // The work, at most one way down the tree.
         ensures counted { steps.old ≤ steps.new }
         ensures steps { TakesAtMost way (length self.now) steps.old steps.new }
     {

@@ -5,6 +5,7 @@ use Rattle.sum_core.specs.Sums.{total}
 use Rattle.sum_core.specs.declared.load.NoLoad.{NoLoad}
 use Rattle.splice_tree.specs.Sides.{none, both, BothFit}
 use Rattle.splice_tree.specs.Splices.{Piece, piece_sum, replaced}
+use Rattle.splice_tree.specs.Bounds.{splicing}
 use Rattle.inlay_map.specs.declared.amount.Amount.{Amount}
 use Rattle.inlay_map.specs.Amounts.{AmountFits, nothing, together}
 use Rattle.inlay_map.specs.Splices.{splices_from}
@@ -92,7 +93,7 @@ returns-in_err-splices-clause-steps c h high low =
 
 -- the new splices are as many as the inlays, and the fresh ones at most as many as the run has
 replacing : (c : After-replace) (h : ℕ) → IsHeight h c.args.self.now.text (length c.args.self.now.inlays) → length c.args.old.now < 2 * 6 ^ (h + 1)
-    → c.replace.new.steps ≤ c.gap_at-gap.new.steps + (161 * h + (88 + 4 * (c.args.run.count + 2)))
+    → c.replace.new.steps ≤ c.gap_at-gap.new.steps + splicing c.args.run.count h
 replacing c h high low =
     let s = c.args.self.now in
     let gap = c.gap_at-gap.result in

@@ -11,7 +11,7 @@ move_before-requires g c =
     let old = c.args.self.now in
     let first = c.first_at-first.result in
     let last = c.first_at-last.result in
-    let places = placed s first last old c.args.shift.now.ordered c.requires.ranges c.requires.fits c.first_at-first.ensures.within c.first_at-first.ensures.before c.first_at-first.ensures.from c.first_at-last.ensures.within c.first_at-last.ensures.before c.first_at-last.ensures.from in
+    let places = placed s first last old c.requires.ranges c.requires.fits c.first_at-first.ensures.within c.first_at-first.ensures.before c.first_at-first.ensures.from c.first_at-last.ensures.within c.first_at-last.ensures.before c.first_at-last.ensures.from in
     subst (AreSplit s first) (sym c.in_ok-moved.ensures) places.split
 
 pub move_run-requires-clause-order : goal.move_run-requires-clause-order
@@ -20,7 +20,7 @@ move_run-requires-clause-order g c =
     let old = c.args.self.now in
     let first = c.first_at-first.result in
     let last = c.first_at-last.result in
-    let places = placed s first last old c.args.shift.now.ordered c.requires.ranges c.requires.fits c.first_at-first.ensures.within c.first_at-first.ensures.before c.first_at-first.ensures.from c.first_at-last.ensures.within c.first_at-last.ensures.before c.first_at-last.ensures.from in
+    let places = placed s first last old c.requires.ranges c.requires.fits c.first_at-first.ensures.within c.first_at-first.ensures.before c.first_at-first.ensures.from c.first_at-last.ensures.within c.first_at-last.ensures.before c.first_at-last.ensures.from in
     places.order
 
 pub move_run-requires-clause-within : goal.move_run-requires-clause-within
@@ -29,7 +29,7 @@ move_run-requires-clause-within g c =
     let old = c.args.self.now in
     let first = c.first_at-first.result in
     let last = c.first_at-last.result in
-    let places = placed s first last old c.args.shift.now.ordered c.requires.ranges c.requires.fits c.first_at-first.ensures.within c.first_at-first.ensures.before c.first_at-first.ensures.from c.first_at-last.ensures.within c.first_at-last.ensures.before c.first_at-last.ensures.from in
+    let places = placed s first last old c.requires.ranges c.requires.fits c.first_at-first.ensures.within c.first_at-first.ensures.before c.first_at-first.ensures.from c.first_at-last.ensures.within c.first_at-last.ensures.before c.first_at-last.ensures.from in
     let before : c.move_before.new.self ≡ moved_extents s (take first old) ++ drop first old = c.in_ok-move_before.ensures.ok ∙ ap (λ l. moved_extents s (take first l) ++ drop first l) c.in_ok-moved.ensures in
     subst (λ n. last ≤ n) (sym (length-same s first last old places c.move_before.new.self before)) places.within
 
@@ -39,7 +39,7 @@ move_run-requires-clause-fits g c =
     let old = c.args.self.now in
     let first = c.first_at-first.result in
     let last = c.first_at-last.result in
-    let places = placed s first last old c.args.shift.now.ordered c.requires.ranges c.requires.fits c.first_at-first.ensures.within c.first_at-first.ensures.before c.first_at-first.ensures.from c.first_at-last.ensures.within c.first_at-last.ensures.before c.first_at-last.ensures.from in
+    let places = placed s first last old c.requires.ranges c.requires.fits c.first_at-first.ensures.within c.first_at-first.ensures.before c.first_at-first.ensures.from c.first_at-last.ensures.within c.first_at-last.ensures.before c.first_at-last.ensures.from in
     let before : c.move_before.new.self ≡ moved_extents s (take first old) ++ drop first old = c.in_ok-move_before.ensures.ok ∙ ap (λ l. moved_extents s (take first l) ++ drop first l) c.in_ok-moved.ensures in
     mid-fits s first last old places c.move_before.new.self before
 
@@ -49,7 +49,7 @@ move_run-requires-clause-distinct g c =
     let old = c.args.self.now in
     let first = c.first_at-first.result in
     let last = c.first_at-last.result in
-    let places = placed s first last old c.args.shift.now.ordered c.requires.ranges c.requires.fits c.first_at-first.ensures.within c.first_at-first.ensures.before c.first_at-first.ensures.from c.first_at-last.ensures.within c.first_at-last.ensures.before c.first_at-last.ensures.from in
+    let places = placed s first last old c.requires.ranges c.requires.fits c.first_at-first.ensures.within c.first_at-first.ensures.before c.first_at-first.ensures.from c.first_at-last.ensures.within c.first_at-last.ensures.before c.first_at-last.ensures.from in
     let before : c.move_before.new.self ≡ moved_extents s (take first old) ++ drop first old = c.in_ok-move_before.ensures.ok ∙ ap (λ l. moved_extents s (take first l) ++ drop first l) c.in_ok-moved.ensures in
     mid-distinct s first last old places c.move_before.new.self before
 
@@ -59,7 +59,7 @@ move_run-requires-clause-behind g c =
     let old = c.args.self.now in
     let first = c.first_at-first.result in
     let last = c.first_at-last.result in
-    let places = placed s first last old c.args.shift.now.ordered c.requires.ranges c.requires.fits c.first_at-first.ensures.within c.first_at-first.ensures.before c.first_at-first.ensures.from c.first_at-last.ensures.within c.first_at-last.ensures.before c.first_at-last.ensures.from in
+    let places = placed s first last old c.requires.ranges c.requires.fits c.first_at-first.ensures.within c.first_at-first.ensures.before c.first_at-first.ensures.from c.first_at-last.ensures.within c.first_at-last.ensures.before c.first_at-last.ensures.from in
     let before : c.move_before.new.self ≡ moved_extents s (take first old) ++ drop first old = c.in_ok-move_before.ensures.ok ∙ ap (λ l. moved_extents s (take first l) ++ drop first l) c.in_ok-moved.ensures in
     subst (All (λ p. s.end ≤ p.offset)) (sym (behind-same s first last old places c.move_before.new.self before)) (λ k d lt. omega (arith, c.first_at-last.ensures.from k d lt))
 
@@ -69,7 +69,7 @@ move_run-requires-clause-codable g c =
     let old = c.args.self.now in
     let first = c.first_at-first.result in
     let last = c.first_at-last.result in
-    let places = placed s first last old c.args.shift.now.ordered c.requires.ranges c.requires.fits c.first_at-first.ensures.within c.first_at-first.ensures.before c.first_at-first.ensures.from c.first_at-last.ensures.within c.first_at-last.ensures.before c.first_at-last.ensures.from in
+    let places = placed s first last old c.requires.ranges c.requires.fits c.first_at-first.ensures.within c.first_at-first.ensures.before c.first_at-first.ensures.from c.first_at-last.ensures.within c.first_at-last.ensures.before c.first_at-last.ensures.from in
     let before : c.move_before.new.self ≡ moved_extents s (take first old) ++ drop first old = c.in_ok-move_before.ensures.ok ∙ ap (λ l. moved_extents s (take first l) ++ drop first l) c.in_ok-moved.ensures in
     whole-codable s first last old places c.move_before.new.self before c.len-count.ensures.codable
 
@@ -79,7 +79,7 @@ returns-clause-ok g c =
     let old = c.args.self.now in
     let first = c.first_at-first.result in
     let last = c.first_at-last.result in
-    let places = placed s first last old c.args.shift.now.ordered c.requires.ranges c.requires.fits c.first_at-first.ensures.within c.first_at-first.ensures.before c.first_at-first.ensures.from c.first_at-last.ensures.within c.first_at-last.ensures.before c.first_at-last.ensures.from in
+    let places = placed s first last old c.requires.ranges c.requires.fits c.first_at-first.ensures.within c.first_at-first.ensures.before c.first_at-first.ensures.from c.first_at-last.ensures.within c.first_at-last.ensures.before c.first_at-last.ensures.from in
     let before : c.move_before.new.self ≡ moved_extents s (take first old) ++ drop first old = c.in_ok-move_before.ensures.ok ∙ ap (λ l. moved_extents s (take first l) ++ drop first l) c.in_ok-moved.ensures in
     c.in_ok-dropped.ensures.ok ∙ whole s first last old places c.move_before.new.self before
 
@@ -89,7 +89,7 @@ returns-clause-dropped g c =
     let old = c.args.self.now in
     let first = c.first_at-first.result in
     let last = c.first_at-last.result in
-    let places = placed s first last old c.args.shift.now.ordered c.requires.ranges c.requires.fits c.first_at-first.ensures.within c.first_at-first.ensures.before c.first_at-first.ensures.from c.first_at-last.ensures.within c.first_at-last.ensures.before c.first_at-last.ensures.from in
+    let places = placed s first last old c.requires.ranges c.requires.fits c.first_at-first.ensures.within c.first_at-first.ensures.before c.first_at-first.ensures.from c.first_at-last.ensures.within c.first_at-last.ensures.before c.first_at-last.ensures.from in
     let before : c.move_before.new.self ≡ moved_extents s (take first old) ++ drop first old = c.in_ok-move_before.ensures.ok ∙ ap (λ l. moved_extents s (take first l) ++ drop first l) c.in_ok-moved.ensures in
     c.in_ok-dropped.ensures.dropped ∙ ap (emptied_ids s) (mid-same s first last old places c.move_before.new.self before) ∙ sym (gone-parts s first last old places)
 
@@ -99,7 +99,7 @@ returns-clause-ranges g c =
     let old = c.args.self.now in
     let first = c.first_at-first.result in
     let last = c.first_at-last.result in
-    let places = placed s first last old c.args.shift.now.ordered c.requires.ranges c.requires.fits c.first_at-first.ensures.within c.first_at-first.ensures.before c.first_at-first.ensures.from c.first_at-last.ensures.within c.first_at-last.ensures.before c.first_at-last.ensures.from in
+    let places = placed s first last old c.requires.ranges c.requires.fits c.first_at-first.ensures.within c.first_at-first.ensures.before c.first_at-first.ensures.from c.first_at-last.ensures.within c.first_at-last.ensures.before c.first_at-last.ensures.from in
     let before : c.move_before.new.self ≡ moved_extents s (take first old) ++ drop first old = c.in_ok-move_before.ensures.ok ∙ ap (λ l. moved_extents s (take first l) ++ drop first l) c.in_ok-moved.ensures in
     subst AreRanges (sym (c.in_ok-dropped.ensures.ok ∙ whole s first last old places c.move_before.new.self before)) (ranges-moved s old c.requires.ranges)
 
@@ -109,7 +109,7 @@ returns-clause-steps g c h few =
     let old = c.args.self.now in
     let first = c.first_at-first.result in
     let last = c.first_at-last.result in
-    let places = placed s first last old c.args.shift.now.ordered c.requires.ranges c.requires.fits c.first_at-first.ensures.within c.first_at-first.ensures.before c.first_at-first.ensures.from c.first_at-last.ensures.within c.first_at-last.ensures.before c.first_at-last.ensures.from in
+    let places = placed s first last old c.requires.ranges c.requires.fits c.first_at-first.ensures.within c.first_at-first.ensures.before c.first_at-first.ensures.from c.first_at-last.ensures.within c.first_at-last.ensures.before c.first_at-last.ensures.from in
     let before : c.move_before.new.self ≡ moved_extents s (take first old) ++ drop first old = c.in_ok-move_before.ensures.ok ∙ ap (λ l. moved_extents s (take first l) ++ drop first l) c.in_ok-moved.ensures in
     let same = length-same s first last old places c.move_before.new.self before in
     let all = whole s first last old places c.move_before.new.self before in
@@ -124,7 +124,7 @@ returns-in_err-dropped-clause-steps g c h few =
     let old = c.args.self.now in
     let first = c.first_at-first.result in
     let last = c.first_at-last.result in
-    let places = placed s first last old c.args.shift.now.ordered c.requires.ranges c.requires.fits c.first_at-first.ensures.within c.first_at-first.ensures.before c.first_at-first.ensures.from c.first_at-last.ensures.within c.first_at-last.ensures.before c.first_at-last.ensures.from in
+    let places = placed s first last old c.requires.ranges c.requires.fits c.first_at-first.ensures.within c.first_at-first.ensures.before c.first_at-first.ensures.from c.first_at-last.ensures.within c.first_at-last.ensures.before c.first_at-last.ensures.from in
     let before : c.move_before.new.self ≡ moved_extents s (take first old) ++ drop first old = c.in_ok-move_before.ensures.ok ∙ ap (λ l. moved_extents s (take first l) ++ drop first l) c.in_ok-moved.ensures in
     let same = length-same s first last old places c.move_before.new.self before in
     let all = whole s first last old places c.move_before.new.self before in
@@ -139,7 +139,7 @@ returns-in_err-move_before-clause-steps g c h few =
     let old = c.args.self.now in
     let first = c.first_at-first.result in
     let last = c.first_at-last.result in
-    let places = placed s first last old c.args.shift.now.ordered c.requires.ranges c.requires.fits c.first_at-first.ensures.within c.first_at-first.ensures.before c.first_at-first.ensures.from c.first_at-last.ensures.within c.first_at-last.ensures.before c.first_at-last.ensures.from in
+    let places = placed s first last old c.requires.ranges c.requires.fits c.first_at-first.ensures.within c.first_at-first.ensures.before c.first_at-first.ensures.from c.first_at-last.ensures.within c.first_at-last.ensures.before c.first_at-last.ensures.from in
     let copy : length c.in_ok-moved.moved < 2 * 6 ^ (h + 1) = omega (arith, few, ap length c.in_ok-moved.ensures) in
     let rounds = subst (λ l. c.move_before.new.steps ≤ c.first_at-last.new.steps + (250 * (h + 1) * count_by (meets_extent s) (take first l) + 81 * (h + 1))) c.in_ok-moved.ensures (c.move_before.ensures.steps h copy) in
     whole-steps h (count_by (meets_extent s) (take first old)) (last - first) (count_by (meets_extent s) old) c.args.steps.now c.first_at-first.new.steps c.first_at-last.new.steps c.move_before.new.steps c.move_before.new.steps (met-parts s first last old places)
