@@ -24,7 +24,8 @@ use Rattle.cell_units.specs.declared.fault.Fault.{Fault}
 use Rattle.cell_units.specs.declared.fault.Fault.TheVariants as faults
 use Rattle.edit_script.specs.Commands.{Command, Ask, Settle, command_of, meaning}
 use Rattle.edit_script.specs.Printed.{command_lines, query_lines, refusal_text, row_line, rows_from}
-use Rattle.edit_script.specs.Verdict.{Verdict, Refused, Accepted, verdict, refused_or, command_refusal, query_refusal, line_limit}
+use Rattle.edit_script.specs.declared.blank.TheConstants.{LINE_LIMIT}
+use Rattle.edit_script.specs.Verdict.{Verdict, Refused, Accepted, verdict, refused_or, command_refusal, query_refusal}
 use Rattle.edit_script.specs.Verdict as verdicts
 use Rattle.edit_script.proofs.Verdicts.{verdict-read, verdict-unread, change-refusal, change-ops, change-silent}
 use Rattle.display_cli.specs.declared.stop.Stop.{Stop}
@@ -234,7 +235,7 @@ pub asked-change : (form : Form) (r : Record) (line : List ℕ) (asked : Asked) 
     → asked ≡ asks.Change change → asked_by r (Bytes form line) ≡ asked_by_command (Some (meaning (asks.Change change)))
 unfolding asked-if
 asked-change form r line asked change read e =
-    ap (asked-if form r line) (le-ltb line_limit (length line) read.within) ∙ ap asked_by_command (read.command ∙ ap (λ a. Some (meaning a)) e)
+    ap (asked-if form r line) (le-ltb LINE_LIMIT (length line) read.within) ∙ ap asked_by_command (read.command ∙ ap (λ a. Some (meaning a)) e)
 
 -- a question that was read is judged on the record
 pub verdict-query : (form : Form) (r : Record) (line : List ℕ) (asked : Asked) (query : Query) → IsReadOn form r.text line asked

@@ -6,10 +6,11 @@ use Rattle.cell_units.specs.declared.fault.Fault.TheVariants as faults
 use Rattle.edit_script.specs.declared.asked.Asked.{Asked}
 use Rattle.edit_script.specs.declared.asked.Form.{Form}
 use Rattle.edit_script.specs.Commands.{command_of, meaning}
-use Rattle.edit_script.specs.Verdict.{IsLineRefused, is_over, line_limit}
+use Rattle.edit_script.specs.declared.blank.TheConstants.{LINE_LIMIT}
+use Rattle.edit_script.specs.Verdict.{IsLineRefused, is_over}
 use Rattle.display_cli.specs.inside.Going.{IsReadOn, IsUnreadOn}
 
-pub read_on : (form : Form) (text line : List ℕ) (result : Result Asked Fault) → OnOk result (length line ≤ line_limit) →
+pub read_on : (form : Form) (text line : List ℕ) (result : Result Asked Fault) → OnOk result (length line ≤ LINE_LIMIT) →
     IfOk result (λ asked. command_of form text line ≡ Some (meaning asked)) → IfOk result (λ asked. is_over (meaning asked) ≡ false) →
     IfOk result (IsReadOn form text line)
 read_on form text line (Ok asked) within command fits = record { within = within; command = command; fits = fits }

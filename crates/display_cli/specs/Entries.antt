@@ -7,7 +7,8 @@ use Rattle.edit_script.specs.declared.asked.Form.{Form}
 use Rattle.display_sheet.specs.Changes.{entries_in}
 use Rattle.edit_script.specs.Commands.{Command, Apply, Ask, Settle, command_of}
 use Rattle.edit_script.specs.Script.{form_of, asking_from}
-use Rattle.edit_script.specs.Verdict.{Verdict, line_limit, verdict}
+use Rattle.edit_script.specs.declared.blank.TheConstants.{LINE_LIMIT}
+use Rattle.edit_script.specs.Verdict.{Verdict, verdict}
 
 -- an entry: the bytes of a line, and the form in which they are read
 pub data Entry : Type 0 where
@@ -36,4 +37,4 @@ asked_by_command (Some Settle) = 0
 -- how many operations an entry asks for, accepted or not. A line over the limit asks for none
 abbrev pub asked_by : Record → Entry → ℕ
 asked_by r (Bytes form line) =
-    if nat_lt line_limit (length line) then 0 else asked_by_command (command_of form r.text line)
+    if nat_lt LINE_LIMIT (length line) then 0 else asked_by_command (command_of form r.text line)

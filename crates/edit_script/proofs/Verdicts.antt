@@ -11,18 +11,19 @@ use Rattle.display_sheet.specs.Changes.{change_refusal, ops_of as display_ops_of
 use Rattle.edit_script.specs.declared.asked.Asked.TheVariants as asks
 use Rattle.edit_script.specs.Commands.{Command, command_of, meaning}
 use Rattle.edit_script.specs.Printed.{command_lines}
-use Rattle.edit_script.specs.Verdict.{Verdict, Refused, line_limit, is_over, ops_of, refused_or, command_refusal, form_verdict, verdict, IsLineRefused}
+use Rattle.edit_script.specs.declared.blank.TheConstants.{LINE_LIMIT}
+use Rattle.edit_script.specs.Verdict.{Verdict, Refused, is_over, ops_of, refused_or, command_refusal, form_verdict, verdict, IsLineRefused}
 
 by_length : Form → Record → List ℕ → Bool → Verdict
 by_length form r line is_over = if is_over then Refused TooLong else form_verdict r (command_of form r.text line)
 
-over : (form : Form) (r : Record) (line : List ℕ) → line_limit < length line → verdict form r line ≡ Refused TooLong
+over : (form : Form) (r : Record) (line : List ℕ) → LINE_LIMIT < length line → verdict form r line ≡ Refused TooLong
 unfolding by_length
-over form r line h = ap (by_length form r line) (lt-ltb line_limit (length line) h)
+over form r line h = ap (by_length form r line) (lt-ltb LINE_LIMIT (length line) h)
 
-within : (form : Form) (r : Record) (line : List ℕ) → length line ≤ line_limit → verdict form r line ≡ form_verdict r (command_of form r.text line)
+within : (form : Form) (r : Record) (line : List ℕ) → length line ≤ LINE_LIMIT → verdict form r line ≡ form_verdict r (command_of form r.text line)
 unfolding by_length
-within form r line h = ap (by_length form r line) (le-ltb line_limit (length line) h)
+within form r line h = ap (by_length form r line) (le-ltb LINE_LIMIT (length line) h)
 
 -- a command with an id over the greatest number
 id_over : (r : Record) (command : Option Command) → option_map is_over command ≡ Some true → form_verdict r command ≡ Refused BadNumber
@@ -44,7 +45,7 @@ verdict-unread form r line BadText h = absurd h
 verdict-unread form r line NothingThere h = absurd h
 
 -- a line that is read has the verdict on its command
-pub verdict-read : (form : Form) (r : Record) (line : List ℕ) (command : Command) → length line ≤ line_limit
+pub verdict-read : (form : Form) (r : Record) (line : List ℕ) (command : Command) → length line ≤ LINE_LIMIT
     → command_of form r.text line ≡ Some command → is_over command ≡ false → verdict form r line ≡ refused_or command (command_refusal r command)
 verdict-read form r line command h read fits =
     within form r line h ∙ (ap (form_verdict r) read

@@ -6,7 +6,8 @@ use Rattle.serde_json.specs.Data.{Data}
 use Rattle.edit_script.specs.declared.asked.Form.{Form}
 use Rattle.edit_script.specs.declared.asked.Form.TheVariants.{First, Second}
 use Rattle.edit_script.specs.Commands.{number_of, member_in, value_of}
-use Rattle.edit_script.specs.Verdict.{line_limit, is_blank}
+use Rattle.edit_script.specs.declared.blank.TheConstants.{LINE_LIMIT}
+use Rattle.edit_script.specs.Verdict.{is_blank}
 
 -- "script", and the number 2
 abbrev pub is_form_two : List ℕ × Data → Bool
@@ -14,7 +15,7 @@ is_form_two m = bytes_eq m.0 (codes "script") && option_map_or (λ n. n == 2) (n
 
 -- a line that says that its script has the second form: one object with that key alone
 abbrev pub is_header : List ℕ → Bool
-is_header line = nat_le (length line) line_limit && option_map_or is_form_two (option_and_then member_in (value_of line)) false
+is_header line = nat_le (length line) LINE_LIMIT && option_map_or is_form_two (option_and_then member_in (value_of line)) false
 
 -- the lines that aren't blank, each with its number. The first line of all has the given one
 abbrev pub filled_from : ℕ → List (List ℕ) → List (ℕ × List ℕ)

@@ -13,13 +13,10 @@ use Rattle.edit_script.specs.declared.asked.Form.{Form}
 use Rattle.edit_script.specs.declared.asked.Query.{Query}
 use Rattle.edit_script.specs.declared.asked.Query.TheVariants as queries
 use Rattle.edit_script.specs.declared.asked.Asked.{Asked}
+use Rattle.edit_script.specs.declared.blank.TheConstants.{LINE_LIMIT}
 use Rattle.edit_script.specs.declared.read.Unread.{Unread}
 use Rattle.edit_script.specs.declared.read.Unread.TheVariants as unread
 use Rattle.edit_script.specs.Commands.{Command, Apply, Ask, Settle, command_of, meaning, greatest_number}
-
--- the greatest length of a line, in bytes
-abbrev pub line_limit : ℕ
-line_limit = 1048576
 
 -- a space, a tab or a carriage return
 abbrev pub is_blank_byte : ℕ → Bool
@@ -27,7 +24,7 @@ is_blank_byte b = (b == 32) || ((b == 9) || (b == 13))
 
 -- a line that is skipped
 abbrev pub is_blank : List ℕ → Bool
-is_blank line = nat_le (length line) line_limit && list_all is_blank_byte line
+is_blank line = nat_le (length line) LINE_LIMIT && list_all is_blank_byte line
 
 pub data Verdict : Type 0 where
   Refused : Refusal → Verdict
@@ -88,7 +85,7 @@ form_verdict r (Some command) = command_verdict r command
 -- the verdict on a line: first its length is judged, then whether it is a command, and then the command
 abbrev pub verdict : Form → Record → List ℕ → Verdict
 verdict form r line =
-    if nat_lt line_limit (length line) then Refused TooLong else form_verdict r (command_of form r.text line)
+    if nat_lt LINE_LIMIT (length line) then Refused TooLong else form_verdict r (command_of form r.text line)
 
 -- a question is answered where every line stands wrapped at the width
 abbrev pub query_wants_settled : Query → Bool
@@ -115,10 +112,10 @@ IsReadAs command (Err unread.NoMemory) = Unit {0}
 -- why a line is not read on a text: it is over the limit, or else it is no command, or else an id of it is over the
 -- greatest number. Want of memory comes only within the limit
 abbrev pub IsLineRefused : Form → List ℕ → List ℕ → Fault → Type 0
-IsLineRefused form text line (faults.Refused TooLong) = line_limit < length line
+IsLineRefused form text line (faults.Refused TooLong) = LINE_LIMIT < length line
 IsLineRefused form text line (faults.Refused NotCommand) =
-    (length line ≤ line_limit) × (command_of form text line ≡ None)
+    (length line ≤ LINE_LIMIT) × (command_of form text line ≡ None)
 IsLineRefused form text line (faults.Refused BadNumber) =
-    (length line ≤ line_limit) × (option_map is_over (command_of form text line) ≡ Some true)
+    (length line ≤ LINE_LIMIT) × (option_map is_over (command_of form text line) ≡ Some true)
 IsLineRefused form text line (faults.Refused _) = ⊥
-IsLineRefused form text line faults.NoMemory = length line ≤ line_limit
+IsLineRefused form text line faults.NoMemory = length line ≤ LINE_LIMIT

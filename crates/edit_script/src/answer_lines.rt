@@ -44,12 +44,19 @@ impl<'a> RowsLeft<'a> {
 
     /// Makes the next rows, where none is made.
     fn refill(&mut self, alloc: Global, steps: &mut Steps) -> Result<(), NoMemory>
+        // What was made comes next, and a row is left.
         requires made { AreMade self.old }
         requires some { 0 < self.old.left }
+
+        // The same rows are left as before, also after want of memory.
         ensures made { AreMade self.new }
         ensures kept { rows_left self.new ≡ rows_left self.old }
         ensures left { self.new.left ≡ self.old.left }
+
+        // Where there was memory, the next of them is made.
         ensures some { OnOk result (self.new.used < length self.new.made.items) }
+
+        // The work.
         ensures counted { steps.old ≤ steps.new }
     {
         if self.used < self.made.len() {
@@ -63,10 +70,16 @@ impl<'a> RowsLeft<'a> {
     /// The line of the next row; `None` past the last.
     fn next_line(&mut self, alloc: Global, steps: &mut Steps) -> Result<Option<Text>, NoMemory>
         requires { AreMade self.old }
+
+        // What was made still comes next. The first row that is left is answered, and the others are left then.
         ensures made { AreMade self.new }
         ensures line { IfOk result (λ line. line ≡ slice_get (rows_left self.old) 0) }
         ensures rest { OnOk result (rows_left self.new ≡ drop 1 (rows_left self.old)) }
+
+        // Want of memory takes no row.
         ensures unchanged { OnErr result (rows_left self.new ≡ rows_left self.old) }
+
+        // The work.
         ensures counted { steps.old ≤ steps.new }
     {
         if self.left == 0 {

@@ -3,7 +3,7 @@ ghost use Rattle.std.specs.Prelude.{◌≡◌};
 ghost use Rattle.edit_script.specs.Verdict.{is_blank, is_blank_byte};
 
 /// The greatest length of a line, in bytes.
-pub(crate) const LINE_LIMIT: usize = 1_048_576;
+pub const LINE_LIMIT: usize = 1_048_576;
 
 /// Whether a line is blank, so that it is skipped: it is within the limit of 1,048,576 bytes, and has only spaces,
 /// tabs and carriage returns.

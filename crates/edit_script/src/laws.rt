@@ -15,7 +15,8 @@ ghost use Rattle.edit_script.specs.declared.asked.Form.TheVariants.{First, Secon
 ghost use Rattle.edit_script.specs.declared.asked.Query.TheVariants as queries;
 ghost use Rattle.display_sheet.specs.Changes.{Edit, inlay_of, fold_of};
 ghost use Rattle.edit_script.specs.Commands.{Command, Apply, Ask, Settle, one, greatest_number, command_of};
-ghost use Rattle.edit_script.specs.Verdict.{Accepted, Refused, IsLineRefused, refused_or, command_refusal, is_over, is_blank, line_limit, verdict};
+ghost use Rattle.edit_script.specs.declared.blank.TheConstants.{LINE_LIMIT};
+ghost use Rattle.edit_script.specs.Verdict.{Accepted, Refused, IsLineRefused, refused_or, command_refusal, is_over, is_blank, verdict};
 ghost use Rattle.edit_script.specs.Laws.{IsWritable, two_rows, written_edit, written_rows};
 ghost use Rattle.edit_script.specs.Script.{asking_from, filled_from, form_of, is_header};
 ghost use Rattle.edit_script.specs.Printed.{refusal_text, row_lines};
@@ -25,7 +26,7 @@ pub fn verdict_laws()
     ensures unread { (form : Form) (r : Record) (line : List ℕ) (refusal : Refusal)
         → IsLineRefused form r.text line (faults.Refused refusal) → verdict form r line ≡ Refused refusal }
     ensures read { (form : Form) (r : Record) (line : List ℕ) (command : Command)
-        → length line ≤ line_limit
+        → length line ≤ LINE_LIMIT
         → command_of form r.text line ≡ Some command → is_over command ≡ false
         → verdict form r line ≡ refused_or command (command_refusal r command) }
 {}

@@ -3,7 +3,8 @@ ghost use Rattle.std.specs.Prelude.{◌≡◌, ◌≤◌, ◌<◌, false, length
 ghost use Rattle.serde_json.specs.View.{view as data_of};
 ghost use Rattle.display_map.specs.Replay.{present_of};
 ghost use Rattle.edit_script.specs.Commands.{meaning, command_named, command_of_value, command_of};
-ghost use Rattle.edit_script.specs.Verdict.{line_limit, is_over, IsReadAs, IsLineRefused};
+ghost use Rattle.edit_script.specs.declared.blank.TheConstants.{LINE_LIMIT};
+ghost use Rattle.edit_script.specs.Verdict.{is_over, IsReadAs, IsLineRefused};
 
 use crate::asked::{Asked, Form};
 use crate::blank::LINE_LIMIT;
@@ -64,7 +65,7 @@ pub fn read_line(
     steps: &mut Steps,
 ) -> Result<Asked, Fault>
     // What a line is read as.
-    ensures within { OnOk result (length line.now ≤ line_limit) }
+    ensures within { OnOk result (length line.now ≤ LINE_LIMIT) }
     ensures read { IfOk result
         (λ asked. command_of form (present_of view.now).text line.now ≡ Some (meaning asked)) }
     ensures fits { IfOk result (λ asked. is_over (meaning asked) ≡ false) }

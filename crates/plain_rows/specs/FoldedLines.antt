@@ -8,6 +8,7 @@ use Rattle.cell_units.specs.Record as records
 use Rattle.cell_units.specs.Inlaid.{Token, Byte, InlayByte, Hidden}
 use Rattle.cell_units.specs.Folded.{covered, folded, inside}
 use Rattle.cell_units.specs.Layers.{Source}
+use Rattle.cell_units.specs.declared.limits.TheConstants.{ENTRY_LIMIT, INLAY_LIMIT}
 use Rattle.plain_rows.specs.declared.folded_lines.Joined.{Joined}
 use Rattle.plain_rows.specs.declared.folded_lines.Part.{Part}
 use Rattle.plain_rows.specs.declared.folded_lines.Part.TheVariants.{Buffer, Inlay, Placeholder, Feed, InlayFeed}
@@ -32,12 +33,12 @@ pub record IsLawfulSource (source : Source) : Type 0 where
   pub inlays_in_order : AreInOrder (λ (i : records.Inlay). i.offset) source.inlays
   pub inlays_distinct : AllPairs (λ (i j : records.Inlay). i.id ≢ j.id) source.inlays
   pub inlays_stand : All (λ i. IsBoundary source.text i.offset × IsUtf8 i.text) source.inlays
-  pub inlays_size : All (λ i. (0 < length i.text) × (length i.text ≤ 1024)) source.inlays
-  pub inlays_count : length source.inlays ≤ 65536
+  pub inlays_size : All (λ i. (0 < length i.text) × (length i.text ≤ INLAY_LIMIT)) source.inlays
+  pub inlays_count : length source.inlays ≤ ENTRY_LIMIT
   pub folds_in_order : AreInOrder (λ (f : records.Fold). f.start) source.folds
   pub folds_stand :
       All (λ f. IsBoundary source.text f.start × IsBoundary source.text f.end × (f.start < f.end)) source.folds
-  pub folds_count : length source.folds ≤ 65536
+  pub folds_count : length source.folds ≤ ENTRY_LIMIT
 
 -- ---- parts
 

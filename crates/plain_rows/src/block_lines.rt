@@ -41,10 +41,13 @@ fn row_end(text: &[u8], offset: u32) -> u32
 
 /// The row that holds an offset at or behind the start of the given one.
 fn row_from(text: &[u8], row: BufferRow, offset: u32) -> BufferRow
+    // A row of the text that starts at the offset or before it.
     requires size { length text.now < 2 ^ 32 }
     requires row { IsRow text.now row.start row.end }
     requires behind { row.start ≤ offset }
     requires within { offset ≤ length text.now }
+
+    // The row in which the offset lies.
     ensures row { IsRow text.now result.start result.end }
     ensures start { result.start ≡ row_start text.now offset }
     ensures end { result.end ≡ row_end text.now offset }

@@ -49,11 +49,14 @@ fn push_run(parts: &mut Vec<Part>, start: u32, end: u32) -> Result<(), NoMemory>
 /// Appends the bytes of the buffer from an offset up to the next line feed, and that, or up to `to`. It answers the
 /// offset behind them.
 fn push_line(parts: &mut Vec<Part>, source: &PlainSource, at: u32, to: u32) -> Result<u32, NoMemory>
+    // The parts end at the offset, and not with bytes of the buffer. Whole characters follow up to `to`, one at least.
     requires lawful { IsLawfulSource (seen source.now) }
     requires reaches { Reaches (seen source.now) parts.old.items at }
     requires apart { is_buffer (last_of parts.old.items) ≡ false }
     requires span { IsSpan source.now.text.now at to }
     requires some { at < to }
+
+    // The bytes up to the answer are laid. Where more follow, the last part is none of the buffer's bytes again.
     ensures lays { IfOk result (λ next. Lays (seen source.now) parts.old.items parts.new.items at next) }
     ensures span { IfOk result (λ next. (at < next) × IsSpan source.now.text.now next to) }
     ensures apart { IfOk result (λ next. next < to → is_buffer (last_of parts.new.items) ≡ false) }
@@ -75,10 +78,13 @@ fn push_text(
     from: u32,
     to: u32,
 ) -> Result<(), NoMemory>
+    // The parts end where the bytes start, and not with bytes of the buffer. The bytes are whole characters.
     requires lawful { IsLawfulSource (seen source.now) }
     requires reaches { Reaches (seen source.now) parts.old.items from }
     requires apart { is_buffer (last_of parts.old.items) ≡ false }
     requires span { IsSpan source.now.text.now from to }
+
+    // All of them are laid.
     ensures { OnOk result (Lays (seen source.now) parts.old.items parts.new.items from to) }
 {
     let mut at = from;
@@ -118,12 +124,15 @@ fn push_inlay_line(
     number: u32,
     at: usize,
 ) -> Result<usize, NoMemory>
+    // The parts end at the inlay's offset, and show no later inlay. A character starts at the byte `at` of it.
     requires lawful { IsLawfulSource (seen source.now) }
     requires number { number < length source.now.inlays.now }
     requires reaches { Reaches (seen source.now) parts.old.items (inlay_at (seen source.now) number).offset }
     requires apart { next_inlay (last_of parts.old.items) ≤ number }
     requires boundary { IsCharBoundary (inlay_at (seen source.now) number).text at }
     requires some { at < length (inlay_at (seen source.now) number).text }
+
+    // Its bytes up to the answer are laid. Where more follow, the last part is as was asked.
     ensures lays { IfOk result (λ next.
         LaysInlay (seen source.now) number parts.old.items parts.new.items at next) }
     ensures apart { IfOk result (λ next.
@@ -146,10 +155,14 @@ fn push_inlay_line(
 
 /// Appends an inlay.
 fn push_inlay(parts: &mut Vec<Part>, source: &PlainSource, number: u32) -> Result<(), NoMemory>
+    // The parts end at the inlay's offset, and show no later inlay.
     requires lawful { IsLawfulSource (seen source.now) }
     requires number { number < length source.now.inlays.now }
     requires reaches { Reaches (seen source.now) parts.old.items (inlay_at (seen source.now) number).offset }
     requires apart { next_inlay (last_of parts.old.items) ≤ number }
+
+    // They end there again, with the inlay's bytes behind what they showed. The last part is none of the buffer's bytes,
+    // and of no later inlay.
     ensures reaches { OnOk result
         (Reaches (seen source.now) parts.new.items (inlay_at (seen source.now) number).offset) }
     ensures shows { OnOk result (tokens_of (seen source.now) parts.new.items
@@ -181,10 +194,13 @@ fn push_stretch(
     from: u32,
     to: u32,
 ) -> Result<u32, NoMemory>
+    // All before `from` is laid. The last part is none of the buffer's bytes. No fold hides a byte from there to `to`.
     requires lawful { IsLawfulSource (seen source.now) }
     requires laid { IsLaid (seen source.now) next from parts.old.items }
     requires apart { is_buffer (last_of parts.old.items) ≡ false }
     requires free { IsFree (seen source.now) from to }
+
+    // All before `to` is laid, with all inlays at it or before it.
     ensures laid { IfOk result (λ behind. IsLaid (seen source.now) behind to parts.new.items) }
     ensures past { IfOk result (λ behind. IsPast (seen source.now) behind to) }
 {
@@ -208,10 +224,13 @@ fn push_placeholder(
     next: u32,
     joined: Joined,
 ) -> Result<u32, NoMemory>
+    // All before the joined fold is laid, with all inlays at its start or before it.
     requires lawful { IsLawfulSource (seen source.now) }
     requires laid { IsLaid (seen source.now) next joined.start parts.old.items }
     requires past { IsPast (seen source.now) next joined.start }
     requires joined { IsJoinedFold (seen source.now) joined }
+
+    // All before its end is laid. The last part is none of the buffer's bytes.
     ensures laid { IfOk result (λ behind. IsLaid (seen source.now) behind joined.end parts.new.items) }
     ensures apart { OnOk result (is_buffer (last_of parts.new.items) ≡ false) }
 {

@@ -62,9 +62,12 @@ fn push_blocks(
     from: usize,
     line: u32,
 ) -> Result<usize, NoMemory>
+    // `lines` has the line of each block. Blocks of the side before `from` stand before this line, and no others do.
     requires lawful { IsLawful (record_of plain.now) }
     requires lines { AreStanding plain.now lines.now }
     requires before { AreBefore (record_of plain.now) side from line }
+
+    // The blocks of this line have their rows, and those before the answer stand before the next one.
     ensures rows { OnOk result (rows.new.items
         ≡ rows.old.items ++ row_pairs (blocks_at (record_of plain.now) side line)) }
     ensures before { IfOk result (λ behind. AreBefore (record_of plain.now) side behind (line + 1)) }

@@ -15,7 +15,8 @@ use Rattle.edit_script.specs.declared.asked.Asked.TheVariants as asks
 use Rattle.edit_script.specs.declared.asked.Query.{Query}
 use Rattle.edit_script.specs.Commands.{Ask, command_of, meaning}
 use Rattle.edit_script.specs.Script.{filled_from}
-use Rattle.edit_script.specs.Verdict.{Verdict, Refused, refused_or, query_refusal, wants_settled, is_over as is_id_over, line_limit, IsLineRefused}
+use Rattle.edit_script.specs.declared.blank.TheConstants.{LINE_LIMIT}
+use Rattle.edit_script.specs.Verdict.{Verdict, Refused, refused_or, query_refusal, wants_settled, is_over as is_id_over, IsLineRefused}
 use Rattle.cell_units.specs.declared.fault.Fault.{Fault}
 use Rattle.cell_units.specs.declared.fault.Fault.TheVariants as faults
 use Rattle.display_owner.specs.declared.owner.Owner.{Owner}
@@ -172,7 +173,7 @@ HandlesChange workers number change old new result =
 
 -- what was read of a line on a text
 pub record IsReadOn (form : Form) (text line : List ℕ) (asked : Asked) : Type 0 where
-  pub within : length line ≤ line_limit
+  pub within : length line ≤ LINE_LIMIT
   pub command : command_of form text line ≡ Some (meaning asked)
   pub fits : is_id_over (meaning asked) ≡ false
 
