@@ -92,9 +92,6 @@ module _ (inlays : List Inlay) (folds : List Fold) where
     W : List Token
     W = folded_before text inlays folds o
 
-    shown_if : Bool → Bool → List Token
-    shown_if i c = cond i [] (inlays_at inlays o ++ cond c (Hidden o) (Byte o line_feed) ∷ [])
-
     one : (c : Bool) → count_by is_break (cond c (Hidden o) (Byte o line_feed) ∷ []) + cond (cond c false true) 0 1 ≡ 1
     one true = refl
     one false = refl

@@ -66,10 +66,13 @@ fn shown_in_order(
     first: u32,
     second: u32,
 ) -> Result<(Spot, Spot), NoMemory>
+    // The record is lawful and short enough to be laid, and the offsets are boundaries of its text, in order.
     requires lawful { IsLawful (record_of plain.now) }
     requires size { length plain.now.text ≤ LAID_LIMIT }
     requires order { first ≤ second }
     requires boundaries { IsBoundary plain.now.text first × IsBoundary plain.now.text second }
+
+    // The order of spots is by row, and in one row by column.
     ensures { IfOk result (λ spots. IsTrue (spot_le spots.0 spots.1)) }
 {
     show_laws();

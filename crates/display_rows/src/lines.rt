@@ -48,7 +48,7 @@ fn wrapped(alloc: Global, text: &str, width: u32) -> Result<Cuts, NoMemory>
 }
 
 #[test]
-fn known_cuts(rt: HostRuntime) {
+fn lines_are_cut_at_the_width(rt: HostRuntime) {
     worked_rows();
     let table: [(&str, u32, &[u32], u32); 18] = [
         ("hello world", 5, &[6], 0),
@@ -87,7 +87,7 @@ fn known_cuts(rt: HostRuntime) {
 }
 
 #[test]
-fn known_cells(rt: HostRuntime) {
+fn characters_take_their_cells(rt: HostRuntime) {
     let table: [(&str, &[u32]); 7] = [
         ("\tab", &[4, 1, 1]),
         ("a\u{200b}b", &[1, 0, 1]),
@@ -124,7 +124,7 @@ fn shown_rows(alloc: Global, text: &str, width: u32) -> Result<Vec<Text>, NoMemo
 }
 
 #[test]
-fn known_row_texts(rt: HostRuntime) {
+fn rows_show_their_part_of_a_line(rt: HostRuntime) {
     let table: [(&str, u32, &[&str]); 4] = [
         (
             "e\u{301}x 🇫🇷\u{200b}ab\tc",
@@ -157,7 +157,7 @@ fn letters_and_tab(alloc: Global, letters: usize) -> Result<String, NoMemory> {
 }
 
 #[test]
-fn tab_at_256_cells(rt: HostRuntime) {
+fn a_tab_behind_256_cells_takes_one(rt: HostRuntime) {
     for (letters, cells) in [(254, 2), (255, 1), (256, 1)] {
         match letters_and_tab(rt.alloc(), letters) {
             Ok(text) => {
@@ -185,7 +185,7 @@ fn element_counts<N: Lines>(alloc: Global, lines: &N) -> Result<Vec<usize>, NoMe
 }
 
 #[test]
-fn lines_and_their_share(rt: HostRuntime) {
+fn a_share_has_the_same_lines(rt: HostRuntime) {
     let lines = Alike {
         text: "aaa bbb",
         count: 3,

@@ -17,7 +17,7 @@ fn carriage_returns_end_lines(rt: HostRuntime) -> Result<(), Fail> {
 }
 
 #[test]
-fn bytes_that_are_no_text(rt: HostRuntime) {
+fn bytes_that_are_no_text_are_refused(rt: HostRuntime) {
     match Display::start(rt.alloc(), b"abc\xff", &mut Steps::new()) {
         Err(fault) => assert_eq!(rt; fault, TextFault::NotUtf8 { at: 3 }),
         Ok(_) => panic!(rt; "no fault"),
@@ -123,7 +123,7 @@ fn assert_edited(rt: &impl Abort, alloc: Global, view: &View) -> Result<(), Fail
 }
 
 #[test]
-fn a_batch_of_two_thousand_ranges(rt: HostRuntime) -> Result<(), Fail> {
+fn a_batch_of_two_thousand_ranges_is_applied(rt: HostRuntime) -> Result<(), Fail> {
     let alloc = rt.alloc();
     let display = edited(&rt, alloc)?;
     let view = display.view()?;

@@ -3,24 +3,15 @@ ghost use Rattle.std.specs.Prelude.{◌≤◌, All, IfOk};
 
 use cell_units::{Bias, Fault, NoMemory, Shift, Steps};
 use made_input::Generator;
-use mark_tree::{Load, Mark, MarkTree};
+use mark_tree::{Mark, MarkTree};
 use std::alloc::Global;
+use sum_core::NoLoad;
 
 /// The bytes of the text that the marks stand in.
 const TEXT: u32 = 33_554_432;
 
-/// No load.
-#[derive(Drop)]
-pub struct Bare;
-
-impl Load for Bare {
-    fn copy(&self, _alloc: Global) -> Result<Bare, NoMemory> {
-        Ok(Bare)
-    }
-}
-
 /// A mark of this id at a random offset of the text.
-fn random_mark(generator: &mut Generator, id: u32) -> Mark<Bare>
+fn random_mark(generator: &mut Generator, id: u32) -> Mark<NoLoad>
     ensures { result.offset ≤ 33554432 }
 {
     let bias = if id % 2 == 0 { Bias::Left } else { Bias::Right };
@@ -28,12 +19,12 @@ fn random_mark(generator: &mut Generator, id: u32) -> Mark<Bare>
         offset: generator.below(TEXT),
         bias,
         id,
-        load: Bare,
+        load: NoLoad,
     }
 }
 
 /// A tree of `count` marks at random offsets of the text, added one by one.
-pub fn build(alloc: Global, count: u32, steps: &mut Steps) -> Result<MarkTree<Bare>, Fault>
+pub fn build(alloc: Global, count: u32, steps: &mut Steps) -> Result<MarkTree<NoLoad>, Fault>
     ensures { IfOk result (λ t. All (λ m. m.offset ≤ 33554432) t) }
 {
     let mut generator = Generator::new(1);
@@ -69,7 +60,7 @@ fn one_byte(turn: u32, start: u32) -> Shift
 /// number of marks.
 pub fn shift_each(
     alloc: Global,
-    tree: &mut MarkTree<Bare>,
+    tree: &mut MarkTree<NoLoad>,
     times: u32,
     steps: &mut Steps,
 ) -> Result<u64, NoMemory>
@@ -84,7 +75,7 @@ pub fn shift_each(
 }
 
 /// The places of the first marks at or after random offsets. It gives their sum.
-pub fn find_each(tree: &MarkTree<Bare>, times: u32, steps: &mut Steps) -> u64 {
+pub fn find_each(tree: &MarkTree<NoLoad>, times: u32, steps: &mut Steps) -> u64 {
     let mut generator = Generator::new(1);
     let mut check: u64 = 0;
     for _ in 0..times {
