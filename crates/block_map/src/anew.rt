@@ -34,14 +34,19 @@ pub(crate) fn places_anew<R: Rows>(
     edits: &[Edit],
     steps: &mut Steps,
 ) -> Result<Vec<u32>, NoMemory>
+    // The marks, stops and anchors are those of one side, and the edits replace rows that are there.
     requires side { IsSide marks.now stops.now anchors.now }
     requires edits { All (λ e. e.old_end ≤ length (all_rows (R.shown rows.now))) edits.now }
+
+    // Places of stops. Each stop that isn't at one of them may be carried, and none is there without a cause.
     ensures rising { IfOk result (λ places. IsRising 0 places.items) }
     ensures within { IfOk result (λ places. All (λ a. a < length stops.now) places.items) }
     ensures others { IfOk result (λ places.
         LeaveCarried shift edits.now (R.shown rows.now) side marks.now stops.now places.items) }
     ensures only { IfOk result (λ places. (k : ℕ) → Contains places.items k →
         IsAnewAt shift edits.now (R.shown rows.now) side marks.now stops.now anchors.now k) }
+
+    // The work: a search for each anchor, for each edit and by the replacement.
     ensures counted { steps.old ≤ steps.new }
     ensures steps { let cost = gathering (length anchors.now) (length edits.now) in
         TakesAtMost cost (length marks.now) steps.old steps.new }

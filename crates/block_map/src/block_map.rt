@@ -188,11 +188,16 @@ impl<R: Rows> BlockMap<R> {
         lines: BlockLines,
         steps: &mut Steps,
     ) -> Result<(), NoMemory>
+        // There is room for one more, neither side has the id, and the lines are such as a block may have.
         requires room { length self.old.above + length self.old.below < ENTRY_LIMIT }
         requires unused { has_block id self.old ≡ false }
         requires lawful { AreBlockLines lines }
+
+        // The map with the block in its order, or as it was.
         ensures ok { OnOk result (self.new ≡ added side (fresh id offset lines) self.old) }
         ensures err { OnErr result (self.new ≡ self.old) }
+
+        // The work: the blocks of that side may be looked at twice.
         ensures counted { steps.old ≤ steps.new }
         ensures steps { let count = length (on_side side self.old) in
             SearchesTwice altering_side (count + 1) steps.old steps.new }
@@ -211,9 +216,14 @@ impl<R: Rows> BlockMap<R> {
         side: Side,
         steps: &mut Steps,
     ) -> Result<(), NoMemory>
+        // That side has it.
         requires { is_kept id (on_side side self.old) ≡ true }
+
+        // The map without it, or as it was.
         ensures ok { OnOk result (self.new ≡ removed id self.old) }
         ensures err { OnErr result (self.new ≡ self.old) }
+
+        // The work: the blocks of that side may be looked at twice.
         ensures counted { steps.old ≤ steps.new }
         ensures steps { let count = length (on_side side self.old) in
             SearchesTwice altering_side count steps.old steps.new }

@@ -92,11 +92,16 @@ impl BlockSide {
         lines: BlockLines,
         steps: &mut Steps,
     ) -> Result<(), NoMemory>
+        // There is room for one more, no block has the id, and the lines are such as a block may have.
         requires room { length self.old < ENTRY_LIMIT }
         requires unused { list_any (λ k. k.id == id) self.old ≡ false }
         requires lawful { AreBlockLines lines }
+
+        // The blocks with it, by offset and then id, or as they were.
         ensures ok { OnOk result (self.new ≡ insert_by kept_le (fresh id offset lines) self.old) }
         ensures err { OnErr result (self.new ≡ self.old) }
+
+        // The work: every block may be looked at twice.
         ensures counted { steps.old ≤ steps.new }
         ensures steps { SearchesTwice altering_side (length self.old + 1) steps.old steps.new }
     {
@@ -118,9 +123,14 @@ impl BlockSide {
 
     /// Takes out the block of this id.
     pub(crate) fn take(&mut self, alloc: Global, id: u32, steps: &mut Steps) -> Result<(), NoMemory>
+        // There is one.
         requires { list_any (λ k. k.id == id) self.old ≡ true }
+
+        // The blocks without it, or as they were.
         ensures ok { OnOk result (self.new ≡ without id self.old) }
         ensures err { OnErr result (self.new ≡ self.old) }
+
+        // The work: every block may be looked at twice.
         ensures counted { steps.old ≤ steps.new }
         ensures steps { SearchesTwice altering_side (length self.old) steps.old steps.new }
     {

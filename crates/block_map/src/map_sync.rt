@@ -70,10 +70,15 @@ impl<R: Rows> BlockMap<R> {
         row_edits: &Patch,
         steps: &mut Steps,
     ) -> Result<BlockMap<R>, NoMemory>
+        // What a `sync` asks of the layer, the rows and the edits.
         requires { IsFollowed (P.source layer.now) shift row_edits.now (R.shown rows) self.old }
+
+        // What a `sync` leaves. As contracts see it, this map doesn't change.
         ensures ok { let source = P.source layer.now in
             IfOk result (λ m. m ≡ synced source shift (R.shown rows) self.old) }
         ensures kept { self.new ≡ self.old }
+
+        // The work of both sides: for the blocks that are shown anew, and for the edits.
         ensures counted { steps.old ≤ steps.new }
         ensures steps { SyncsAtMost shift row_edits.now self.old steps.old steps.new }
     {

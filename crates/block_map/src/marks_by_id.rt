@@ -17,11 +17,16 @@ pub(crate) fn with_new<P: Load>(
     mark: Mark<P>,
     steps: &mut Steps,
 ) -> Result<(u32, MarkTree<P>), NoMemory>
+    // No mark has the id, and with one more the number is still a u32.
     requires room { length tree.now + 1 < 2 ^ 32 }
     requires unused { list_any (has_id mark.id) tree.now ≡ false }
+
+    // The marks in order with it, where it stands at the place.
     ensures ok { IfOk result (λ r. r.1 ≡ insert_by mark_le mark tree.now) }
     ensures place { IfOk result (λ r. r.1 ≡ take r.0 tree.now ++ mark ∷ drop r.0 tree.now) }
     ensures within { IfOk result (λ r. r.0 ≤ length tree.now) }
+
+    // The work: every mark may be looked at for the id.
     ensures counted { steps.old ≤ steps.new }
     ensures steps { SearchesAndTakes changing (length tree.now + 1) steps.old steps.new }
 {
@@ -41,9 +46,14 @@ pub(crate) fn without_known<P: Load>(
     id: u32,
     steps: &mut Steps,
 ) -> Result<(u32, MarkTree<P>), NoMemory>
+    // A mark has the id.
     requires { list_any (has_id id) tree.now ≡ true }
+
+    // All marks but the one at the place, and that has the id.
     ensures rest { IfOk result (λ r. r.1 ≡ take r.0 tree.now ++ drop (r.0 + 1) tree.now) }
     ensures id { IfOk result (λ r. option_map (λ m. m.id) (slice_get tree.now r.0) ≡ Some id) }
+
+    // The work: every mark may be looked at for the id.
     ensures counted { steps.old ≤ steps.new }
     ensures steps { SearchesAndTakes changing (length tree.now) steps.old steps.new }
 {

@@ -53,14 +53,19 @@ impl Stops {
         side: Side,
         steps: &mut Steps,
     ) -> Result<(), NoMemory>
+        // The places are of marks, all other marks have their stops, and the stops of all may stand at their lines.
         requires rising { IsRising 0 places.now }
         requires within { All (λ a. a < length marks.now) places.now }
         requires others { let source = P.source layer.now in
             let all = stops_of_marks source (R.shown rows.now) side marks.now in
             self.old ≡ without places.now 0 all }
         requires marks { MayStand (P.source layer.now) (R.shown rows.now) side marks.now }
+
+        // Then each mark has its stop at its line.
         ensures ok { let source = P.source layer.now in
             OnOk result (self.new ≡ stops_of_marks source (R.shown rows.now) side marks.now) }
+
+        // The work: for each place its mark is looked up, and a stop is put in.
         ensures counted { steps.old ≤ steps.new }
         ensures steps { let count = length places.now in
             TakesAtMost (λ h. count * inserting h) (length marks.now) steps.old steps.new }
@@ -84,13 +89,18 @@ impl Stops {
         side: Side,
         steps: &mut Steps,
     ) -> Result<(), NoMemory>
+        // The mark is there, stops of marks may stand at their lines, and this one may be put at its place.
         requires there { at < length marks.now }
         requires marks { MayStand (P.source layer.now) (R.shown rows.now) side marks.now }
         requires room { (m : BlockMark) → slice_get marks.now at ≡ Some m →
             MayBePut self.old at (stop_of_mark (P.source layer.now) (R.shown rows.now) side m) }
+
+        // It stands at its line, before the stops that were from its place on.
         ensures ok { (m : BlockMark) → slice_get marks.now at ≡ Some m →
             let stop = stop_of_mark (P.source layer.now) (R.shown rows.now) side m in
             OnOk result (self.new ≡ with_stop at stop self.old) }
+
+        // The work: the mark is looked up, and its stop is put in.
         ensures counted { steps.old ≤ steps.new }
         ensures steps { let count = length self.old + 1 in
             ChangesAtMost inserting count (length marks.now) steps.old steps.new }

@@ -63,13 +63,18 @@ fn all_carried(
     edits: &[Edit],
     steps: &mut Steps,
 ) -> Result<BlockSide, NoMemory>
+    // The edits may move every stop, and then marks and stops make a side of which all blocks are shown.
     requires follow { MayFollow shift marks }
     requires patch { IsPatch edits.now }
     requires stops { MayBeMoved (bias_of side) edits.now stops.now }
     requires side { let carried = map (carried (bias_of side) edits.now) stops.now in
         IsSide (marks_after shift marks) carried [] }
+
+    // Each mark moved, with its stop carried.
     ensures ok { let carried = map (carried (bias_of side) edits.now) stops.now in
         IfOk result (λ s. s ≡ kept_of (marks_after shift marks) carried) }
+
+    // The work: two changes of the stops for each edit. The marks move only when they are next needed.
     ensures counted { steps.old ≤ steps.new }
     ensures steps { let count = length edits.now in
         TakesAtMost (λ h. 2 * count * putting h) (length stops.now) steps.old steps.new }
@@ -96,13 +101,18 @@ fn some_anew<P: Layer, R: Rows>(
     edits: &[Edit],
     steps: &mut Steps,
 ) -> Result<BlockSide, NoMemory>
+    // Offsets stay u32, and the edits take each stop of another place to the line of its moved mark.
     requires offsets { All (λ m. m.offset < 2 ^ 32) (marks_after shift marks) }
     requires patch { IsPatch edits.now }
     requires remade { let source = P.source layer.now in let lines = R.shown rows.now in
         MayBeRemade source shift edits.now lines side places.now marks stops.now }
+
+    // Each mark moved, with its stop at its line.
     ensures ok { let source = P.source layer.now in let after = marks_after shift marks in
         let stops = stops_of_marks source (R.shown rows.now) side after in
         IfOk result (λ s. s ≡ kept_of after stops) }
+
+    // The work: for the marks that the replacement meets, for the stops that are made anew, and for the edits.
     ensures counted { steps.old ≤ steps.new }
     ensures steps { let met = met_count shift marks in
         let cost = remaking met (length places.now) (length edits.now) in
@@ -135,12 +145,17 @@ impl BlockSide {
         edits: &Patch,
         steps: &mut Steps,
     ) -> Result<BlockSide, NoMemory>
+        // What a `sync` asks of one side: the edits lead to the new rows, and shown blocks stood at old lines.
         requires { let source = P.source layer.now in let lines = R.shown old.now in
             IsSideFollowed source shift edits.now lines (R.shown rows.now) side self.old }
+
+        // The moved blocks, each with the row of its line. As contracts see them, these don't change.
         ensures ok { let source = P.source layer.now in
             let moved = moved_kept shift self.old in
             IfOk result (λ s. s ≡ map (placed source (R.shown rows.now) side) moved) }
         ensures kept { self.new ≡ self.old }
+
+        // The work: for the blocks of the side that aren't carried with their lines, and for the edits.
         ensures counted { steps.old ≤ steps.new }
         ensures steps { let lines = R.shown old.now in
             SyncsSideAtMost shift edits.now lines side self.old steps.old steps.new }
@@ -149,7 +164,9 @@ impl BlockSide {
         let _len = layer.buffer_len();
         let _lines = old.lines();
         let marks = self.marks.settled(alloc, steps)?;
+        // Marks are in order, of distinct ids.
         let _count = marks.len();
+        // Rows of stops don't fall.
         let _rising = self.stops.len();
         let edits = edits.edits();
         let places = places_anew(

@@ -143,9 +143,14 @@ impl<R: Rows> BlockSnapshot<R> {
 
     /// The zone in which a row lies.
     pub(crate) fn place_of(&self, row: u32, steps: &mut Steps) -> Place
+        // The row is there.
         requires { row < length (rows_between self.now) }
+
+        // How far in its zone the row is, and how many rows of blocks each side has before that zone.
         ensures zone { IsInZone self.now row result.text_row result.at }
         ensures place { IsPlace self.now result }
+
+        // The work: at most 32 looks, each of one way down each side.
         ensures counted { steps.old ≤ steps.new }
         ensures steps { TakesBetween zoning self.now steps.old steps.new }
     {
@@ -180,10 +185,13 @@ impl<R: Rows> BlockSnapshot<R> {
     /// The window that a look at the start of a zone leaves. A text row farther is at least a row farther: so it is cut at both
     /// ends.
     fn narrowed(&self, window: Window, guess: u32, start: ZoneStart, row: u32) -> Window
+        // The row lies in the window, and the look was at one of its open text rows.
         requires window { IsWindow self.now row window }
         requires from { window.next ≤ guess }
         requires upto { guess < window.high }
         requires start { IsZoneStart self.now guess start }
+
+        // The row lies in this one too, and no more stay open than were before the look or behind it.
         ensures window { IsWindow self.now row result }
         ensures cut { let before = guess - window.next in
             let behind = window.high - (guess + 1) in
@@ -234,10 +242,15 @@ impl<R: Rows> BlockSnapshot<R> {
 
     /// The row at a place.
     fn row_at(&self, alloc: Global, place: Place, steps: &mut Steps) -> Result<Shown, NoMemory>
+        // The zone has a row at the place.
         requires place { IsPlace self.now place }
         requires there { place.at < length (zone self.now place.text_row) }
+
+        // That row of the zone.
         ensures row { IfOk result (λ shown.
             slice_get (zone self.now place.text_row) place.at ≡ Some (row_of_shown shown)) }
+
+        // The work: one way down counts the rows above the line, and another finds the text of a block.
         ensures counted { steps.old ≤ steps.new }
         ensures steps { TakesBetween finding self.now steps.old steps.new }
     {
@@ -276,9 +289,14 @@ impl<R: Rows> BlockSnapshot<R> {
 
     /// The row at which a text row of a line stands.
     pub fn row_of(&self, line: u32, row: u32, steps: &mut Steps) -> u32
+        // The line is there, and has such a row.
         requires line { line < length self.now.lines }
         requires row { row < length (line_rows self.now.lines line) }
+
+        // It counts the rows of lines and of blocks before it.
         ensures place { result ≡ place_of_row self.now line row }
+
+        // The work: one way down each side.
         ensures counted { steps.old ≤ steps.new }
         ensures steps { TakesBetween both_ways self.now steps.old steps.new }
     {

@@ -31,10 +31,15 @@ impl Stops {
         places: &[u32],
         steps: &mut Steps,
     ) -> Result<(), NoMemory>
+        // There is a stop at each place, and all rows together are a u32.
         requires rising { IsRising 0 places.now }
         requires within { All (λ a. a < length self.old) places.now }
         requires fit { StopsFit self.old }
+
+        // The others stay, each at its row.
         ensures ok { OnOk result (self.new ≡ without places.now 0 self.old) }
+
+        // The work: each stop is taken out by itself.
         ensures counted { steps.old ≤ steps.new }
         ensures steps { let count = length places.now in
             TakesAtMost (λ h. count * putting h) (length self.old) steps.old steps.new }
@@ -58,9 +63,14 @@ impl Stops {
         edits: &[Edit],
         steps: &mut Steps,
     ) -> Result<(), NoMemory>
+        // The edits keep the own row of each stop, and after them the stops are in order and fit a u32.
         requires patch { IsPatch edits.now }
         requires stops { MayBeMoved bias edits.now self.old }
+
+        // Each stop, moved by all edits.
         ensures ok { OnOk result (self.new ≡ map (carried bias edits.now) self.old) }
+
+        // The work: two changes for each edit.
         ensures counted { steps.old ≤ steps.new }
         ensures steps { let count = length edits.now in
             TakesAtMost (λ h. 2 * count * putting h) (length self.old) steps.old steps.new }
@@ -81,10 +91,15 @@ impl Stops {
         edits: &[Edit],
         steps: &mut Steps,
     ) -> Result<(), NoMemory>
+        // The edits keep the own row of each stop, and all rows together are a u32.
         requires patch { IsPatch edits.now }
         requires kept { All (IsKeptStop bias edits.now) self.old }
         requires fit { StopsFit self.old }
+
+        // Each stop moves up by the rows that go before it.
         ensures ok { OnOk result (self.new ≡ map (shrunk bias edits.now) self.old) }
+
+        // The work: one change for each edit.
         ensures counted { steps.old ≤ steps.new }
         ensures steps { let count = length edits.now in
             TakesAtMost (λ h. count * putting h) (length self.old) steps.old steps.new }
@@ -109,10 +124,15 @@ impl Stops {
         edits: &[Edit],
         steps: &mut Steps,
     ) -> Result<(), NoMemory>
+        // After the edits the stops are in order and fit a u32.
         requires patch { IsPatch edits.now }
         requires rising { AreRising 0 (map (grown bias edits.now) self.old) }
         requires fits { StopsFit (map (grown bias edits.now) self.old) }
+
+        // Each stop moves down by the rows that come before it.
         ensures ok { OnOk result (self.new ≡ map (grown bias edits.now) self.old) }
+
+        // The work: one change for each edit.
         ensures counted { steps.old ≤ steps.new }
         ensures steps { let count = length edits.now in
             TakesAtMost (λ h. count * putting h) (length self.old) steps.old steps.new }

@@ -84,10 +84,15 @@ impl Stops {
     /// The end of the text rows behind one between which no stop stands: the row of the next stop, or `limit` where that is
     /// before it.
     pub(crate) fn clear_to(&self, row: u32, limit: u32, steps: &mut Steps) -> u32
+        // The limit is behind the row.
         requires { row < limit }
+
+        // An end behind the row and not behind the limit, with no stop between.
         ensures some { row < result }
         ensures within { result ≤ limit }
         ensures clear { (t : ℕ) → row < t → t < result → texts_at t self.now ≡ [] }
+
+        // The work: one way down.
         ensures counted { steps.old ≤ steps.new }
         ensures steps { TakesAtMost way (length self.now) steps.old steps.new }
     {
@@ -101,9 +106,14 @@ impl Stops {
 
     /// The text of a row of the stops behind so many rows of text. `before` is how many rows the stops before them have.
     pub(crate) fn text_at(&self, row: u32, before: u32, at: u32, steps: &mut Steps) -> &Text
+        // The stops there have such a row, and the count before them is right.
         requires there { at < length (texts_at row self.now) }
         requires before { before ≡ rows_upto Left row self.now }
+
+        // The rows of all stops that stand there are counted together.
         ensures text { slice_get (texts_at row self.now) at ≡ Some result.now }
+
+        // The work: one way down.
         ensures counted { steps.old ≤ steps.new }
         ensures steps { TakesAtMost way (length self.now) steps.old steps.new }
     {
@@ -149,9 +159,14 @@ impl Stops {
         lines: BlockLines,
         steps: &mut Steps,
     ) -> Result<(), NoMemory>
+        // Its row lies between those of its neighbours, and all rows together stay a u32.
         requires { MayBePut self.old at (stop_with row lines) }
+
+        // The stops with it, or as they were.
         ensures ok { OnOk result (self.new ≡ with_stop at (stop_with row lines) self.old) }
         ensures err { OnErr result (self.new ≡ self.old) }
+
+        // The work: its neighbours are looked up, and one replacement is made.
         ensures counted { steps.old ≤ steps.new }
         ensures steps { TakesAtMost putting (length self.old + 1) steps.old steps.new }
     {
@@ -170,12 +185,17 @@ impl Stops {
         at: u32,
         steps: &mut Steps,
     ) -> Result<Stops, NoMemory>
+        // The index is a stop's or the end, one more stop is a u32 still, and so are all rows together.
         requires within { at ≤ length self.now }
         requires room { length self.now + 1 < 2 ^ 32 }
         requires fit { StopsFit self.now }
+
+        // It stands at the row of the one before it, or at 0, and adds no row.
         ensures ok { let row = last_row 0 (take at self.now) in
             IfOk result (λ stops. stops ≡ with_stop at (stop_with row []) self.now) }
         ensures fits { IfOk result StopsFit }
+
+        // The work: the row is looked up, and one stop is put in.
         ensures counted { steps.old ≤ steps.new }
         ensures steps { TakesAtMost inserting (length self.now + 1) steps.old steps.new }
     {
@@ -194,10 +214,15 @@ impl Stops {
         at: u32,
         steps: &mut Steps,
     ) -> Result<Stops, NoMemory>
+        // There is a stop of that index, and all rows together are a u32.
         requires within { at < length self.now }
         requires fit { StopsFit self.now }
+
+        // The others stay at their rows, and still fit a u32.
         ensures ok { IfOk result (λ stops. stops ≡ without_stop at self.now) }
         ensures fits { IfOk result StopsFit }
+
+        // The work: one stop is taken out.
         ensures counted { steps.old ≤ steps.new }
         ensures steps { TakesAtMost putting (length self.now) steps.old steps.new }
     {
@@ -215,10 +240,15 @@ impl Stops {
         at: u32,
         steps: &mut Steps,
     ) -> Result<(), NoMemory>
+        // It is there, and all rows together are a u32.
         requires within { at < length self.old }
         requires fit { StopsFit self.old }
+
+        // The stops without it, or as they were.
         ensures ok { OnOk result (self.new ≡ without_stop at self.old) }
         ensures err { OnErr result (self.new ≡ self.old) }
+
+        // The work: its neighbours are looked up, and one replacement is made.
         ensures counted { steps.old ≤ steps.new }
         ensures steps { TakesAtMost putting (length self.old) steps.old steps.new }
     {
@@ -253,14 +283,19 @@ impl Stops {
 
     /// The first stop that doesn't stand before a place between rows of text, or the end of all.
     fn first_behind(&self, row: u32, bias: Bias, steps: &mut Steps) -> FirstStop
+        // How many rows the stops before it have, and the row of text of the last of these.
         ensures within { result.index ≤ length self.now }
         ensures rows { result.rows ≡ rows_upto bias row self.now }
         ensures before { result.before ≡ last_row 0 (take result.index self.now) }
+
+        // Exactly the stops before its index stand before the place. It has a row unless it is the end.
         ensures place { (k : ℕ) (s : Stop) → slice_get self.now k ≡ Some s →
             (k < result.index) ↔ (stands_before bias row s ≡ true) }
         ensures row { (d : Stop) →
             MatchOption result.row (length self.now ≤ result.index)
             (λ r. (slice_index_or self.now result.index d).row ≡ r) }
+
+        // The work: one way down.
         ensures counted { steps.old ≤ steps.new }
         ensures steps { TakesAtMost way (length self.now) steps.old steps.new }
     {
@@ -275,12 +310,17 @@ impl Stops {
 
     /// The places of the stops from a row through another one, which isn't before it. Where there is none, one look tells.
     pub(crate) fn places_through(&self, first: u32, last: u32, steps: &mut Steps) -> Places
+        // The rows are in order.
         requires { first ≤ last }
+
+        // Before `from` are exactly the stops of lesser rows than the first, before `to` those of rows up to the last.
         ensures within { result.to ≤ length self.now }
         ensures from { (k : ℕ) (s : Stop) → slice_get self.now k ≡ Some s →
             (k < result.from) ↔ (stands_before Left first s ≡ true) }
         ensures to { (k : ℕ) (s : Stop) → slice_get self.now k ≡ Some s →
             (k < result.to) ↔ (stands_before Right last s ≡ true) }
+
+        // The work: at most one way down for each end.
         ensures counted { steps.old ≤ steps.new }
         ensures steps { TakesAtMost both_ways (length self.now) steps.old steps.new }
     {
@@ -307,11 +347,16 @@ impl Stops {
         rows: Shift,
         steps: &mut Steps,
     ) -> Result<(), NoMemory>
+        // No stop stands among the replaced rows, and after it all rows together are a u32.
         requires clear { AreClear bias rows.start rows.end self.old }
         requires fits { StopsFit (map (moved_stop bias rows.start rows.end rows.count) self.old) }
+
+        // The stops before the end stay where they are. Where there is no memory, all do.
         ensures ok { OnOk result
             (self.new ≡ map (moved_stop bias rows.start rows.end rows.count) self.old) }
         ensures err { OnErr result (self.new ≡ self.old) }
+
+        // The work: the first stop that moves is found, and its gap is changed.
         ensures counted { steps.old ≤ steps.new }
         ensures steps { TakesAtMost putting (length self.old) steps.old steps.new }
     {

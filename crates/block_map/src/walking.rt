@@ -51,11 +51,16 @@ impl<R: Rows> BlockSnapshot<R> {
         end: u32,
         steps: &mut Steps,
     ) -> Result<u32, NoMemory>
+        // There is a row to append, and all up to the end are there.
         requires some { row < end }
         requires within { end ≤ length (rows_between self.now) }
+
+        // The rows up to the answer: at least one, and none from the end on.
         ensures some { IfOk result (λ next. (row < next) × (next ≤ end)) }
         ensures rows { IfOk result (λ next. shown_rows shown.new.items
             ≡ shown_rows shown.old.items ++ take (next - row) (drop row (rows_between self.now))) }
+
+        // The work: so much for each row that is appended, or without memory for each up to the end.
         ensures counted { steps.old ≤ steps.new }
         ensures steps { IfOk result (λ next.
             TakesBetween (λ h. (next - row) * walking h) self.now steps.old steps.new) }
@@ -92,12 +97,17 @@ impl<R: Rows> BlockSnapshot<R> {
         to: u32,
         steps: &mut Steps,
     ) -> Result<(), NoMemory>
+        // From the place up to `to` there are rows of blocks above the line.
         requires place { IsPlace self.now place }
         requires order { place.at ≤ to }
         requires within { to ≤ length (texts_at place.text_row self.now.above) }
+
+        // These rows, in order, behind those that were there.
         ensures rows { let texts = texts_at place.text_row self.now.above in
             OnOk result (shown_rows shown.new.items ≡ shown_rows shown.old.items
             ++ map block_row (take (to - place.at) (drop place.at texts))) }
+
+        // The work: one way down for each row.
         ensures counted { steps.old ≤ steps.new }
         ensures steps { TakesBetween (λ h. (to - place.at) * way h) self.now steps.old steps.new }
     {
@@ -115,12 +125,17 @@ impl<R: Rows> BlockSnapshot<R> {
         to: u32,
         steps: &mut Steps,
     ) -> Result<(), NoMemory>
+        // From `from` up to `to` there are rows of blocks below the line.
         requires place { IsPlace self.now place }
         requires order { from ≤ to }
         requires within { to ≤ length (texts_at (place.text_row + 1) self.now.below) }
+
+        // These rows, in order, behind those that were there.
         ensures rows { let texts = texts_at (place.text_row + 1) self.now.below in
             OnOk result (shown_rows shown.new.items ≡ shown_rows shown.old.items
             ++ map block_row (take (to - from) (drop from texts))) }
+
+        // The work: one way down for each row.
         ensures counted { steps.old ≤ steps.new }
         ensures steps { TakesBetween (λ h. (to - from) * way h) self.now steps.old steps.new }
     {
@@ -132,12 +147,17 @@ impl<R: Rows> BlockSnapshot<R> {
 
     /// The end of the text rows from one on, at most so many, between which no block stands.
     fn clear_to(&self, text_row: u32, count: u32, steps: &mut Steps) -> u32
+        // The text row is there, and at least one is asked for.
         requires there { text_row < length (all_rows self.now.lines) }
         requires some { 0 < count }
+
+        // At least one text row, no more than asked for, none past the last, and no stop between them.
         ensures some { text_row < result }
         ensures few { result ≤ text_row + count }
         ensures within { result ≤ length (all_rows self.now.lines) }
         ensures clear { IsClear self.now text_row result }
+
+        // The work: one way down each side.
         ensures counted { steps.old ≤ steps.new }
         ensures steps { TakesBetween both_ways self.now steps.old steps.new }
     {
@@ -155,11 +175,14 @@ impl<R: Rows> BlockSnapshot<R> {
         row: u32,
         end: u32,
     ) -> Result<(), NoMemory>
+        // So many text rows are there, the first stands at `row`, and no stop stands between them.
         requires order { row ≤ end }
         requires within { text_row + (end - row) ≤ length (all_rows self.now.lines) }
         requires zone { let above = length (texts_at text_row self.now.above) in
             IsInZone self.now row text_row above }
         requires clear { IsClear self.now text_row (text_row + (end - row)) }
+
+        // So they are the rows from `row` up to the end.
         ensures rows { OnOk result (shown_rows shown.new.items
             ≡ shown_rows shown.old.items ++ take (end - row) (drop row (rows_between self.now))) }
     {
@@ -182,10 +205,13 @@ impl<R: Rows> BlockSnapshot<R> {
         row: u32,
         end: u32,
     ) -> Result<u32, NoMemory>
+        // There is a row to append, all up to the end are there, and the text row stands at `row`.
         requires some { row < end }
         requires within { end ≤ length (rows_between self.now) }
         requires zone { let above = length (texts_at text_row self.now.above) in
             IsInZone self.now row text_row above }
+
+        // The rows up to the answer: at least one, and none from the end on.
         ensures some { IfOk result (λ next. (row < next) × (next ≤ end)) }
         ensures rows { IfOk result (λ next. shown_rows shown.new.items
             ≡ shown_rows shown.old.items ++ take (next - row) (drop row (rows_between self.now))) }
@@ -234,12 +260,17 @@ fn push_blocks(
     to: u32,
     steps: &mut Steps,
 ) -> Result<(), NoMemory>
+    // The stops there have these rows, and the count before them is right.
     requires order { from ≤ to }
     requires within { to ≤ length (texts_at text_row stops.now) }
     requires before { before ≡ rows_upto Left text_row stops.now }
+
+    // These rows, in order, behind those that were there.
     ensures rows { let texts = take (to - from) (drop from (texts_at text_row stops.now)) in
         OnOk result (shown_rows shown.new.items
         ≡ shown_rows shown.old.items ++ map block_row texts) }
+
+    // The work: one way down for each row.
     ensures counted { steps.old ≤ steps.new }
     ensures steps { let count = to - from in
         TakesAtMost (λ h. count * way h) (length stops.now) steps.old steps.new }

@@ -17,11 +17,14 @@ impl Window {
     /// The text row to look at for a row, of which at most `room` stay open on either side: by share if no more than `room` are
     /// open, and else in the middle.
     pub(crate) fn guess(self, row: u32, room: u32) -> u32
+        // Text rows are open, at most `room` on either side of the middle, and the row lies between the ends.
         requires some { self.next < self.high }
         requires order { self.low ≤ self.high }
         requires before { self.start ≤ row }
         requires behind { row < self.end }
         requires room { self.high ≤ self.next + (2 * room + 1) }
+
+        // An open text row. Whichever side of it is left, no more than `room` stay open.
         ensures from { self.next ≤ result }
         ensures upto { result < self.high }
         ensures open_before { result - self.next ≤ room }
@@ -37,10 +40,13 @@ impl Window {
 
     /// The text row that has the same share of those between the ends before it as a row has of the rows there.
     fn by_share(self, row: u32) -> u32
+        // Text rows are open, and the row lies between the ends.
         requires some { self.next < self.high }
         requires order { self.low ≤ self.high }
         requires before { self.start ≤ row }
         requires behind { row < self.end }
+
+        // An open text row, whatever the share.
         ensures from { self.next ≤ result }
         ensures upto { result < self.high }
     {

@@ -183,12 +183,17 @@ fn follow<P: Layer, R: Rows>(
     edits: &Patch,
     steps: &mut Steps,
 ) -> Result<BlockRows<R>, NoMemory>
+    // What a `sync` of the blocks asks of the layer, the rows and the edits.
     requires followed { IsFollowed (P.source layer.now) shift edits.now (R.shown rows) blocks.old }
+
+    // What is shown, and what is there after it.
     ensures shown { let source = P.source layer.now in
         IfOk result (λ made. IsShown source shift (R.shown rows) blocks.old made.blocks) }
     ensures rows { IfOk result (λ made. R.shown made.rows ≡ R.shown rows) }
     ensures ok { let source = P.source layer.now in
         OnOk result (blocks.new ≡ synced source shift (R.shown rows) blocks.old) }
+
+    // What stays, and the work.
     ensures unchanged { OnErr result (blocks.new ≡ blocks.old) }
     ensures counted { steps.old ≤ steps.new }
 {

@@ -186,9 +186,14 @@ fn replaced(
     put: &str,
     steps: &mut Steps,
 ) -> Result<Followed, Fault>
+    // The patch so far leads from the lines of the run's moment to those of now.
     requires { Fits since.now taken.now before.now.text.lines }
+
+    // Which replacements are accepted.
     ensures range { OnOk result (IsRange before.now.text.rope start end) }
     ensures small { IfOk result (λ new. length new.blocked.text.rope ≤ TEXT_LIMIT) }
+
+    // The text and its rows after it, what is shown, and where the lines came from.
     ensures text { let made = replaced_text before.now.text.rope start end (clean put.now) in
         IfOk result (λ new. new.blocked.text.rope ≡ made) }
     ensures rows { let old = before.now.text.map in IfOk result (λ new.
@@ -199,6 +204,8 @@ fn replaced(
         let text = new.text.rope in let standing = new.text.map.standing in
         IsShownAfter text start end count standing old new.map new.shown.blocks) }
     ensures fits { IfOk result (λ new. Fits new.since taken.now new.blocked.text.lines) }
+
+    // Why it is refused, and the work.
     ensures refused { let text = before.now.text.rope in
         IfErr result (IsReplaceFault text start end (clean put.now)) }
     ensures counted { steps.old ≤ steps.new }

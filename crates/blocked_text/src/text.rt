@@ -42,12 +42,17 @@ fn show_text(
     blocks: &mut BlockMap<Shown>,
     steps: &mut Steps,
 ) -> Result<BlockRows<Shown>, NoMemory>
+    // The blocks were last shown over these rows.
     requires stands { StandsUnder text.now.rope text.now.map.standing blocks.old }
+
+    // What is shown, and what is there after it.
     ensures shown { IfOk result (λ made.
         IsShownOf text.now.rope text.now.map.standing blocks.old made.blocks) }
     ensures blocks { let standing = text.now.map.standing in
         OnOk result (blocks.new ≡ synced_with text.now.rope standing blocks.old) }
     ensures stands { OnOk result (StandsUnder text.now.rope text.now.map.standing blocks.new) }
+
+    // What stays, and the work.
     ensures unchanged { OnErr result (blocks.new ≡ blocks.old) }
     ensures counted { steps.old ≤ steps.new }
 {
@@ -59,10 +64,13 @@ fn show_text(
 impl BlockedText {
     /// The text without blocks, of which each line stands in one row.
     pub fn new(alloc: Global, rope: Rope, steps: &mut Steps) -> Result<BlockedText, NoMemory>
+        // The text as it is given, its lines at width 0, and no block between their rows.
         ensures text { IfOk result (λ made. made.text.rope ≡ rope) }
         ensures rows { IfOk result (λ made. made.text.map ≡ unwrapped_at 0 made.text.lines) }
         ensures blocks { IfOk result (λ made.
             made.map ≡ state_of (shown_rows made.text.map.standing)) }
+
+        // What is shown of both, and the work.
         ensures shown { IfOk result (λ made.
             IsShownOf made.text.rope made.text.map.standing made.map made.shown.blocks) }
         ensures counted { steps.old ≤ steps.new }
@@ -128,10 +136,13 @@ impl BlockedText {
 
     /// Shows the blocks that are there now.
     pub fn show(&mut self, alloc: Global, steps: &mut Steps) -> Result<(), NoMemory>
+        // What is shown, and the map of blocks after it.
         ensures shown { let text = self.old.text in
             OnOk result (IsShownOf text.rope text.map.standing self.old.map self.new.shown.blocks) }
         ensures blocks { let text = self.old.text in
             OnOk result (self.new.map ≡ synced_with text.rope text.map.standing self.old.map) }
+
+        // What stays, and the work.
         ensures text { self.new.text ≡ self.old.text }
         ensures unchanged { OnErr result (self.new ≡ self.old) }
         ensures counted { steps.old ≤ steps.new }

@@ -34,8 +34,11 @@ pub fn first(alloc: Global, display: &mut Display) -> Result<Version, NoMemory>
 
 /// The next version.
 pub fn next(alloc: Global, display: &mut Display) -> Result<Version, NoMemory>
+    // No version so far was published as the last, and the events are few enough for one more.
     requires goes_on { ends display.old.events ≡ false }
     requires events { length display.old.events < 4000000 }
+
+    // The version is what the display is then: one event more, and again not the last.
     ensures next { IfOk result (λ version. (version ≡ display.new) × Follows display.old version) }
     ensures goes_on { OnOk result (ends display.new.events ≡ false) }
     ensures events { OnOk result (length display.new.events ≡ length display.old.events + 1) }

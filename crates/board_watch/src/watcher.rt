@@ -194,11 +194,16 @@ pub fn end_all(
     writer: &mut Writer,
     team: Vec<Watcher>,
 ) -> Result<Vec<Watched>, NoMemory>
+    // All of them look at the writer's board.
     requires { All (λ w. w.known.board ≡ writer.old.board) team.items }
+
+    // What each watcher saw stays at the front. Where the newest version is the last, each ends with it.
     ensures count { IfOk result (λ watched. vec_len watched ≡ vec_len team) }
     ensures gives { IfOk result (λ watched. AllZip Gives team.items watched.items) }
     ensures seen { IfOk result (λ watched. ends writer.old.newest.events ≡ true →
         All (λ w. IsWatched writer.old.newest w.seen.items) watched.items) }
+
+    // The writer stays as it was.
     ensures writer { writer.new ≡ writer.old }
 {
     let mut watched = Vec::new(alloc);

@@ -14,9 +14,12 @@ use std::alloc::Global;
 
 /// Where the row after the first begins. None comes only where no row follows.
 fn first_end(mut walk: Walk, lead: u32, room: u32) -> Option<u32>
+    // The line's count of elements and its cells fit u32, and something follows the `lead` blanks at its start.
     requires fits { LineFitsU32 (left_of walk) }
     requires lead { lead ≡ lead_of (left_of walk) }
     requires some { lead < length (left_of walk) }
+
+    // Where the row after the first begins, and none only where the first takes the whole line.
     ensures some { IfSome result (λ end. end ≡ next_start_of (left_of walk.entry) room 0) }
     ensures none { IfNone result (length (left_of walk.entry) ≤ next_start_of (left_of walk.entry) room 0) }
 {
@@ -59,10 +62,15 @@ fn push_starts(
     room: u32,
     from: u32,
 ) -> Result<(), NoMemory>
+    // The line's count of elements and its cells fit u32, and something follows the `lead` blanks at its start.
     requires fits { LineFitsU32 (left_of walk) }
     requires lead { lead ≡ lead_of (left_of walk) }
     requires some { lead < length (left_of walk) }
+
+    // A place in the line or at its end.
     requires within { from ≤ length (left_of walk) }
+
+    // The starts of all rows from that place on are added.
     ensures { OnOk result (starts.new.items ≡ starts.old.items ++ row_starts (left_of walk.entry) room (length (left_of walk.entry)) from) }
 {
     skip(&mut walk, from);
@@ -90,10 +98,15 @@ pub(crate) fn cuts_of_walks(
     later: Walk,
     width: u32,
 ) -> Result<Cuts, NoMemory>
+    // Two walks along one line that these blanks lead, whose count of elements and cells fit u32.
     requires fits { LineFitsU32 (left_of first) }
     requires lead { IsLead (left_of first) lead }
     requires same { left_of later ≡ left_of first }
+
+    // A lawful width.
     requires lawful { IsWidth width }
+
+    // The places where the line is cut at that width.
     ensures { IfOk result (λ cuts. cuts.items ≡ cuts_of (left_of first.entry) width) }
 {
     let mut cuts = SmallVec::new(alloc);

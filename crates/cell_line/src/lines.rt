@@ -59,10 +59,15 @@ pub trait Lines: Drop + Send + Sync {
         first: u32,
         count: u32,
     ) -> Result<Vec<Text>, NoMemory>
+        // There is a line of this number, and its count of elements and its cells fit u32.
         requires within { line < length (elements_by_line self.now) }
         requires fits { LineFitsU32 (line_at (elements_by_line self.now) line) }
+
+        // Its cuts at a lawful width.
         requires lawful { IsWidth width }
         requires cut { cuts.now.items ≡ cuts_of (line_at (elements_by_line self.now) line) width }
+
+        // The texts of its rows from the row `first` on, up to `count` of them.
         ensures { IfOk result (λ texts. texts.items ≡ take count (drop first (row_texts_of (line_at (elements_by_line self.now) line) width))) }
     {
         let elements = self.elements(alloc, line)?;

@@ -91,10 +91,15 @@ pub(crate) fn row_texts_of_walk(
     first: u32,
     count: u32,
 ) -> Result<Vec<Text>, NoMemory>
+    // A walk along a line that these blanks lead, whose count of elements and cells fit u32.
     requires fits { LineFitsU32 (left_of walk) }
     requires lead { IsLead (left_of walk) lead }
+
+    // Its cuts at a lawful width.
     requires lawful { IsWidth width }
     requires cut { cuts.now ≡ cuts_of (left_of walk) width }
+
+    // The texts of its rows from the row `first` on, up to `count` of them.
     ensures { IfOk result (λ texts. texts.items ≡ take count (drop first (row_texts_of (left_of walk.entry) width))) }
 {
     let mut texts = Vec::new(alloc);
@@ -130,10 +135,15 @@ pub fn row_texts_of_pieces(
     first: u32,
     count: u32,
 ) -> Result<Vec<Text>, NoMemory>
+    // A tab size of 1 to 16, at which the line's count of elements and its cells fit u32.
     requires size { (1 ≤ tab) × (tab ≤ 16) }
     requires fits { LineFitsU32 (elements_of pieces.now tab) }
+
+    // Its cuts at a lawful width.
     requires lawful { IsWidth width }
     requires cut { cuts.now.items ≡ cuts_of (elements_of pieces.now tab) width }
+
+    // The texts of its rows from the row `first` on, up to `count` of them.
     ensures { IfOk result (λ texts. texts.items ≡ take count (drop first (row_texts_of (elements_of pieces.now tab) width))) }
 {
     let lead = Lead::of(Walk::Pieces(PieceWalk::new(pieces, tab)));

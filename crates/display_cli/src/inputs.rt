@@ -93,8 +93,11 @@ pub struct MapInputs {
 impl MapInputs {
     /// Inputs of these files, whose calls of the numbers in `failing` fail.
     pub fn new(files: Vec<NamedBytes>, failing: Vec<u64>) -> MapInputs
+        // The files, and which calls fail, are as given.
         ensures files { result.files ≡ files }
         ensures failing { result.calls.failing ≡ failing }
+
+        // No call is counted yet, no fault and no read.
         ensures made { result.calls.made ≡ 0 }
         ensures faults { faults_in result.faults ≡ no_faults }
         ensures reads { reads_told result.reads ≡ [] }
@@ -115,18 +118,25 @@ impl MapInputs {
         at: u64,
         room: &mut [u8],
     ) -> Result<usize, Failed>
+        // The room's front has the bytes of the name from `at` on, as many as there are and fit.
         ensures within { IfOk result (λ n. n ≤ length room.old) }
         ensures given { IfOk result
             (λ n. IfSome (told_by self.old name.now) (IsGiven at room.old room.new n)) }
         ensures most { IfOk result
             (λ n. IfSome (told_by self.old name.now) (IsMost at room.old n)) }
+
+        // Where it reads, the name is there, the call isn't one that fails, and no fault is counted.
         ensures there { OnOk result (IsSome (told_by self.old name.now)) }
         ensures passes { OnOk result (is_failing self.old.calls self.new.calls ≡ false) }
         ensures passed { OnOk result (faults_in self.new.faults ≡ faults_in self.old.faults) }
+
+        // Where it fails, the call is one that fails or the name isn't there, and a fault of the part is counted.
         ensures fails { OnErr result ((is_failing self.old.calls self.new.calls ≡ true)
             ⊎ (told_by self.old name.now ≡ None)) }
         ensures failed { OnErr result
             (HasPartRisen part (faults_in self.old.faults) (faults_in self.new.faults)) }
+
+        // Either way the call is counted, and the files and the reads that are told stay.
         ensures counted { self.new.calls ≡ one_more self.old.calls }
         ensures files { self.new.files ≡ self.old.files }
         ensures reads { reads_told self.new.reads ≡ reads_told self.old.reads }

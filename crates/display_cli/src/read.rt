@@ -59,18 +59,25 @@ fn read_more<I: Inputs>(
     room: &mut [u8],
     bytes: &mut Vec<u8>,
 ) -> Result<usize, Unread>
+    // The bytes so far are the first of those that are told, and within the limit. The room isn't empty.
     requires some { 0 < length room.old }
     requires within { length bytes.old.items ≤ limit }
     requires limit { limit < 2 ^ 32 }
     requires front { HasFront ((I.state inputs.old).told name.now) bytes.old.items }
+
+    // They are still the first of the told ones, at most one over the limit, and all of them where none came.
     ensures grows { IfOk result (λ n. length bytes.new.items ≡ length bytes.old.items + n) }
     ensures within { OnOk result (length bytes.new.items ≤ limit + 1) }
     ensures front { OnOk result (HasFront ((I.state inputs.old).told name.now) bytes.new.items) }
     ensures end { IfOk result
         (λ n. n ≡ 0 → AreTold ((I.state inputs.old).told name.now) bytes.new.items) }
+
+    // Where it succeeds no fault is counted, and else the error tells why.
     ensures passed { OnOk result ((I.state inputs.new).faults ≡ (I.state inputs.old).faults) }
     ensures failed { IfErr result (IsUnread part ((I.state inputs.old).told name.now) limit
         (I.state inputs.old).faults (I.state inputs.new).faults) }
+
+    // One read is made, from the end of the bytes so far, and what is told stays.
     ensures reads { ReadsOnce part name.now (length bytes.old.items) result
         (I.state inputs.old) (I.state inputs.new) }
 {
@@ -89,11 +96,17 @@ pub(crate) fn read_whole<I: Inputs>(
     limit: usize,
 ) -> Result<Vec<u8>, Unread>
     requires { limit < 2 ^ 32 }
+
+    // Where the bytes are told, these are all of them, and no fault is counted.
     ensures whole { IfOk result
         (λ bytes. IsWholeWithin ((I.state inputs.old).told name.now) limit bytes.items) }
     ensures passed { OnOk result ((I.state inputs.new).faults ≡ (I.state inputs.old).faults) }
+
+    // Why they weren't read to their end, and what that makes of the counts of faults.
     ensures failed { IfErr result (IsUnread part ((I.state inputs.old).told name.now) limit
         (I.state inputs.old).faults (I.state inputs.new).faults) }
+
+    // The reads follow on one another from the first byte on, and what is told stays.
     ensures reads { ReadsName part name.now (I.state inputs.old) (I.state inputs.new) }
 {
     let mut room = zeros(alloc, PIECE)?;

@@ -63,13 +63,19 @@ fn wants_settled(read: &Result<Asked, Fault>) -> bool
 /// Records that the line of this number is handled, where the journal has room for it and for so many operations.
 fn record_line(number: u64, operations: usize, owner: &mut Owner) -> Result<(), Stop>
     requires { IsReady owner.old }
+
+    // Where it is recorded, the journal had room for a step's events beside the operations.
     ensures recorded { OnOk result
         (owner.new.display ≡ appended owner.old.display (Line number ∷ [])) }
     ensures room { OnOk result
         (length owner.old.display.events + EVENTS_AHEAD + operations ≤ event_limit) }
+
+    // Where it isn't, the display stays: there was too little room, or no memory.
     ensures unchanged { OnErr result (owner.new.display ≡ owner.old.display) }
     ensures why { IfErr result
         (IsUnrecorded (length owner.old.display.events + EVENTS_AHEAD + operations)) }
+
+    // The owner is ready again unless it stopped, and its team is the same.
     ensures ready { OnOk result (IsReady owner.new) }
     ensures team { IsSameTeam owner.old owner.new }
 {
@@ -95,12 +101,19 @@ fn apply_change<R: Wait>(
     change: &Change,
     owner: &mut Owner,
 ) -> Result<Option<Refusal>, Stop>
+    // There is room for the operations and a version, and the owner is ready.
     requires room { length owner.old.display.events + length (ops_of change.now) + 1 ≤ event_limit }
     requires ready { IsReady owner.old }
+
+    // All of it is done and published, or a refusal that is owed leaves the display as it was.
     ensures changed { IfOk result (HasChanged owner.old.display change.now owner.new.display) }
+
+    // It stops for want of memory alone: before the change, before its version, or before that is shown.
     ensures memory { IfErr result (λ stop. stop ≡ stops.Memory) }
     ensures stopped { OnErr result
         (IsWithinChange owner.old.display change.now owner.new.display) }
+
+    // The owner is ready again unless it stopped, and its team is the same.
     ensures ready { OnOk result (IsReady owner.new) }
     ensures team { IsSameTeam owner.old owner.new }
 {
@@ -130,10 +143,15 @@ pub(crate) struct Runner<'a, R, G, K> {
 impl<'a, R: Wait, G: Gate, K: Sink> Runner<'a, R, G, K> {
     /// Handles the line of this number that asks for nothing but the wrapping of every display line.
     fn settled(&mut self, number: u64) -> Result<Outcome, Stop>
+        // The next line may be handled, and no line of the display is left to be wrapped.
         requires abreast { IsAbreast self.old.owner }
         requires settled { is_settled (present_of self.old.owner.display) ≡ true }
+
+        // The entry, which is accepted, is handled, or the run stops.
         ensures handled { Handles self.old.owner.crew.workers number (Accepted Settle)
             (stage K.state self.old) (stage K.state self.new) result }
+
+        // The owner is ready again where the run goes on. Its team, the sink and the form stay.
         ensures ready { OnOk result (IsReady self.new.owner) }
         ensures team { IsSameTeam self.old.owner self.new.owner }
         ensures sink { SameSink self.old self.new }
@@ -146,8 +164,12 @@ impl<'a, R: Wait, G: Gate, K: Sink> Runner<'a, R, G, K> {
     /// Refuses the line of this number.
     fn refuse(&mut self, number: u64, refusal: Refusal) -> Result<Outcome, Stop>
         requires { IsAbreast self.old.owner }
+
+        // The entry to which this refusal is owed is handled, or the run stops.
         ensures handled { Handles self.old.owner.crew.workers number (Refused refusal)
             (stage K.state self.old) (stage K.state self.new) result }
+
+        // The owner is ready again where the run goes on. Its team, the sink and the form stay.
         ensures ready { OnOk result (IsReady self.new.owner) }
         ensures team { IsSameTeam self.old.owner self.new.owner }
         ensures sink { SameSink self.old self.new }
@@ -161,8 +183,12 @@ impl<'a, R: Wait, G: Gate, K: Sink> Runner<'a, R, G, K> {
     /// Refuses the line of this number for why it wasn't read, or stops where there was no memory for that.
     fn refuse_unread(&mut self, number: u64, fault: Fault) -> Result<Outcome, Stop>
         requires { IsAbreast self.old.owner }
+
+        // The entry that wasn't read for this fault is handled, or the run stops.
         ensures handled { HandlesUnread self.old.owner.crew.workers number fault
             (stage K.state self.old) (stage K.state self.new) result }
+
+        // The owner is ready again where the run goes on. Its team, the sink and the form stay.
         ensures ready { OnOk result (IsReady self.new.owner) }
         ensures team { IsSameTeam self.old.owner self.new.owner }
         ensures sink { SameSink self.old self.new }
@@ -176,11 +202,16 @@ impl<'a, R: Wait, G: Gate, K: Sink> Runner<'a, R, G, K> {
 
     /// Answers a query on a view of the display, or refuses it, which the line of this number asks.
     fn answer(&mut self, number: u64, query: &Query) -> Result<Outcome, Stop>
+        // The next line may be handled, and no line of the display is left to be wrapped where the query wants that.
         requires abreast { IsAbreast self.old.owner }
         requires settled { query_wants_settled query.now ≡ true
             → is_settled (present_of self.old.owner.display) ≡ true }
+
+        // The entry that asks this is handled, accepted or refused, or the run stops.
         ensures handled { HandlesQuery self.old.owner.crew.workers number query.now
             (stage K.state self.old) (stage K.state self.new) result }
+
+        // The owner is ready again where the run goes on. Its team, the sink and the form stay.
         ensures ready { OnOk result (IsReady self.new.owner) }
         ensures team { IsSameTeam self.old.owner self.new.owner }
         ensures sink { SameSink self.old self.new }
@@ -205,8 +236,12 @@ impl<'a, R: Wait, G: Gate, K: Sink> Runner<'a, R, G, K> {
     /// Does the change that the line of this number asks, or refuses it.
     fn change(&mut self, number: u64, change: &Change) -> Result<Outcome, Stop>
         requires { IsAbreast self.old.owner }
+
+        // The entry that asks for this change is handled, accepted or refused, or the run stops.
         ensures handled { HandlesChange self.old.owner.crew.workers number change.now
             (stage K.state self.old) (stage K.state self.new) result }
+
+        // The owner is ready again where the run goes on. Its team, the sink and the form stay.
         ensures ready { OnOk result (IsReady self.new.owner) }
         ensures team { IsSameTeam self.old.owner self.new.owner }
         ensures sink { SameSink self.old self.new }
@@ -236,8 +271,12 @@ impl<'a, R: Wait, G: Gate, K: Sink> Runner<'a, R, G, K> {
     /// Handles the line of this number, and says what became of it.
     fn handle_line(&mut self, number: u64, line: &[u8]) -> Result<Outcome, Stop>
         requires { IsReady self.old.owner }
+
+        // The entry of this line is handled, whatever the verdict on it, or the run stops.
         ensures handled { HandlesLine self.old.owner.crew.workers number self.old.form line.now
             (stage K.state self.old) (stage K.state self.new) result }
+
+        // The owner is ready again where the run goes on. Its team, the sink and the form stay.
         ensures ready { OnOk result (IsReady self.new.owner) }
         ensures team { IsSameTeam self.old.owner self.new.owner }
         ensures sink { SameSink self.old self.new }
@@ -256,8 +295,12 @@ impl<'a, R: Wait, G: Gate, K: Sink> Runner<'a, R, G, K> {
     /// Handles the line of this number, unless it is skipped, and says what became of it.
     fn run_line(&mut self, number: u64, line: &[u8]) -> Result<Outcome, Stop>
         requires { IsReady self.old.owner }
+
+        // The run goes on with the lines behind this one, the next number first, or it stops.
         ensures handled { HandlesFirst self.old.owner.crew.workers number self.old.form line.now
             (stage K.state self.old) (stage K.state self.new) result }
+
+        // The owner is ready again where the run goes on. Its team, the sink and the form stay.
         ensures ready { OnOk result (IsReady self.new.owner) }
         ensures team { IsSameTeam self.old.owner self.new.owner }
         ensures sink { SameSink self.old self.new }
@@ -272,10 +315,15 @@ impl<'a, R: Wait, G: Gate, K: Sink> Runner<'a, R, G, K> {
 
     /// Handles the lines behind so many that were passed, and counts them.
     fn run_lines(&mut self, passed: u64, lines: &[u8]) -> Result<Tally, Stop>
+        // The owner is ready, and the number of each line is a u64.
         requires ready { IsReady self.old.owner }
         requires numbers { passed + length lines.now < 2 ^ 64 }
+
+        // No entry is left and all answers are written, or the run stops.
         ensures handled { HandlesAll self.old.owner.crew.workers self.old.form passed
             (script_lines lines.now) (stage K.state self.old) (stage K.state self.new) result }
+
+        // The owner is ready again where the run goes on. Its team and the sink stay.
         ensures ready { OnOk result (IsReady self.new.owner) }
         ensures team { IsSameTeam self.old.owner self.new.owner }
         ensures sink { SameSink self.old self.new }
@@ -296,8 +344,12 @@ impl<'a, R: Wait, G: Gate, K: Sink> Runner<'a, R, G, K> {
     /// Handles the lines of a script, in the form that its head gives, and counts them.
     fn run_script(&mut self, script: &[u8]) -> Result<Tally, Stop>
         requires { IsReady self.old.owner }
+
+        // No entry of the script is left and all answers are written, or the run stops.
         ensures handled { HandlesScript self.old.owner.crew.workers script.now
             (stage K.state self.old) (stage K.state self.new) result }
+
+        // The owner is ready again where the run goes on. Its team and the sink stay.
         ensures ready { OnOk result (IsReady self.new.owner) }
         ensures team { IsSameTeam self.old.owner self.new.owner }
         ensures sink { SameSink self.old self.new }
@@ -311,10 +363,14 @@ impl<'a, R: Wait, G: Gate, K: Sink> Runner<'a, R, G, K> {
     /// Runs a script to its last version, and counts its lines.
     pub(crate) fn play(&mut self, script: &[u8]) -> Result<Tally, Stop>
         requires { IsReady self.old.owner }
+
+        // All answers are written, and the last version is published and shown, or the run stops.
         ensures played { PlaysAll self.old.owner.crew.workers script.now
             (stage K.state self.old) (stage K.state self.new) result }
         ensures shown { OnOk result
             (IfSome self.new.owner.writer (λ writer. writer.newest ≡ self.new.owner.display)) }
+
+        // The owner's team and the sink stay.
         ensures team { IsSameTeam self.old.owner self.new.owner }
         ensures sink { SameSink self.old self.new }
     {

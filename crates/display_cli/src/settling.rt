@@ -47,12 +47,16 @@ fn settle_or_send<R: Wait, G: Gate>(
     settles: bool,
 ) -> Result<(), Halt>
     requires { IsOwned owner.old }
+
+    // What is reached: no more may be sent, and where it settles no line is left to be wrapped.
     ensures gone { OnOk result
         (HasGone owner.old.crew.workers owner.old.display owner.new.display) }
     ensures owned { OnOk result (IsOwned owner.new) }
     ensures busy { OnOk result (IsBusy owner.new) }
     ensures settled { OnOk result
         (settles ≡ true → is_settled (present_of owner.new.display) ≡ true) }
+
+    // Where it halts, and the crew.
     ensures halted { IfErr result
         (IsHalted owner.old.crew.workers owner.old.display owner.new.display) }
     ensures team { IsSameTeam owner.old owner.new }
@@ -73,10 +77,14 @@ pub(crate) fn prepare<R: Wait, G: Gate>(
     settles: bool,
 ) -> Result<(), Stop>
     requires { IsReady owner.old }
+
+    // The run may handle its next line, with no display line left to be wrapped where it settles, or it stops.
     ensures going { GoesOn owner.old.crew.workers owner.old.display owner.new.display result }
     ensures abreast { OnOk result (IsAbreast owner.new) }
     ensures settled { OnOk result
         (settles ≡ true → is_settled (present_of owner.new.display) ≡ true) }
+
+    // The text stays where the run goes on, and the team in any case.
     ensures text { OnOk result
         ((present_of owner.new.display).text ≡ (present_of owner.old.display).text) }
     ensures team { IsSameTeam owner.old owner.new }

@@ -219,11 +219,16 @@ fn play_opened<R: Threads + Wait + Sync, G: Gate + Sync, K: Sink>(
     opened: Opened,
     out: &mut K,
 ) -> (Left, Vec<Watcher>)
+    // The owner is ready, its journal has room, and each reader is one of its board.
     requires ready { IsReady opened.owner }
     requires room { length opened.owner.display.events < event_limit }
     requires readers { AreBoards (board_of opened.owner.writer)
         (map (λ reader. reader.board) opened.readers.items) }
+
+    // The script is played on the same board, with its answers written, or the play stopped.
     ensures left { HasLeft script.now opened.owner (K.state out.old) (K.state out.new) result.0 }
+
+    // The watchers look at that board. There is one for each reader, or fewer where the play stopped.
     ensures team { AreBoards (board_of result.0.writer)
         (boards_of result.1.items) }
     ensures few { vec_len result.1 ≤ vec_len opened.readers }
@@ -260,12 +265,17 @@ fn play_made<R: Threads + Wait + Sync, G: Gate + Sync, K: Sink>(
     opened: Opened,
     out: &mut K,
 ) -> (Left, Vec<Watcher>)
+    // The owner is ready, its journal has room, and each reader is one of its board.
     requires ready { IsReady opened.owner }
     requires room { length opened.owner.display.events < event_limit }
     requires readers { AreBoards (board_of opened.owner.writer)
         (map (λ reader. reader.board) opened.readers.items) }
+
+    // The script is played on the same board, with its summary written, or the play stopped, whatever the number.
     ensures left { (number : ℕ) → HasLeftBy (Some number) script.now opened.owner
         (K.state out.old) (K.state out.new) result.0 }
+
+    // The watchers look at that board. There is one for each reader, or fewer where the play stopped.
     ensures team { AreBoards (board_of result.0.writer)
         (boards_of result.1.items) }
     ensures few { vec_len result.1 ≤ vec_len opened.readers }
@@ -297,12 +307,17 @@ fn play_plan<R: Threads + Wait + Sync, G: Gate + Sync, K: Sink>(
     opened: Opened,
     out: &mut K,
 ) -> (Left, Vec<Watcher>)
+    // The owner is ready, its journal has room, and each reader is one of its board.
     requires ready { IsReady opened.owner }
     requires room { length opened.owner.display.events < event_limit }
     requires readers { AreBoards (board_of opened.owner.writer)
         (map (λ reader. reader.board) opened.readers.items) }
+
+    // The script is played on the same board, with its answers or their summary written, or the play stopped.
     ensures left { HasLeftBy plan.now.make script.now opened.owner
         (K.state out.old) (K.state out.new) result.0 }
+
+    // The watchers look at that board. There is one for each reader, or fewer where the play stopped.
     ensures team { AreBoards (board_of result.0.writer)
         (boards_of result.1.items) }
     ensures few { vec_len result.1 ≤ vec_len opened.readers }
@@ -355,11 +370,16 @@ fn run_named<R: Threads + Wait + Sync, I: Inputs, K: Sink, G: Gate + Sync>(
     out: &mut K,
     gate: &G,
 ) -> Ended
+    // Nothing is made, and the plan's workers and watchers are within their limits.
     requires named { plan.now.make ≡ None }
     requires limits { IsWithinLimits plan.now }
+
+    // The note tells the status, and what the run is.
     ensures status { HasStatus result.note result.status }
     ensures ended { IsEndedAs plan.now
         (run_of (I.state inputs.old) (I.state inputs.new) (K.state out.old) (K.state out.new) result) result.note }
+
+    // The reads of the text come before those of the script.
     ensures reads { ReadsInOrder plan.now (I.state inputs.old).reads (I.state inputs.new).reads }
 {
     let display = match open_text(alloc, plan, inputs) {

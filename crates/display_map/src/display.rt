@@ -197,9 +197,14 @@ impl Display {
 
     /// Does a batch of replacements.
     fn edit(&mut self, alloc: Global, splices: &[Splice]) -> Result<(), Fault>
+        // The journal has room for an event of each operation.
         requires room { length self.old.events + length (batch splices.now) ≤ event_limit }
+
+        // It is done only where no refusal is owed, with one event for each operation.
         ensures accepted { OnOk result (edit_refusal (present_of self.old) splices.now ≡ None) }
         ensures done { OnOk result (self.new ≡ appended self.old (map Did (batch splices.now))) }
+
+        // A refusal is the one that is owed. That and want of memory leave the display as it was.
         ensures refused { IfErr result
             (IsRefusedAs (edit_refusal (present_of self.old) splices.now)) }
         ensures unchanged { OnErr result (self.new ≡ self.old) }
@@ -222,11 +227,16 @@ impl Display {
 
     /// Does an operation that isn't a replacement.
     fn operate(&mut self, alloc: Global, op: &Op) -> Result<(), Fault>
+        // `edit` does the replacements. The journal has room for one event.
         requires other { is_replacement op.now ≡ false }
         requires room { length self.old.events + 1 ≤ event_limit }
+
+        // It is done only where no refusal is owed, with one event.
         ensures accepted { OnOk result
             (operation_refusal (present_of self.old) (operation_of op.now) ≡ None) }
         ensures done { OnOk result (self.new ≡ appended self.old (Did (operation_of op.now) ∷ [])) }
+
+        // A refusal is the one that is owed. That and want of memory leave the display as it was.
         ensures refused { IfErr result
             (IsRefusedAs (operation_refusal (present_of self.old) (operation_of op.now))) }
         ensures unchanged { OnErr result (self.new ≡ self.old) }

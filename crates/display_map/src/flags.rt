@@ -10,8 +10,11 @@ use display_sheet::Wraps;
 
 /// The number of the first line that waits, or how many lines there are where none does. None of the first `from` does.
 fn first_waiting(waits: &[bool], from: usize) -> usize
+    // A search may start at `from`: it isn't past the end, and no line before it waits.
     requires within { from ≤ length waits.now }
     requires none { NoneWaits waits.now from }
+
+    // So many lines stand before the first that waits, and the next search may start there.
     ensures waiting { result ≡ prefix_len not waits.now }
     ensures none { NoneWaits waits.now result }
     ensures within { result ≤ length waits.now }

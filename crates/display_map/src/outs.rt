@@ -81,10 +81,13 @@ impl Out {
 
 /// Where a line of `total` goes, which make place for `after`.
 fn carried(line: Option<u32>, splice: LineSplice, total: u32, after: u32) -> Option<u32>
+    // The line and the splice lie within the `total` lines, and `after` is how many there are then.
     requires below { AreBelow total (line ∷ []) }
     requires order { splice.first ≤ splice.end }
     requires within { splice.end ≤ total }
     requires after { after ≡ splice.first + (splice.count + (total - splice.end)) }
+
+    // A line before the splice stays, one in it is gone, and one behind it moves along.
     ensures { result ≡ carried splice.first splice.end splice.count line }
 {
     let line = line?;
@@ -100,10 +103,13 @@ fn carried(line: Option<u32>, splice: LineSplice, total: u32, after: u32) -> Opt
 
 /// Where the lines of a job go.
 fn carry_lines(lines: &mut [Option<u32>], splice: LineSplice, total: u32, after: u32)
+    // The job's lines and the splice lie within the `total` lines, and `after` is how many there are then.
     requires below { AreBelow total lines.old }
     requires order { splice.first ≤ splice.end }
     requires within { splice.end ≤ total }
     requires after { after ≡ splice.first + (splice.count + (total - splice.end)) }
+
+    // Each goes as a single line does, and keeps its place in the job.
     ensures { lines.new ≡ map (carried splice.first splice.end splice.count) lines.old }
 {
     for i in 0..lines.len() {
@@ -113,10 +119,13 @@ fn carry_lines(lines: &mut [Option<u32>], splice: LineSplice, total: u32, after:
 
 /// Where the lines of all jobs go. There were `total` display lines, and there are `after` now.
 pub(crate) fn carry(outs: &mut [Out], splice: LineSplice, total: u32, after: u32)
+    // The lines of every job and the splice lie within the old lines, and `after` counts the new ones.
     requires below { All (λ out. AreBelow total out.lines) outs.old }
     requires order { splice.first ≤ splice.end }
     requires within { splice.end ≤ total }
     requires after { after ≡ splice.first + (splice.count + (total - splice.end)) }
+
+    // The jobs stay in order, each with its number and its width.
     ensures { outs.new ≡ map (carried_out splice.first splice.end splice.count) outs.old }
 {
     for out in outs.iter_mut() {

@@ -160,10 +160,15 @@ impl View {
         end: u32,
         steps: &mut Steps,
     ) -> Result<Text, NoMemory>
+        // The range cuts no character, and isn't backwards.
         requires start { IsBoundary (present_of self.now).text start }
         requires end { IsBoundary (present_of self.now).text end }
         requires order { start ≤ end }
+
+        // All bytes of the range, where there is memory.
         ensures text { IfOk result (λ text. text ≡ slice_range (present_of self.now).text start end) }
+
+        // The work.
         ensures counted { steps.old ≤ steps.new }
     {
         self.sheet.slice(alloc, start, end)

@@ -56,10 +56,15 @@ pub(crate) fn batch(
     outs: &[Out],
     splices: &[Splice],
 ) -> Result<Work, NoMemory>
+    // Some history is kept so, and the ranges lie in its text, one behind the other.
     requires kept { IsKept sheet.now outs.now }
     requires ranges { are_ranges sheet.now.text 0 splices.now ≡ true }
+
+    // The text is no longer than it may be before the batch and after it. In between it may be longer.
     requires short { length sheet.now.text ≤ TEXT_LIMIT }
     requires short_after { length (spliced_text sheet.now.text 0 splices.now) ≤ TEXT_LIMIT }
+
+    // Whatever history is kept so, it is still kept with the batch behind it.
     ensures { IfOk result (λ work. IsWork (batch splices.now) sheet.now outs.now work) }
 {
     let mut now = sheet.share()?;

@@ -64,14 +64,21 @@ fn show<R: Wait>(
     display: &mut Display,
     readers: u32,
 ) -> Result<(Option<Writer>, Vec<Reader>), NoMemory>
+    // The display has no event yet, and a board has room for the readers.
     requires events { display.old.events ≡ [] }
     requires readers { readers ≤ 8 }
+
+    // Want of memory comes before version 0 is published, or before it is shown.
     ensures published { OnOk result
         (display.new ≡ appended display.old (Published false ∷ [])) }
     ensures unopened { OnErr result (IsUnopened display.old display.new) }
+
+    // Without readers there is no writer, and a writer's newest version is version 0.
     ensures board { IfOk result (λ made. (made.0 ≡ None) ↔ (readers ≡ 0)) }
     ensures newest { IfOk result
         (λ made. IfSome made.0 (λ writer. writer.newest ≡ display.new)) }
+
+    // There are as many readers as asked for, and each knows what the writer knows.
     ensures readers { IfOk result
         (λ made. IfSome made.0 (λ writer. made.1.items ≡ replicate readers writer)) }
     ensures none { IfOk result (λ made. readers ≡ 0 → made.1.items ≡ []) }

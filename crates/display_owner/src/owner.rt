@@ -126,9 +126,13 @@ impl Owner {
     /// Lands the results that are there.
     pub fn land_ready<R: Wait>(&mut self, rt: &R) -> Result<(), Halt>
         requires { IsOwned self.old }
+
+        // The display goes on by steps that may be taken, and crew and board are still its own.
         ensures gone { OnOk result
             (HasGone self.old.crew.workers self.old.display self.new.display) }
         ensures owned { OnOk result (IsOwned self.new) }
+
+        // Where it halts, and the crew.
         ensures halted { IfErr result
             (IsHalted self.old.crew.workers self.old.display self.new.display) }
         ensures team { IsSameTeam self.old self.new }
@@ -244,9 +248,14 @@ impl Owner {
 
     /// Whether a job is out, or a line stands otherwise than at the width.
     fn is_unfinished(&self) -> bool
+        // The crew is the display's, and no more may be sent.
         requires owned { IsOwned self.now }
         requires busy { IsBusy self.now }
+
+        // Where it is so, there is a result to come.
         ensures out { result ≡ true → 1 ≤ length self.now.crew.out }
+
+        // Where it isn't, each line stands wrapped at the width, and every job has landed.
         ensures settled { result ≡ false → is_settled (present_of self.now.display) ≡ true }
         ensures landed { result ≡ false → outstanding (state_of self.now.display) ≡ 0 }
     {
@@ -255,13 +264,18 @@ impl Owner {
 
     /// Lands the next result, and sends runs again.
     fn turn<R: Wait, G: Gate>(&mut self, rt: &R, gate: &G) -> Result<(), Halt>
+        // There is a result to come: a job of the display is out.
         requires owned { IsOwned self.old }
         requires some { 1 ≤ length self.old.crew.out }
+
+        // What is reached: the journal grew, and no more may be sent.
         ensures gone { OnOk result
             (HasGone self.old.crew.workers self.old.display self.new.display) }
         ensures longer { OnOk result (IsLonger self.old.display self.new.display) }
         ensures owned { OnOk result (IsOwned self.new) }
         ensures busy { OnOk result (IsBusy self.new) }
+
+        // Where it halts, and the crew.
         ensures halted { IfErr result
             (IsHalted self.old.crew.workers self.old.display self.new.display) }
         ensures team { IsSameTeam self.old self.new }
@@ -273,8 +287,12 @@ impl Owner {
     /// Sends the next run, where a line waits and fewer than two jobs for each worker are out.
     fn send_next<R: Wait>(&mut self, rt: &R) -> Result<bool, Halt>
         requires { IsOwned self.old }
+
+        // A run is sent with one event, or none may be sent and the display stays.
         ensures sent { IfOk result (HasSent self.old self.new) }
         ensures owned { OnOk result (IsOwned self.new) }
+
+        // Where it halts, and the crew.
         ensures halted { IfErr result
             (IsHalted self.old.crew.workers self.old.display self.new.display) }
         ensures team { IsSameTeam self.old self.new }
@@ -293,10 +311,15 @@ impl Owner {
 
     /// Hands out a job that was just sent, and answers whether the crew took it.
     fn hand_out<R: Wait>(&mut self, rt: &R, job: Job<Held>) -> bool
+        // No job of this number is out, and fewer than two for each worker.
         requires free { IsFree job.number self.old.crew.out }
         requires room { length self.old.crew.out < 2 * self.old.crew.workers }
+
+        // So the crew takes it, behind those that are out.
         ensures taken { result ≡ true }
         ensures out { self.new.crew.out ≡ self.old.crew.out ++ job ∷ [] }
+
+        // The workers, the display and the writer stay.
         ensures workers { self.new.crew.workers ≡ self.old.crew.workers }
         ensures display { self.new.display ≡ self.old.display }
         ensures writer { self.new.writer ≡ self.old.writer }
@@ -307,8 +330,12 @@ impl Owner {
     /// Lands a result, if one is there.
     fn land_one<R: Wait>(&mut self, rt: &R) -> Result<bool, Halt>
         requires { IsOwned self.old }
+
+        // A result landed with its version and fewer jobs are out, or the display stays.
         ensures landed { IfOk result (HasLandedOne self.old self.new) }
         ensures owned { OnOk result (IsOwned self.new) }
+
+        // Where it halts, and the crew.
         ensures halted { IfErr result
             (IsHalted self.old.crew.workers self.old.display self.new.display) }
         ensures team { IsSameTeam self.old self.new }
@@ -325,10 +352,15 @@ impl Owner {
 
     /// Lands the next result.
     fn land_next<R: Wait, G: Gate>(&mut self, rt: &R, gate: &G) -> Result<(), Halt>
+        // There is a result to come: a job of the display is out.
         requires owned { IsOwned self.old }
         requires some { 1 ≤ length self.old.crew.out }
+
+        // A result landed with its version: two events.
         ensures landed { OnOk result (HasLanded self.old self.new) }
         ensures owned { OnOk result (IsOwned self.new) }
+
+        // Where it halts, and the crew.
         ensures halted { IfErr result
             (IsHalted self.old.crew.workers self.old.display self.new.display) }
         ensures team { IsSameTeam self.old self.new }
@@ -341,7 +373,11 @@ impl Owner {
     /// Takes the next result.
     fn take_result<R: Wait, G: Gate>(&mut self, rt: &R, gate: &G) -> Finished<Held>
         requires { 1 ≤ length self.old.crew.out }
+
+        // It is of one of the jobs that were out, and the others still are.
         ensures taken { IsTakenOff (job_of result) self.old.crew.out self.new.crew.out }
+
+        // The workers, the display and the writer stay.
         ensures workers { self.new.crew.workers ≡ self.old.crew.workers }
         ensures display { self.new.display ≡ self.old.display }
         ensures writer { self.new.writer ≡ self.old.writer }
@@ -357,11 +393,16 @@ impl Owner {
 
     /// Lands a result, and publishes the display.
     fn land<R: Wait>(&mut self, rt: &R, finished: Finished<Held>) -> Result<(), Halt>
+        // The journal has room for a step, and the result is of a job that the crew had out.
         requires room { length self.old.display.events + EVENTS_AHEAD ≤ event_limit }
         requires landing { IsLanding self.old (job_of finished) }
+
+        // It landed with its version, and the jobs that are out are the display's again. The crew itself stays.
         ensures landed { OnOk result (HasLanded self.old self.new) }
         ensures owned { OnOk result (IsOwned self.new) }
         ensures out { self.new.crew ≡ self.old.crew }
+
+        // Where it halts, and the team.
         ensures halted { IfErr result
             (IsHalted self.old.crew.workers self.old.display self.new.display) }
         ensures team { IsSameTeam self.old self.new }
@@ -379,11 +420,16 @@ impl Owner {
 
     /// Lands a result in the display, which is still to be published.
     fn take_in(&mut self, finished: Finished<Held>) -> Result<(), NoMemory>
+        // The journal has room for one event, and the display sent the job, which hasn't landed.
         requires room { length self.old.display.events + 1 ≤ event_limit }
         requires out { IsOutstanding self.old.display (job_of finished) }
+
+        // The landing is one event. Want of memory leaves the display as it was.
         ensures landed { OnOk result (self.new.display
             ≡ appended self.old.display (Landed (job_of finished).number ∷ [])) }
         ensures unchanged { OnErr result (self.new.display ≡ self.old.display) }
+
+        // The crew and the writer stay.
         ensures crew { self.new.crew ≡ self.old.crew }
         ensures writer { self.new.writer ≡ self.old.writer }
     {

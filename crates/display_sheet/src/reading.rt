@@ -65,9 +65,12 @@ impl Sheet {
         from: usize,
         line: u32,
     ) -> Result<usize, NoMemory>
+        // Blocks of the side before `from` stand before the line, and no others do.
         requires lawful { IsLawful self.now }
         requires stands { stands.now ≡ map (line_of_block self.now) self.now.blocks }
         requires before { AreBefore self.now side from line }
+
+        // The rows of those at the line went past, and those before the answer stand before the next line.
         ensures rows { OnOk result
             (HasPassed (row_pairs (blocks_at self.now side line)) window.old window.new) }
         ensures before { IfOk result (λ behind. AreBefore self.now side behind (line + 1)) }

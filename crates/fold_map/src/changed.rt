@@ -53,10 +53,13 @@ fn last_end(base: u32, joined: &[JoinedFold]) -> u32
 
 /// How much of a layer there is from before the inlays at one offset to behind those at another.
 fn gap_between<L: Layer>(layer: &L, start: u32, end: u32) -> Amount
+    // The layer has no folds of its own, and the offsets are boundaries of its text, in order.
     requires bare { (L.source layer.now).folds ≡ [] }
     requires start { IsBoundary (L.source layer.now).text start }
     requires end { IsBoundary (L.source layer.now).text end }
     requires order { start ≤ end }
+
+    // From the left place of the first to the right place of the second.
     ensures { result ≡ amount_between (L.source layer.now) start Left end Right }
 {
     let from = Position::of(layer, start, Bias::Left);
@@ -110,12 +113,17 @@ impl<L: Layer> FoldSnapshot<L> {
         change: Change,
         steps: &mut Steps,
     ) -> Result<FoldSnapshot<L>, NoMemory>
+        // The layer has no folds of its own. Under the new folds it is well-formed, and every place of it is a u32.
         requires bare { (L.source layer).folds ≡ [] }
         requires order { change.start ≤ change.end }
         requires change { let after = with_folds (L.source layer) (map fold_of folds) in
             IsChange self.now after change }
+
+        // The new layer under the new folds.
         ensures ok { let after = with_folds (L.source layer) (map fold_of folds) in
             IfOk result (λ s. s ≡ after) }
+
+        // The work: the folds that the change meets are joined anew, and their splices put in place.
         ensures counted { steps.old ≤ steps.new }
         ensures steps { let now = map fold_of folds in
             let cost = rejoining (count_met change.start change.last now) in

@@ -79,6 +79,7 @@ impl<L: Layer> FoldMap<L> {
         ensures len { result ≡ length self.now.current.folds }
         ensures lawful { IsWellFormed self.now.current }
     {
+        // With this length rattle knows that the text is UTF-8, and that the inlays and the folds fit it.
         let _text = self.current.text_len();
         self.current.count()
     }

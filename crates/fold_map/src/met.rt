@@ -39,11 +39,16 @@ struct MetEnd {
 impl<L: Layer> FoldSnapshot<L> {
     /// The joined folds that a change meets.
     pub(crate) fn met(&self, change: Change, steps: &mut Steps) -> Met
+        // The change lies within the text, whose length after it is a u32 too.
         requires order { change.start ≤ change.end }
         requires within { change.end ≤ length self.now.text }
         requires reaches { moved_on change.end change.last (length self.now.text) < 2 ^ 32 }
+
+        // Where they stand among all joined folds, and in which window folds are to be joined anew.
         ensures met { (js : List JoinedFold) → let s = self.now in
             AreAllJoined s.folds (length s.text) js → IsMetBy js change result }
+
+        // The work: one way down to either end of the change.
         ensures counted { steps.old ≤ steps.new }
         ensures steps { TakesAtMost (ways 2) (length self.now.folds) steps.old steps.new }
     {

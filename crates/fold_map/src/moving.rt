@@ -43,11 +43,16 @@ impl<L: Layer> FoldSnapshot<L> {
         below: Shift,
         steps: &mut Steps,
     ) -> Result<(FoldSnapshot<L>, Shift), NoMemory>
+        // The new layer came of the old one by the two replacements, and the folds, moved, fit it.
         requires follows { let replaced = option_map reach_of shift in
             Follows self.now (L.source layer) replaced (Some (reach_of below)) }
+
+        // The new layer under the moved folds. Replaced are the rows of the lines that the layer's replacement meets.
         ensures ok { let replaced = option_map reach_of shift in
             IfOk result (λ r. r.0 ≡ source_after (L.source layer) replaced self.now) }
         ensures change { IfOk result (λ r. reach_of r.1 ≡ layer_change self.now r.0 (reach_of below)) }
+
+        // The work: the folds that the replacements meet are moved or joined anew.
         ensures counted { steps.old ≤ steps.new }
         ensures steps { let replaced = option_map reach_of shift in
             let k = folds_met replaced (Some (reach_of below)) self.now in
@@ -74,11 +79,16 @@ impl<L: Layer> FoldSnapshot<L> {
         shift: Option<Shift>,
         steps: &mut Steps,
     ) -> Result<RangeTree, NoMemory>
+        // The replacement lies within the text, whose length after it is a u32 too.
         requires within { ForSome shift (λ s. s.end ≤ length self.now.text) }
         requires reaches { ForSome shift (λ s.
             moved_on s.end (s.start + s.count) (length self.now.text) < 2 ^ 32) }
+
+        // All folds, moved. They stay where nothing was replaced.
         ensures ok { let replaced = option_map reach_of shift in
             IfOk result (λ t. map fold_of t ≡ folds_after replaced self.now.folds) }
+
+        // The work: each fold of which the replacement meets a byte or an end is set anew.
         ensures counted { steps.old ≤ steps.new }
         ensures steps { let k = touched (option_map reach_of shift) self.now.folds in
             TakesAtMost (shrinking k) (length self.now.folds) steps.old steps.new }

@@ -29,9 +29,14 @@ impl<L: Layer> FoldSnapshot<L> {
         range: RangeMark,
         steps: &mut Steps,
     ) -> Result<FoldSnapshot<L>, NoMemory>
+        // No refusal is owed, and every place of what is shown then is a u32.
         requires accepted { fold_refusal self.now range.id range.start range.end ≡ None }
         requires fits { PlacesFit (with_fold (fold_of range) self.now) }
+
+        // The fold stands among the others in their order.
         ensures ok { IfOk result (λ s. s ≡ with_fold (fold_of range) self.now) }
+
+        // The work: the id is sought, the fold is put among the others, and those that meet it are joined anew.
         ensures counted { steps.old ≤ steps.new }
         ensures steps { let after = (with_fold (fold_of range) self.now).folds in
             let cost = refolding (count_met range.start range.end after) in
@@ -53,11 +58,16 @@ impl<L: Layer> FoldSnapshot<L> {
         id: u32,
         steps: &mut Steps,
     ) -> Result<(FoldSnapshot<L>, RangeMark), NoMemory>
+        // A fold of the id is there, and every place of what is shown without it is a u32.
         requires there { list_any (λ f. f.id == id) self.now.folds ≡ true }
         requires fits { PlacesFit (without id self.now) }
+
+        // The others stay. The fold that is answered was there, and has the id.
         ensures ok { IfOk result (λ r. r.0 ≡ without id self.now) }
         ensures fold { IfOk result (λ r. Contains self.now.folds (fold_of r.1)) }
         ensures id { IfOk result (λ r. r.1.id ≡ id) }
+
+        // The work: the id is sought, the fold is taken off, and those that meet its range are joined anew.
         ensures counted { steps.old ≤ steps.new }
         ensures steps { (f : Fold) → Contains self.now.folds f → f.id ≡ id →
             let cost = refolding (count_met f.start f.end (without id self.now).folds) in
@@ -81,11 +91,16 @@ impl<L: Layer> FoldSnapshot<L> {
         range: RangeMark,
         steps: &mut Steps,
     ) -> Result<FoldSnapshot<L>, NoMemory>
+        // The folds fit the text, every place of what is shown is a u32 then, and all that differs is in the range.
         requires lawful { AreFolds self.now.text (map fold_of folds) }
         requires fits { PlacesFit (with_folds self.now (map fold_of folds)) }
         requires differ { let after = with_folds self.now (map fold_of folds) in
             DifferWithin self.now after (fold_of range) }
+
+        // The text and its inlays stay.
         ensures ok { IfOk result (λ s. s ≡ with_folds self.now (map fold_of folds)) }
+
+        // The work: the folds that meet the range are joined anew, and their splices put in place.
         ensures counted { steps.old ≤ steps.new }
         ensures steps { let now = map fold_of folds in
             let cost = rejoining (count_met range.start range.end now) in
@@ -120,10 +135,15 @@ impl<L: Layer> FoldSnapshot<L> {
         end: u32,
         steps: &mut Steps,
     ) -> Shift
+        // The offsets are boundaries of the text, in order.
         requires start { IsBoundary self.now.text start }
         requires end { IsBoundary self.now.text end }
         requires order { start ≤ end }
+
+        // From the left place of the start to the right place of the end. What stands there then is counted.
         ensures change { reach_of result ≡ shown_change self.now next.now start end }
+
+        // The work: two places and two lengths are looked up.
         ensures counted { steps.old ≤ steps.new }
         ensures steps { let count = length self.now.folds in
             ChangesAtMost (ways 4) count (length next.now.folds) steps.old steps.new }
@@ -174,10 +194,15 @@ impl<L: Layer> FoldSnapshot<L> {
         range: RangeMark,
         steps: &mut Steps,
     ) -> Shift
+        // The fold's ends are boundaries of the text, in order.
         requires start { IsBoundary self.now.text range.start }
         requires end { IsBoundary self.now.text range.end }
         requires order { range.start ≤ range.end }
+
+        // From the fold's start to its end, or on to the ends of their rows where these are shown on other lines.
         ensures change { reach_of result ≡ fold_change self.now next.now (fold_of range) }
+
+        // The work: twelve ways down at most.
         ensures counted { steps.old ≤ steps.new }
         ensures steps { let count = length self.now.folds in
             ChangesAtMost (ways 12) count (length next.now.folds) steps.old steps.new }

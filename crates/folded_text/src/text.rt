@@ -42,12 +42,17 @@ fn replaced(
     text: &str,
     steps: &mut Steps,
 ) -> Result<(Rope, Shift), Fault>
+    // What is accepted: a range of the text, after which the text is within its limit.
     ensures range { OnOk result (IsRange rope.now start end) }
     ensures small { IfOk result (λ new. length new.0 ≤ TEXT_LIMIT) }
+
+    // The cleaned text stands in the place of the range, and its bytes are counted.
     ensures text { let made = replaced_text rope.now start end (clean text.now) in
         IfOk result (λ new. new.0 ≡ made) }
     ensures shift { let put = put_at start end (clean text.now) in
         IfOk result (λ new. reach_of new.1 ≡ put) }
+
+    // Why it fails, and the work.
     ensures refused { IfErr result (IsReplaceFault rope.now start end (clean text.now)) }
     ensures counted { steps.old ≤ steps.new }
 {
@@ -242,16 +247,23 @@ impl FoldedText {
         shift: Option<Shift>,
         steps: &mut Steps,
     ) -> Result<(Shown, Option<Shift>), NoMemory>
+        // The replacement leads to this text from the one that was there.
         requires { IsReplacedIfAny self.old.rope rope (option_map reach_of shift) }
+
+        // The text is kept. Its inlays and folds are moved, and count as shown.
         ensures text { OnOk result (self.new.rope ≡ rope) }
         ensures inlays { let made = inlays_shown rope (option_map reach_of shift) self.old.inlays in
             OnOk result (self.new.inlays ≡ made) }
         ensures folds { let was = self.old in let replaced = option_map reach_of shift in
             let made = folds_shown rope replaced was.inlays was.folds in
             OnOk result (self.new.folds ≡ made) }
+
+        // The snapshot shows them so, and the answer leads to it from what was shown last.
         ensures shown { let was = self.old in let replaced = option_map reach_of shift in
             IfOk result (λ made. let answer = option_map reach_of made.1 in
             IsShown rope replaced was.inlays was.folds made.0 answer) }
+
+        // What stays where memory is wanting, and the work.
         ensures unchanged { OnErr result (self.new ≡ self.old) }
         ensures counted { steps.old ≤ steps.new }
     {

@@ -89,10 +89,15 @@ impl Inlaid {
 
     /// How much text there is up to an offset, behind this much.
     fn amount_behind(&self, before: Amount, end: u32, steps: &mut Steps) -> Amount
+        // `before` is all text up to an offset, which is at the end or before it.
         requires before { before ≡ amount_between self.now.text 0 before.bytes }
         requires order { before.bytes ≤ end }
         requires within { end ≤ length self.now.text }
+
+        // The bytes from that offset to the end, and the line feeds among them.
         ensures amount { result ≡ amount_between self.now.text before.bytes end }
+
+        // The work: one way down, to the row of the end.
         ensures counted { steps.old ≤ steps.new }
         ensures steps { TakesOnText way self.now.text steps.old steps.new }
     {
@@ -169,9 +174,12 @@ impl Inlaid {
         end: u32,
         steps: &mut Steps,
     ) -> Result<Text, NoMemory>
+        // Both are boundaries of the text, in order.
         requires start { IsBoundary self.now.text start }
         requires end { IsBoundary self.now.text end }
         requires order { start ≤ end }
+
+        // All bytes between them, and the work.
         ensures text { IfOk result (λ t. t ≡ take (end - start) (drop start self.now.text)) }
         ensures counted { steps.old ≤ steps.new }
     {
@@ -201,9 +209,14 @@ struct Measured {
 impl Inlaid {
     /// The splice that belongs to the inlay of an index. The one before it stands behind that much text.
     fn splice_at(&self, at: u32, before: Amount, steps: &mut Steps) -> Splice<Amount, NoLoad>
+        // There is such an inlay, and `before` is all text up to the inlay before it.
         requires within { at < length self.now.inlays }
         requires before { before ≡ before_at self.now at }
+
+        // It is the one of this index among all splices.
         ensures splice { slice_get (splices_of self.now) at ≡ Some result }
+
+        // The work: the inlay is looked up, and the row of its offset.
         ensures counted { steps.old ≤ steps.new }
         ensures steps { TakesInlaid measuring self.now steps.old steps.new }
     {
@@ -229,12 +242,17 @@ impl Inlaid {
         before: Amount,
         steps: &mut Steps,
     ) -> Result<Measured, NoMemory>
+        // The indices are in order and within the list, and `before` is all text up to the inlay before the first.
         requires order { from ≤ to }
         requires within { to ≤ length self.now.inlays }
         requires before { before ≡ before_at self.now from }
+
+        // The part of all splices between them, and all text up to the last inlay of it.
         ensures ok { IfOk result (λ m.
             m.splices.items ≡ take (to - from) (drop from (splices_of self.now))) }
         ensures before { IfOk result (λ m. m.before ≡ before_at self.now to) }
+
+        // The work: the inlays are measured one by one.
         ensures counted { steps.old ≤ steps.new }
         ensures steps { TakesInlaid (λ h. (to - from) * measuring h) self.now steps.old steps.new }
     {
@@ -255,10 +273,15 @@ impl Inlaid {
 
     /// The gap before the inlay of an index, and nothing where there is none. The one before it stands behind that much text.
     fn gap_at(&self, at: u32, before: Amount, steps: &mut Steps) -> Amount
+        // An inlay has the index, or all are before it, and `before` is all text up to the inlay before it.
         requires within { at ≤ length self.now.inlays }
         requires before { before ≡ before_at self.now at }
+
+        // Put before the first of the splices from the index on, it leaves them as they are.
         ensures gap { let rest = drop at (splices_of self.now) in
             with_first_gap result rest ≡ rest }
+
+        // The work: one inlay is measured at most.
         ensures counted { steps.old ≤ steps.new }
         ensures steps { TakesInlaid measuring self.now steps.old steps.new }
     {
@@ -405,9 +428,14 @@ impl Inlaid {
         shift: Shift,
         steps: &mut Steps,
     ) -> Result<Inlaid, NoMemory>
+        // The replacement ends within the new text, and each inlay, once moved, stands at a boundary of that.
         requires within { shift.start + shift.count ≤ length rope }
         requires boundaries { StandAfter rope (Some (reach_of shift)) self.now.inlays }
+
+        // The new text with the inlays, moved.
         ensures ok { IfOk result (λ s. s ≡ source_after rope (Some (reach_of shift)) self.now) }
+
+        // The work: each inlay that the replacement meets is set anew.
         ensures counted { steps.old ≤ steps.new }
         ensures steps { let inlays = self.now.inlays in
             TakesAtMost (moving (met (reach_of shift) inlays)) (length inlays) steps.old steps.new }

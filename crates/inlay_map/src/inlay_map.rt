@@ -191,12 +191,17 @@ impl InlayMap {
         shift: Option<Shift>,
         steps: &mut Steps,
     ) -> Result<(InlaySnapshot, Option<Shift>), NoMemory>
+        // It leads from the text that the map has to the new one, and the inlays, moved, stand at boundaries of that.
         requires leads { LeadsIfAny unmoved self.now.current.text rope (option_map reach_of shift) }
         requires boundaries { StandAfter rope (option_map reach_of shift) self.now.current.inlays }
+
+        // The new text with the inlays, moved. The answer covers what was pending, and what is replaced now.
         ensures snapshot { let replaced = option_map reach_of shift in
             IfOk result (λ r. r.0 ≡ source_after rope replaced self.now.current) }
         ensures answer { let replaced = option_map reach_of shift in
             IfOk result (λ r. option_map reach_of r.1 ≡ answer_of rope replaced self.now) }
+
+        // The work: the inlays that are met are moved one by one, and what is replaced is looked up.
         ensures counted { steps.old ≤ steps.new }
         ensures steps { let inlays = self.now.current.inlays in
             let k = met_by (option_map reach_of shift) inlays in
@@ -219,12 +224,17 @@ impl InlayMap {
         shift: Shift,
         steps: &mut Steps,
     ) -> Result<(InlaySnapshot, Shift), NoMemory>
+        // It leads from the text that the map has to the new one, and the inlays, moved, stand at boundaries of that.
         requires leads { Leads unmoved self.now.current.text rope (reach_of shift) }
         requires boundaries { StandAfter rope (Some (reach_of shift)) self.now.current.inlays }
+
+        // The new text with the inlays, moved. The answer covers what was pending, and what is replaced now.
         ensures snapshot { let replaced = Some (reach_of shift) in
             IfOk result (λ r. r.0 ≡ source_after rope replaced self.now.current) }
         ensures answer { let replaced = Some (reach_of shift) in
             IfOk result (λ r. Some (reach_of r.1) ≡ answer_of rope replaced self.now) }
+
+        // The work: the inlays that are met are moved one by one, and what is replaced is looked up.
         ensures counted { steps.old ≤ steps.new }
         ensures steps { let inlays = self.now.current.inlays in
             let k = met (reach_of shift) inlays in
@@ -243,10 +253,15 @@ impl InlayMap {
 
     /// Shows other inlays from now on, which differ from those before at one offset.
     fn turn_to(&mut self, next: InlaySnapshot, offset: u32, steps: &mut Steps)
+        // The text stays, the offset lies in it, and at all other offsets the inlays are the same.
         requires text { next.text ≡ self.old.current.text }
         requires within { offset ≤ length next.text }
         requires differ { DifferAt offset next.inlays self.old.current.inlays }
+
+        // What is pending then covers what was pending before, and all inlays at the offset.
         ensures now { self.new ≡ with_inlays next.inlays offset self.old }
+
+        // The work: three ways down.
         ensures counted { steps.old ≤ steps.new }
         ensures steps { let before = self.old.current in
             ChangesAtMost (ways 3) (length before.inlays) (length next.inlays) steps.old steps.new }

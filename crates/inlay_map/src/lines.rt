@@ -157,10 +157,15 @@ impl InlaySnapshot {
         end: u32,
         steps: &mut Steps,
     ) -> Result<Piece, NoMemory>
+        // The places are boundaries of what is shown, the first before the second.
         requires order { place < end }
         requires start { IsBoundary (shown_text self.now) place }
         requires end { IsBoundary (shown_text self.now) end }
+
+        // The piece has text, and ends at a boundary, from which the next piece goes on.
         ensures next { IfOk result (λ p. IsNextPiece self.now place end p) }
+
+        // The work.
         ensures counted { steps.old ≤ steps.new }
     {
         // What is shown is within its limits and UTF-8.

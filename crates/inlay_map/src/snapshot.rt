@@ -142,10 +142,15 @@ impl InlaySnapshot {
         mark: Mark<InlayText>,
         steps: &mut Steps,
     ) -> Result<InlaySnapshot, NoMemory>
+        // The inlay fits the text, its id is new, and there is room for one more.
         requires fits { IsInlayOf self.now.text (inlay_of mark) }
         requires room { HasRoom (λ i. i.id) mark.id self.now.inlays }
+
+        // It stands among the others in their order.
         ensures ok { let inlays = insert_by inlay_le (inlay_of mark) self.now.inlays in
             IfOk result (λ s. s ≡ inlay_source self.now.text inlays) }
+
+        // The work: the inlay and its splice are put among the others.
         ensures counted { steps.old ≤ steps.new }
         ensures steps { let s = self.now in
             TakesAmong putting s.text (length s.inlays + 1) steps.old steps.new }
@@ -184,11 +189,16 @@ impl InlaySnapshot {
         at: u32,
         steps: &mut Steps,
     ) -> Result<(InlaySnapshot, u32), NoMemory>
+        // There is such an inlay.
         requires { at < length self.now.inlays }
+
+        // All others stay, and the offset is that of the one that went.
         ensures ok { let inlays = without_at at self.now.inlays in
             IfOk result (λ r. r.0 ≡ inlay_source self.now.text inlays) }
         ensures offset { IfOk result (λ r. (i : Inlay) →
             slice_get self.now.inlays at ≡ Some i → i.offset ≡ r.1) }
+
+        // The work: the inlay and its splice are taken from the others.
         ensures counted { steps.old ≤ steps.new }
         ensures steps { TakesInlaid putting self.now steps.old steps.new }
     {
@@ -208,9 +218,14 @@ impl InlaySnapshot {
         shift: Shift,
         steps: &mut Steps,
     ) -> Result<InlaySnapshot, NoMemory>
+        // The replacement leads to the new text, and each inlay, once moved, stands at a boundary of that.
         requires leads { Leads unmoved self.now.text rope (reach_of shift) }
         requires boundaries { StandAfter rope (Some (reach_of shift)) self.now.inlays }
+
+        // The new text with the inlays, moved.
         ensures ok { IfOk result (λ s. s ≡ source_after rope (Some (reach_of shift)) self.now) }
+
+        // The work: the inlays that are met are moved one by one, and their splices made anew.
         ensures counted { steps.old ≤ steps.new }
         ensures steps { let inlays = self.now.inlays in
             let k = met (reach_of shift) inlays in

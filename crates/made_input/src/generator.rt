@@ -30,8 +30,12 @@ impl Generator {
     /// modulo the bound.
     pub fn draw(&mut self, bound: u64) -> u64
         requires { 0 < bound }
+
+        // The number and the state behind it are those of a draw below the bound.
         ensures value { result ≡ (draw bound self.old.state).value }
         ensures state { self.new.state ≡ (draw bound self.old.state).state }
+
+        // So the number is below 2 ^ 31 too, however great the bound is.
         ensures below { result < bound }
         ensures fits { result < 2 ^ 31 }
     {

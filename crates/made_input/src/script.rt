@@ -135,12 +135,16 @@ impl Generator {
         text_length: u64,
     ) -> Result<u64, NoMemory>
         requires { text_length + 9 < 2 ^ 64 }
+
+        // Bytes, length and state are those of the script's line that is drawn.
         ensures written { OnOk result (string_bytes out.new
             ≡ string_bytes out.old ++ (script_line number text_length self.old.state).value.bytes) }
         ensures length { IfOk result (λ length. length
             ≡ (script_line number text_length self.old.state).value.text_length) }
         ensures state { OnOk result (self.new.state
             ≡ (script_line number text_length self.old.state).state) }
+
+        // A line makes the text longer by one word at most, of up to 9 letters.
         ensures short { IfOk result (λ length. length ≤ text_length + 9) }
     {
         match self.draw(10) {

@@ -148,12 +148,15 @@ fn replace_one_of_a_million(
     items: Vec<Weight>,
     steps: &mut Steps,
 ) -> Result<(), NoMemory>
+    // There are a million items, one takes the place of one, and what they sum up to then fits.
     requires million { length tree.old ≡ 1000000 }
     requires at { at + 1 ≤ 1000000 }
     requires one { length items.items ≡ 1 }
     requires fits { let after = take at tree.old ++ items.items ++ drop (at + 1) tree.old in
         let tally = ⟦<Tally as Summary>⟧ in
         tally.fits (total tally.empty tally.joined ⟦<Weight as Item>⟧.summary after) }
+
+    // The work: what a replacement by one item takes in a tree of that height.
     ensures { steps.new ≤ steps.old + 1204 }
 {
     tree.replace(alloc, at, at + 1, items, steps)

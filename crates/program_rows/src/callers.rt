@@ -116,10 +116,13 @@ fn end_board<R: Wait>(
     writer: &mut Writer,
     team: Vec<Watcher>,
 ) -> Result<Vec<Watched>, NoMemory>
+    // The board shows the display, which goes on and has few events, and all watchers are of that board.
     requires shown { writer.old.newest ≡ display.old }
     requires goes_on { ends display.old.events ≡ false }
     requires events { length display.old.events < 1000 }
     requires team { All (λ w. w.known.board ≡ writer.old.board) team.items }
+
+    // What each saw is of the board's history, and the last of it is of the newest version.
     ensures { IfOk result (λ watched. All (λ w. IsWatched writer.new.newest w.seen.items) watched.items) }
 {
     row_laws();
@@ -134,10 +137,15 @@ fn watched_board<R: Wait>(
     alloc: Global,
     display: &mut Display,
 ) -> Result<(Writer, Vec<Reader>), NoMemory>
+    // The display has no events yet.
     requires events { display.old.events ≡ [] }
+
+    // The board shows the display, whose one event is the publishing of a version that is not the last.
     ensures shown { IfOk result (λ made. made.0.newest ≡ display.new) }
     ensures goes_on { OnOk result (ends display.new.events ≡ false) }
     ensures events { OnOk result (length display.new.events ≡ 1) }
+
+    // All readers are of that board.
     ensures readers { IfOk result (λ made. All (λ reader. reader.board ≡ made.0.board) made.1.items) }
 {
     let first = display.publish(alloc, false)?;

@@ -173,10 +173,15 @@ fn share_of(len: usize) -> usize
 
 /// The front of a text that goes into one chunk, and the rest. Neither is short unless the text is.
 fn cut(text: &str) -> (&str, &str)
+    // There is text to cut.
     requires { 0 < length text.now }
+
+    // The text in two parts: a chunk, and a shorter rest.
     ensures whole { result.0.now ++ result.1.now ≡ text.now }
     ensures chunk { IsChunk result.0.now }
     ensures shorter { length result.1.now < length text.now }
+
+    // The front has at least 60 bytes or the whole text, and the rest at least 60 or none.
     ensures front { min least (length text.now) ≤ length result.0.now }
     ensures rest { 0 < length result.1.now → least ≤ length result.1.now }
 {

@@ -38,9 +38,14 @@ pub(crate) struct Renewal {
 
 /// The chunk before a place, and its own place; no text where there is none.
 fn neighbour_before<'a>(chunks: &'a SumTree<Chunk>, at: u32, steps: &mut Steps) -> (u32, &'a str)
+    // The chunks of a rope, and a place among them or at their end.
     requires rope { IsRope chunks.now }
     requires within { at ≤ length chunks.now }
+
+    // The chunk before the place, if there is one.
     ensures found { IsNeighbourBefore chunks.now at result.0 result.1.now }
+
+    // The work, at most one way down the tree.
     ensures counted { steps.old ≤ steps.new }
     ensures steps { TakesOnText way (concat chunks.now) steps.old steps.new }
 {
@@ -71,9 +76,14 @@ fn part_before(
     offset: u32,
     steps: &mut Steps,
 ) -> Result<Part, NoMemory>
+    // The chunks of a rope, and a boundary of its text.
     requires rope { IsRope chunks.now }
     requires boundary { IsBoundary (concat chunks.now) offset }
+
+    // Text from the start of a chunk up to the offset, no more than two chunks hold.
     ensures part { IfOk result (λ p. IsPartBefore chunks.now offset p.at (string_bytes p.text)) }
+
+    // The work, at most two ways down the tree.
     ensures counted { steps.old ≤ steps.new }
     ensures steps { TakesOnText (ways 2) (concat chunks.now) steps.old steps.new }
 {
@@ -93,11 +103,18 @@ fn part_behind(
     found: Found,
     steps: &mut Steps,
 ) -> Result<Part, NoMemory>
+    // The chunks of a rope, and a boundary of its text.
     requires rope { IsRope chunks.now }
     requires boundary { IsBoundary (concat chunks.now) offset }
+
+    // The chunk that was found there, and the size of what stands before it.
     requires found { IsBefore chunks.now offset found.before }
     requires here { found.text.now ≡ slice_index_or chunks.now found.before.chunks [] }
+
+    // Text from the offset up to the end of a chunk, no more than two chunks hold.
     ensures part { IfOk result (λ p. IsPartBehind chunks.now offset p.at (string_bytes p.text)) }
+
+    // The work, at most one way down the tree.
     ensures counted { steps.old ≤ steps.new }
     ensures steps { TakesOnText way (concat chunks.now) steps.old steps.new }
 {
@@ -116,11 +133,16 @@ fn joined_chunk(
     back: &str,
     least: usize,
 ) -> Result<Option<Chunk>, NoMemory>
+    // Front and back fit one chunk, and at least one byte is asked of it.
     requires kept { length front.now + length back.now ≤ CHUNK_BYTES }
     requires some { 0 < least }
+
+    // A chunk of the three texts in their order, with as many bytes as are asked or more.
     ensures whole { IfOk result (λ o. IfSome o (λ c. c ≡ front.now ++ text.now ++ back.now)) }
     ensures chunk { IfOk result (λ o. IfSome o (λ c. IsChunk c)) }
     ensures least { IfOk result (λ o. IfSome o (λ c. least ≤ length c)) }
+
+    // None only where their bytes are fewer than that, or too many for a chunk.
     ensures none { IfOk result (λ o.
         IfNone o (IsNoChunk least (front.now ++ text.now ++ back.now))) }
 {
@@ -144,10 +166,15 @@ fn renewal_within(
     text: &str,
     found: Found,
 ) -> Result<Option<Renewal>, NoMemory>
+    // The chunks of a rope, and a range of its text.
     requires rope { IsRope chunks.now }
     requires range { IsRange (concat chunks.now) start end }
+
+    // The chunk that was found at the range's end, and the size of what stands before it.
     requires found { IsBefore chunks.now end found.before }
     requires here { found.text.now ≡ slice_index_or chunks.now found.before.chunks [] }
+
+    // If there is a renewal, with it the text is in the place of the range.
     ensures { IfOk result (λ o. IfSome o (λ r.
         IsRenewed chunks.now start end text.now r.from r.to r.chunks.items)) }
 {
@@ -179,10 +206,15 @@ pub(crate) fn renewal_of(
     text: &str,
     steps: &mut Steps,
 ) -> Result<Renewal, NoMemory>
+    // The chunks of a rope, and a range of its text.
     requires rope { IsRope chunks.now }
     requires range { IsRange (concat chunks.now) start end }
+
+    // With the renewal the text is in the place of the range.
     ensures renewed { IfOk result (λ r.
         IsRenewed chunks.now start end text.now r.from r.to r.chunks.items) }
+
+    // The work, at most four ways down the tree.
     ensures counted { steps.old ≤ steps.new }
     ensures steps { TakesOnText (ways 4) (concat chunks.now) steps.old steps.new }
 {
@@ -238,17 +270,26 @@ pub(crate) fn renewed(
     text: &str,
     steps: &mut Steps,
 ) -> Result<(Renewal, Patch), Fault>
+    // The chunks of a rope.
     requires { IsRope chunks.now }
+
+    // It is done only for a range of the text, and where the new text is within the limit.
     ensures range { OnOk result (IsRange (concat chunks.now) start end) }
     ensures small { let made = replaced_text (concat chunks.now) start end (clean text.now) in
         OnOk result (length made ≤ TEXT_LIMIT) }
+
+    // With the renewal the cleaned text is in the place of the range, and the patch tells of that.
     ensures renewed { let put = clean text.now in
         IfOk result (λ r. let new = r.0 in
         IsRenewed chunks.now start end put new.from new.to new.chunks.items) }
     ensures patch { let count = length (clean text.now) in
         IfOk result (λ r. r.1 ≡ replacement start end count) }
+
+    // Why it is refused: the range is judged first, and then the length.
     ensures refused { let put = clean text.now in
         IfErr result (IsReplaceFault (concat chunks.now) start end put) }
+
+    // The work, at most six ways down the tree.
     ensures counted { steps.old ≤ steps.new }
     ensures steps { TakesOnText (ways 6) (concat chunks.now) steps.old steps.new }
 {

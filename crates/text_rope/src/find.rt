@@ -33,10 +33,15 @@ pub(crate) fn text_of<'a>(chunk: Option<&'a Chunk>) -> &'a str
 
 /// The first chunk that ends at the offset or behind it.
 pub(crate) fn found_at<'a>(chunks: &'a SumTree<Chunk>, offset: u32, steps: &mut Steps) -> Found<'a>
+    // The chunks of a rope, and an offset in its text or at its end.
     requires rope { IsRope chunks.now }
     requires within { offset ≤ length (concat chunks.now) }
+
+    // The chunk that the offset lies in or at an end of, and the size of what stands before it.
     ensures found { IsBefore chunks.now offset result.before }
     ensures here { result.text.now ≡ slice_index_or chunks.now result.before.chunks [] }
+
+    // The work, at most one way down the tree.
     ensures counted { steps.old ≤ steps.new }
     ensures steps { TakesOnText way (concat chunks.now) steps.old steps.new }
 {
@@ -85,9 +90,14 @@ pub(crate) fn near_boundary(
     bias: Bias,
     steps: &mut Steps,
 ) -> u32
+    // The chunks of a rope, and an offset in its text or at its end.
     requires rope { IsRope chunks.now }
     requires within { offset ≤ length (concat chunks.now) }
+
+    // The last boundary up to the offset (Left), or the first from it on (Right).
     ensures near { IsNearBoundary (concat chunks.now) offset bias result }
+
+    // The work, at most one way down the tree.
     ensures counted { steps.old ≤ steps.new }
     ensures steps { TakesOnText way (concat chunks.now) steps.old steps.new }
 {
@@ -102,9 +112,14 @@ pub(crate) fn near_boundary(
 
 /// The row of an offset: how many line feeds stand before it.
 pub(crate) fn row_at(chunks: &SumTree<Chunk>, offset: u32, steps: &mut Steps) -> u32
+    // The chunks of a rope, and an offset in its text or at its end.
     requires rope { IsRope chunks.now }
     requires within { offset ≤ length (concat chunks.now) }
+
+    // The row of the offset.
     ensures row { result ≡ row_of (concat chunks.now) offset }
+
+    // The work, at most one way down the tree.
     ensures counted { steps.old ≤ steps.new }
     ensures steps { TakesOnText way (concat chunks.now) steps.old steps.new }
 {
@@ -121,13 +136,20 @@ pub(crate) fn gather(
     count: usize,
     steps: &mut Steps,
 ) -> Result<String, NoMemory>
+    // The chunks of a rope, and one of them that was found, or their end.
     requires rope { IsRope chunks.now }
     requires within { found.before.chunks ≤ length chunks.now }
     requires here { found.text.now ≡ slice_index_or chunks.now found.before.chunks [] }
+
+    // At least `count` bytes stand from there on.
     requires some { count ≤ length (concat (drop found.before.chunks chunks.now)) }
+
+    // A front of the text from there on, of as many bytes or more.
     ensures front { let rest = concat (drop found.entry.before.chunks chunks.now) in
         IfOk result (λ s. IsFront (string_bytes s) rest) }
     ensures enough { IfOk result (λ s. count ≤ length (string_bytes s)) }
+
+    // The work, at most one way down the tree for each 60 bytes that the found chunk lacks, and one more.
     ensures counted { steps.old ≤ steps.new }
     ensures steps { let more = count - length found.entry.text.now in
         TakesOnText (ways (more / 60 + 1)) (concat chunks.now) steps.old steps.new }

@@ -163,11 +163,16 @@ impl Rope {
 
     /// The first offset of a row and its end.
     pub(crate) fn row_range(&self, row: u32, steps: &mut Steps) -> (u32, u32)
+        // There is such a row.
         requires { row < line_count self.now }
+
+        // Its first offset and its end, which are boundaries in order.
         ensures range { result ≡ (line_start self.now row, line_end self.now row) }
         ensures start { IsBoundary self.now result.0 }
         ensures end { IsBoundary self.now result.1 }
         ensures order { result.0 ≤ result.1 }
+
+        // The work, at most two ways down the tree.
         ensures counted { steps.old ≤ steps.new }
         ensures steps { TakesOnText (ways 2) self.now steps.old steps.new }
     {

@@ -61,11 +61,16 @@ struct FoundRow<'a> {
 
 /// The chunk with the line feed behind which the row starts.
 fn found_row<'a>(chunks: &'a SumTree<Chunk>, row: u32, steps: &mut Steps) -> FoundRow<'a>
+    // The chunks of a rope, and a row of its text that isn't the first.
     requires rope { IsRope chunks.now }
     requires some { 0 < row }
     requires within { row ≤ count_by is_feed (concat chunks.now) }
+
+    // The chunk with the line feed right before the row, and the size of what stands before that chunk.
     ensures found { IsBeforeRow chunks.now row result.before }
     ensures here { result.text.now ≡ slice_index_or chunks.now result.before.chunks [] }
+
+    // The work, at most one way down the tree.
     ensures counted { steps.old ≤ steps.new }
     ensures steps { TakesOnText way (concat chunks.now) steps.old steps.new }
 {
@@ -102,9 +107,14 @@ fn behind_feed(text: &str, feeds: u32) -> usize
 
 /// The first offset of a row of the text.
 pub(crate) fn start_of_row(chunks: &SumTree<Chunk>, row: u32, steps: &mut Steps) -> u32
+    // The chunks of a rope, and a row of its text.
     requires rope { IsRope chunks.now }
     requires within { row ≤ count_by is_feed (concat chunks.now) }
+
+    // Its first offset.
     ensures start { result ≡ line_start (concat chunks.now) row }
+
+    // The work, at most one way down the tree.
     ensures counted { steps.old ≤ steps.new }
     ensures steps { TakesOnText way (concat chunks.now) steps.old steps.new }
 {
@@ -117,9 +127,14 @@ pub(crate) fn start_of_row(chunks: &SumTree<Chunk>, row: u32, steps: &mut Steps)
 
 /// The row of an offset, and its column of bytes in that row. A row that begins in the offset's own chunk isn't sought.
 pub(crate) fn point_at(chunks: &SumTree<Chunk>, offset: u32, steps: &mut Steps) -> Point
+    // The chunks of a rope, and an offset in its text or at its end.
     requires rope { IsRope chunks.now }
     requires within { offset ≤ length (concat chunks.now) }
+
+    // The point of the offset.
     ensures point { result ≡ point_of (concat chunks.now) offset }
+
+    // The work, at most two ways down the tree.
     ensures counted { steps.old ≤ steps.new }
     ensures steps { TakesOnText (ways 2) (concat chunks.now) steps.old steps.new }
 {
@@ -142,9 +157,14 @@ pub(crate) fn point_at(chunks: &SumTree<Chunk>, offset: u32, steps: &mut Steps) 
 
 /// The end of a row of the text: before its line feed, or the text's end.
 pub(crate) fn end_of_row(chunks: &SumTree<Chunk>, row: u32, steps: &mut Steps) -> u32
+    // The chunks of a rope, and a row of its text.
     requires rope { IsRope chunks.now }
     requires within { row ≤ count_by is_feed (concat chunks.now) }
+
+    // Its end.
     ensures end { result ≡ line_end (concat chunks.now) row }
+
+    // The work, at most one way down the tree.
     ensures counted { steps.old ≤ steps.new }
     ensures steps { TakesOnText way (concat chunks.now) steps.old steps.new }
 {
@@ -158,10 +178,15 @@ pub(crate) fn end_of_row(chunks: &SumTree<Chunk>, row: u32, steps: &mut Steps) -
 
 /// The first offset of a row and its end. An end in the chunk behind whose line feed the row begins isn't sought.
 pub(crate) fn range_of_row(chunks: &SumTree<Chunk>, row: u32, steps: &mut Steps) -> (u32, u32)
+    // The chunks of a rope, and a row of its text.
     requires rope { IsRope chunks.now }
     requires within { row ≤ count_by is_feed (concat chunks.now) }
+
+    // Its first offset and its end.
     ensures start { result.0 ≡ line_start (concat chunks.now) row }
     ensures end { result.1 ≡ line_end (concat chunks.now) row }
+
+    // The work, at most two ways down the tree.
     ensures counted { steps.old ≤ steps.new }
     ensures steps { TakesOnText (ways 2) (concat chunks.now) steps.old steps.new }
 {

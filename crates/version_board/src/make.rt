@@ -57,10 +57,15 @@ pub fn board<R: Wait>(
     first: Version,
     readers: u32,
 ) -> Result<(Writer, Vec<Reader>), NoMemory>
+    // The version may open a row, and there is a place for each reader.
     requires first { IsFirst first }
     requires readers { readers ≤ 8 }
+
+    // The writer knows a row of that version alone.
     ensures row { IfOk result (λ made. made.0.row ≡ first ∷ []) }
     ensures newest { IfOk result (λ made. made.0.newest ≡ first) }
+
+    // Each reader knows what the writer knows.
     ensures readers { IfOk result (λ made. made.1.items ≡ replicate readers made.0) }
 {
     let (head, newest) = open(Arc::new(alloc, first)?);

@@ -57,9 +57,14 @@ impl Writer {
     ///
     /// After `Err` the version is given up: no reader ever sees it.
     pub fn publish<R: Wait>(&mut self, rt: &R, alloc: Global, next: Version) -> Result<(), NoMemory>
+        // The version may come right after the newest one.
         requires { Follows self.old.newest next }
+
+        // The writer knows the version as its newest, or without memory just what it knew.
         ensures added { OnOk result (self.new ≡ added self.old next) }
         ensures unchanged { OnErr result (self.new ≡ self.old) }
+
+        // Either way the board is the same, and the newest version ends the row.
         ensures board { self.new.board ≡ self.old.board }
         ensures row { IsRowTo self.new.row self.new.newest }
     {

@@ -103,10 +103,15 @@ impl Landing {
         cuts: &Cuts,
         steps: &mut Steps,
     ) -> Result<(), NoMemory>
+        // The open group can be put in place, and the line's rows are u32.
         requires close { CanClose before.now self.old }
         requires short { length cuts.now.items + 1 < 2 ^ 32 }
+
+        // The line goes on with the open group, or closes it and begins another.
         ensures taken { let stood : Stood = record { mark = mark; cuts = cuts.now.items } in
             OnOk result (self.new ≡ taken before.now line stood self.old) }
+
+        // The work. Of each line in the open group four steps are kept until it is closed.
         ensures counted { steps.old ≤ steps.new }
         ensures steps { let waiting = length self.old.fresh in
             TakesAtMost (closing waiting) (length before.now) steps.old steps.new }
@@ -127,8 +132,13 @@ impl Landing {
         line: u32,
         steps: &mut Steps,
     ) -> Result<(), NoMemory>
+        // The open group can be put in place.
         requires { CanClose before.now self.old }
+
+        // Where the line is not the next of it, it is closed if it has a line.
         ensures moved { OnOk result (self.new ≡ moved_to before.now line self.old) }
+
+        // The work: one group is closed at most, for which four steps of each of its lines are kept.
         ensures counted { steps.old ≤ steps.new }
         ensures steps { let waiting = length self.old.fresh in
             TakesAtMost (closing waiting) (length before.now) steps.old steps.new }
@@ -222,13 +232,18 @@ fn put_group(
     fresh: Vec<Stretch>,
     steps: &mut Steps,
 ) -> Result<Edit, NoMemory>
+    // The group has a line for each that it replaces, all within the lines, and the rows then are u32.
     requires unlanded { drop start lines.old ≡ drop start before.now }
     requires group { start + length (spread fresh.items) ≡ end }
     requires within { end ≤ length lines.old }
     requires rows_fit { rows_in (put_in start end (spread fresh.items) lines.old) < 2 ^ 32 }
+
+    // The group is in place, and the edit leads from the rows before any line landed. What stays at want of memory.
     ensures put { OnOk result (lines.new ≡ put_in start end (spread fresh.items) lines.old) }
     ensures edit { IfOk result (λ edit. edit ≡ edit_between before.now lines.new start end) }
     ensures unchanged { OnErr result (lines.new ≡ lines.old) }
+
+    // The work: two seeks, and one replacement of stretches.
     ensures counted { steps.old ≤ steps.new }
     ensures steps { PutsAtMost start end fresh.items lines.old steps.old steps.new }
 {
@@ -293,13 +308,18 @@ fn put_twice<N: Lines>(
     wraps: &[Cuts],
     steps: &mut Steps,
 ) -> Result<(Stretches, Patch), NoMemory>
+    // The run had these cuts at the mark, and `since` leads from then to now. All rows at the end are u32.
     requires late { let lines = N.elements_by_line lines.now in
         let old = N.elements_by_line old.now in
         IsLate lines old from.now since.now run mark (map (λ cuts. cuts.items) wraps.now) }
     requires rows_fit { let standing = standing_of (N.elements_by_line lines.now) from.now in
         length (all_rows (shown_rows (standing_landed since.now run mark standing))) < 2 ^ 32 }
+
+    // The lines that are still there stand at the mark, and the patch replaces exactly their rows.
     ensures put { let standing = standing_of (N.elements_by_line lines.now) from.now in
         IfOk result (λ made. IsPut standing since.now run mark made.0 made.1) }
+
+    // The work: the lines are put in one row each, and then in place, at most one by one.
     ensures counted { steps.old ≤ steps.new }
     ensures steps { TakesAtMost (landing run.count) (length from.now) steps.old steps.new }
 {
@@ -344,13 +364,18 @@ pub fn put_landed<N: Lines>(
     wraps: &[Cuts],
     steps: &mut Steps,
 ) -> Result<(Stretches, Patch), NoMemory>
+    // The run had these cuts at the mark, and `since` leads from then to now. All rows at the end are u32.
     requires late { let lines = N.elements_by_line lines.now in
         let old = N.elements_by_line old.now in
         IsLate lines old from.now since.now run mark (map (λ cuts. cuts.items) wraps.now) }
     requires rows_fit { let standing = standing_of (N.elements_by_line lines.now) from.now in
         length (all_rows (shown_rows (standing_landed since.now run mark standing))) < 2 ^ 32 }
+
+    // Other lines stand as before, and the patch replaces exactly the rows of those that landed.
     ensures put { let standing = standing_of (N.elements_by_line lines.now) from.now in
         IfOk result (λ made. IsPut standing since.now run mark made.0 made.1) }
+
+    // The work: each line of the run is put twice at most.
     ensures counted { steps.old ≤ steps.new }
     ensures steps { TakesAtMost (landing run.count) (length from.now) steps.old steps.new }
 {

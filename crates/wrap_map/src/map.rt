@@ -52,10 +52,15 @@ impl<N: Lines> WrapMap<N> {
         width: u32,
         steps: &mut Steps,
     ) -> Result<WrapMap<N>, NoMemory>
+        // The width is lawful, and the lines and their cells are u32.
         requires lawful { IsWidth width }
         requires fits { FitsU32 (N.elements_by_line lines) }
+
+        // All lines are at mark 0, whatever the width.
         ensures made { let standing = all_at 0 (N.elements_by_line lines) in
             IfOk result (λ map. map ≡ record { standing = standing; width = width }) }
+
+        // The work: a tree of one stretch is made.
         ensures counted { steps.old ≤ steps.new }
         ensures steps { steps.new ≤ steps.old + beginning }
     {
@@ -69,8 +74,11 @@ impl<N: Lines> WrapMap<N> {
 
     /// Sets the width that the lines are to stand at. `BadNumber` where it is neither 0 nor 2 to 10,000.
     pub fn set_width(&mut self, width: u32) -> Result<(), Refusal>
+        // A lawful width is set, and how the lines stand stays.
         ensures set { OnOk result (self.new ≡ record self.old { width = width }) }
         ensures accepted { OnOk result (IsWidth width) }
+
+        // Why it is refused, and what stays then.
         ensures refused { OnErr result (¬ IsWidth width) }
         ensures refusal { IfErr result (λ refusal. refusal ≡ Refusal.BadNumber) }
         ensures unchanged { OnErr result (self.new ≡ self.old) }
@@ -119,10 +127,15 @@ impl<N: Lines> WrapMap<N> {
     /// The first line that doesn't stand at the width and that no run of `out` has, with the lines behind it of the same
     /// kind, up to 128. `None` exactly where there is no such line.
     pub fn next_run(&self, out: &[Run], steps: &mut Steps) -> Option<Run>
+        // Each run that is out ends before all later ones begin.
         requires { AreApart out.now }
+
+        // All lines of the run wait, none before them does, and they are lines of the map.
         ensures next { IsNextIfAny self.now.standing.marks self.now.width out.now result }
         ensures within { let lines = self.now.standing.lines in
             IfSome result (λ run. run.first + run.count ≤ length lines) }
+
+        // The work: the runs that are out are passed over, and the lines of the next one are looked at.
         ensures counted { steps.old ≤ steps.new }
         ensures steps { let lines = self.now.standing.lines in
             TakesAtMost (finding (length out.now)) (length lines) steps.old steps.new }

@@ -48,10 +48,15 @@ fn replaced(
     below: Shift,
     steps: &mut Steps,
 ) -> Result<(Stretches, Shift), NoMemory>
+    // The lines are there, and the rows afterwards are u32.
     requires within { below.end ≤ length lines.now }
     requires rows_fit { rows_in (cleared below lines.now) < 2 ^ 32 }
+
+    // The lines that stand there now have one row each, which replace the rows of those that went.
     ensures lines { IfOk result (λ made. made.0 ≡ cleared below lines.now) }
     ensures rows { IfOk result (λ made. AreRowsIn lines.now below made.1) }
+
+    // The work: one stretch is put in the place of others.
     ensures counted { steps.old ≤ steps.new }
     ensures steps { let after = cleared below lines.now in
         ChangesAtMost syncing (length lines.now) (length after) steps.old steps.new }

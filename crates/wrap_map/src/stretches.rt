@@ -79,10 +79,15 @@ fn part_before(
     line: u32,
     steps: &mut Steps,
 ) -> Result<Part, NoMemory>
+    // The tree is one of stretches, and the line is one of theirs or behind all.
     requires stretches { AreStretches tree.now }
     requires within { line ≤ length (spread tree.now) }
+
+    // One stretch at most, where those before it end, and the rows of all lines before the line.
     ensures head { IfOk result (λ part. IsHead tree.now line part.stretches.items part.at) }
     ensures rows { IfOk result (λ part. part.rows ≡ rows_in (take line (spread tree.now))) }
+
+    // The work: one way down.
     ensures counted { steps.old ≤ steps.new }
     ensures steps { TakesAtMost way (length tree.now) steps.old steps.new }
 {
@@ -111,10 +116,15 @@ fn part_behind(
     line: u32,
     steps: &mut Steps,
 ) -> Result<Part, NoMemory>
+    // The tree is one of stretches, and the line is one of theirs or behind all.
     requires stretches { AreStretches tree.now }
     requires within { line ≤ length (spread tree.now) }
+
+    // One stretch at most, where those behind it begin, and the rows of all lines before the line.
     ensures tail { IfOk result (λ part. IsTail tree.now line part.stretches.items part.at) }
     ensures rows { IfOk result (λ part. part.rows ≡ rows_in (take line (spread tree.now))) }
+
+    // The work: one way down.
     ensures counted { steps.old ≤ steps.new }
     ensures steps { TakesAtMost way (length tree.now) steps.old steps.new }
 {
@@ -273,9 +283,14 @@ impl Stretches {
 
     /// The first line from `line` on and before `end` that stands at the width, and `end` where there is none.
     pub fn next_at(&self, line: u32, end: u32, width: u32, steps: &mut Steps) -> u32
+        // There are lines in between.
         requires some { line < end }
         requires within { end ≤ length self.now }
+
+        // No line before the one that is answered stands at the width.
         ensures at { IsNextAt self.now line end width result }
+
+        // The work: a seek for each line in between at most.
         ensures counted { steps.old ≤ steps.new }
         ensures steps { TakesAtMost (each_way (end - line)) (length self.now) steps.old steps.new }
     {

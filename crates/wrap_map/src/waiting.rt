@@ -37,10 +37,15 @@ pub fn next_run(lines: &Stretches, width: u32, out: &[Run], steps: &mut Steps) -
 
 /// The lines from `first` on, up to `end` and up to `RUN_LIMIT` of them, that don't stand at the width.
 fn run_from(lines: &Stretches, width: u32, first: u32, end: u32, steps: &mut Steps) -> Run
+    // The first line is before the end, which is within the lines, and it stands at another mark.
     requires some { first < end }
     requires within { end ≤ length lines.now }
     requires waits { (stood_at lines.now first).mark ≢ width }
+
+    // The run ends at the limit, at the end, or before a line that stands at the width.
     ensures run { IsRunFrom lines.now width first end result }
+
+    // The work: a seek for each line of a run at most.
     ensures counted { steps.old ≤ steps.new }
     ensures steps { TakesAtMost looking (length lines.now) steps.old steps.new }
 {

@@ -108,12 +108,17 @@ impl<N: Lines> Crew<N> {
     /// comes only where the crew's own place is empty, and the queue of tasks was at a moment of the call.
     #[tactic(auto, using(crate::proofs::Crews::at_home, crate::proofs::Crews::home_at, crate::proofs::Crews::crew_put_back))]
     pub fn help<R: Wait, G: Gate>(&mut self, rt: &R, alloc: Global, gate: &G) -> Option<Finished<N>>
+        // The job that was done is taken off: the last of the crew's own place, and another only where that was empty.
         ensures some { IfSome result (λ finished.
             IsTakenOff (job_of finished) self.old.out self.new.out) }
         ensures kept { IfSome result (λ finished. ((self.old.kept ≡ []) × (self.new.kept ≡ []))
             ⊎ (self.old.kept ≡ self.new.kept ++ job_of finished ∷ [])) }
+
+        // Where none was done nothing changes: that place is empty, and the queue of tasks was so at a moment.
         ensures none { IfNone result ((self.new ≡ self.old) × (self.new.kept ≡ [])) }
         ensures empty { IfNone result (Held 0 (λ tasks. WerePosted {N = N} tasks)) }
+
+        // As many workers as before.
         ensures workers { self.new.workers ≡ self.old.workers }
     {
         if let Some(job) = self.kept.pop() {

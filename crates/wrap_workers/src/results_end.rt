@@ -73,9 +73,14 @@ impl<N: Lines> ResultsEnd<N> {
 
     /// The crew's pass gets the job, and a right to send its result is cut off.
     fn cut_right<W: Names<Job<N>>>(&mut self, job: &Job<N>) -> Right<N>
+        // `W` names the job, and no job that is out has its number.
         requires named { W.named ≡ Some job.now }
         requires new { times job.now.number self.old.hand.out ≡ 0 }
+
+        // The crew's pass after it handed the job out.
         ensures end { self.new ≡ record self.old { hand = after_hired self.old.hand job.now } }
+
+        // A pass of the same queue, with the right to send the job's result.
         ensures home { IsAt self.old.queue result }
         ensures right { view result ≡ right_of self.old.hand.serial job.now }
     {

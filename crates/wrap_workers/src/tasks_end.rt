@@ -47,9 +47,14 @@ impl<N: Lines> Model for TasksEnd<N> {
 
 /// The first pass of the queue of tasks learns to which queue of results the rights belong.
 fn settle<N: Lines, W: Names<Right<N>>>(tasks: &Tasks<N>, place: &mut Place<N>, like: &Right<N>)
+    // `W` names a pass of the queue of results.
     requires named { W.named ≡ Some like.now }
+
+    // The first pass of the queue of tasks, which knows no queue of results yet.
     requires channel { IsSeatAt (sends_on tasks.now) place.old }
     requires first { view place.old ≡ crew_post None 0 false }
+
+    // It is still a pass of the queue of tasks, and knows the queue of results now.
     ensures channel { IsSeatAt (sends_on tasks.now) place.new }
     ensures rule { view place.new ≡ crew_post (Some like.now) 0 false }
 {

@@ -67,10 +67,13 @@ fn serve<N: Lines, R: Wait, G: Gate>(
     rights: &Rights<N>,
     place: &mut Place<N>,
 )
+    // A worker's pass of the queue of tasks, which took no stop and knows the queue that `rights` sends to.
     requires channel { IsSeatAt (receives_on tasks.now) place.old }
     requires keyed { IsKeyed (sends_on rights.now) }
     requires home { IsHomeAt (queue_at (sends_on rights.now)) (view place.old).home }
     requires worker { IsAtWork (view place.old) }
+
+    // It took a stop, or the queue of tasks was empty at a moment of the call.
     ensures { ((view place.new).stopped ≡ true) ⊎ Held 0 (λ items. WerePosted {N = N} items) }
 {
     for _ in rt.forever() {
@@ -109,12 +112,19 @@ fn send<N: Lines, R: Wait>(rt: &R, rights: &Rights<N>, mut right: Right<N>, fini
 
 /// Takes the front task, and waits for one. None comes only where the queue was empty at a moment of the call.
 fn next<N: Lines, R: Wait>(rt: &R, tasks: &Waiting<N>, place: &mut Place<N>) -> Option<Task<N>>
+    // A worker's pass of the queue of tasks, which knows the queue of results.
     requires channel { IsSeatAt (receives_on tasks.now) place.old }
     requires worker { (view place.old).crew ≡ false }
     requires known { (r : Right N) × ((view place.old).home ≡ Some r) }
+
+    // It is still a pass of the queue of tasks.
     ensures channel { IsSeatAt (receives_on tasks.now) place.new }
+
+    // A task whose right, if it has one, is of the known queue. The pass knows whether the task was a stop.
     ensures some { IfSome result (λ task. (view place.new ≡ after_taken (view place.old) task)
         × IsTaskAt (view place.old).home task) }
+
+    // Without one the pass knows the same as before, and the queue was empty at a moment of the call.
     ensures none { IfNone result ((view place.new ≡ view place.old)
         × Held 0 (λ items. WerePosted {N = N} items)) }
 {

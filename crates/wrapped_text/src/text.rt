@@ -76,13 +76,18 @@ fn follow(
     rope: &Rope,
     below: Shift,
 ) -> Result<(TabSnapshot<Rope>, Option<Shift>), NoMemory>
+    // It leads to the text from the tab map's, whose tab size is 4 and was not set since its last snapshot.
     requires follow { LinesFollow tabs.old.source (plain_source rope.now) (Some below) }
     requires tab { tabs.old.tab ≡ 4 }
     requires before { tabs.old.before ≡ None }
+
+    // The tab map and the lines are of the text then, and all is u32 at whatever marks the lines stand.
     ensures tabs { OnOk result (tabs.new ≡ tabs_of rope.now) }
     ensures lines { IfOk result (λ made. made.0 ≡ lines_of rope.now) }
     ensures fit { OnOk result (FitsU32 (lines_of rope.now)) }
     ensures room { OnOk result (HaveRoom (lines_of rope.now)) }
+
+    // The answer leads from the old lines to the new ones, and replaces exactly those that are met.
     ensures leads { let before = lines_at tabs.old.source 4 in
         IfOk result (λ made. LeadsBy before (lines_of rope.now) made.1) }
     ensures met { let source = plain_source rope.now in
@@ -119,9 +124,12 @@ impl WrappedText {
 
     /// Sets the width that the lines are to stand at. `BadNumber` where it is neither 0 nor 2 to 10,000.
     pub fn set_width(&mut self, width: u32) -> Result<(), Refusal>
+        // A lawful width is set, and the text and how its lines stand stay.
         ensures set { OnOk result (self.new.map ≡ record self.old.map { width = width }) }
         ensures text { self.new.rope ≡ self.old.rope }
         ensures accepted { OnOk result (IsWidth width) }
+
+        // Why it is refused, and what stays then.
         ensures refused { IfErr result
             (λ refusal. (refusal ≡ Refusal.BadNumber) × (¬ IsWidth width)) }
         ensures unchanged { OnErr result (self.new ≡ self.old) }
