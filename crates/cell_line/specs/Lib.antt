@@ -4,4 +4,6 @@ pub mod Lines
 pub mod Laws
 pub mod Worked
 pub mod RowTexts
+pub mod Waiting
+pub mod MarkRuns
 pub mod inside

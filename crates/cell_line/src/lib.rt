@@ -18,6 +18,6 @@ pub mod wrapping;
 
 pub use element::{Element, elements};
 pub use laws::line_laws;
-pub use lines::{Lines, Run};
+pub use lines::{Lines, MarkRun, Run};
 pub use texts::row_texts_of_pieces;
 pub use wrapping::{Cuts, cuts, cuts_of_pieces, indent};

@@ -21,6 +21,14 @@ pub struct Run {
     pub count: u32,
 }
 
+/// The lines from `first` to `last`, which stand wrapped at `width` cells, as those before and after them don't.
+#[derive(Clone, Copy, Debug, PartialEq, Eq)]
+pub struct MarkRun {
+    pub first: u32,
+    pub last: u32,
+    pub width: u32,
+}
+
 /// A list of lines, each a list of elements.
 pub trait Lines: Drop + Send + Sync {
     // The elements of each line in order.

@@ -162,7 +162,7 @@ First u (p ∷ ps) = (p.start ≡ offset_of u) × (p.kind ≡ kind_of u)
 
 pub one_kind : (u v : Token) → is_one_piece u v ≡ true → kind_of u ≡ kind_of v
 one_kind (Byte o b) (Byte p c) e = refl
-one_kind (InlayByte o id b) (InlayByte p id' c) e = refl
+one_kind (InlayByte o id b) (InlayByte p id' c) e = ap Inlay (eqb-true id id' e)
 one_kind (Byte o b) (InlayByte p id c) e = absurd (false≢true e)
 one_kind (Byte o b) (Hidden p) e = absurd (false≢true e)
 one_kind (InlayByte o id b) (Byte p c) e = absurd (false≢true e)
@@ -195,8 +195,8 @@ more_bytes text o b end lt is le =
     ∙ ap (λ (c : ℕ). c ∷ slice_range text (o + 1) end) is in
     sym there
 
-inlay_no_buffer : Inlay ≡ Buffer → ⊥
-inlay_no_buffer e = cc
+inlay_no_buffer : (id : ℕ) → Inlay id ≡ Buffer → ⊥
+inlay_no_buffer id e = cc
 
 hidden_no_buffer : Placeholder ≡ Buffer → ⊥
 hidden_no_buffer e = cc
@@ -215,11 +215,11 @@ together text o b p c (q ∷ qs) n h f =
     ((λ _. (omega (arith, k.0, at), k.1, ap (λ (l : List ℕ). b ∷ l) (k.2 ∙ ap (λ (s : ℕ). slice_range text s q.end) at) ∙ more_bytes text o b q.end n.0 n.1 (omega (arith, k.0, at)))), h.1)
 
 inlay-copied : (text : List ℕ) (is_one : Bool) (o id b end : ℕ) (ps : List Piece) → Every (IsCopied text) ps →
-    (is_one ≡ true → (p : Piece) (qs : List Piece) → ps ≡ p ∷ qs → p.kind ≡ Inlay) →
+    (is_one ≡ true → (p : Piece) (qs : List Piece) → ps ≡ p ∷ qs → p.kind ≡ Inlay id) →
     Every (IsCopied text) (piece_before is_one (InlayByte o id b) end ps)
-inlay-copied text is_one o id b end [] h f = ((λ e. absurd (inlay_no_buffer e)), tt)
-inlay-copied text true o id b end (p ∷ ps) h f = ((λ e. absurd (inlay_no_buffer (sym (f refl p ps refl) ∙ e))), h.1)
-inlay-copied text false o id b end (p ∷ ps) h f = ((λ e. absurd (inlay_no_buffer e)), h)
+inlay-copied text is_one o id b end [] h f = ((λ e. absurd (inlay_no_buffer id e)), tt)
+inlay-copied text true o id b end (p ∷ ps) h f = ((λ e. absurd (inlay_no_buffer id (sym (f refl p ps refl) ∙ e))), h.1)
+inlay-copied text false o id b end (p ∷ ps) h f = ((λ e. absurd (inlay_no_buffer id e)), h)
 
 hidden-copied : (text : List ℕ) (o end : ℕ) (ps : List Piece) → Every (IsCopied text) ps → Every (IsCopied text) (piece_before false (Hidden o) end ps)
 hidden-copied text o end [] h = ((λ e. absurd (hidden_no_buffer e)), tt)
@@ -232,7 +232,7 @@ one-copied text (Byte o b) (InlayByte p id c) ps n h f = alone text o b (InlayBy
 one-copied text (Byte o b) (Hidden p) ps n h f = alone text o b (Hidden p) ps n h
 one-copied text (InlayByte o id b) (Byte p c) ps n h f = inlay-copied text false o id b p ps h (λ e. absurd (false≢true e))
 one-copied text (InlayByte o id b) (InlayByte p id' c) ps n h f =
-    inlay-copied text (eqb id id') o id b p ps h (λ _ q qs e. (subst (First (InlayByte p id' c)) e f).1)
+    inlay-copied text (eqb id id') o id b p ps h (λ same q qs e. (subst (First (InlayByte p id' c)) e f).1 ∙ ap Inlay (sym (eqb-true id id' same)))
 one-copied text (InlayByte o id b) (Hidden p) ps n h f = inlay-copied text false o id b p ps h (λ e. absurd (false≢true e))
 one-copied text (Hidden o) u ps n h f = hidden-copied text o (offset_of u) ps h
 

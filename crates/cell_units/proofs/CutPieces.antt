@@ -121,7 +121,7 @@ offset_none : (q : Piece) → offset_in q.kind q.start 0 ≡ q.start
 offset_none q = go q.kind where
   go : (k : _) → offset_in k q.start 0 ≡ q.start
   go Buffer = omega arith
-  go Inlay = refl
+  go (Inlay id) = refl
   go Placeholder = refl
 
 -- the piece of a token by itself, and joined to the next piece

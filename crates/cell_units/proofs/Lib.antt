@@ -40,3 +40,7 @@ pub mod FoundEntries
 pub mod OperatedLines
 pub mod LawfulOperations
 pub mod TouchedRuns
+pub mod RowsAway
+pub mod LinesAway
+pub mod KeptRows
+pub mod RowsWithLines

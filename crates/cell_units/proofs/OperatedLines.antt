@@ -64,6 +64,9 @@ module _ (r : Record) (is : HasLawfulEntries r) where
   sorted : IsSorted inlay_le r.inlays
   sorted = sorted_entries inlay_le inlay_total inlay_trans (λ (i : Inlay). i.id) r.inlays is.source.inlays.in_order
 
+  pub inlays_sorted : IsSorted inlay_le r.inlays
+  inlays_sorted = sorted
+
   replacement : (a b : ℕ) (s : List ℕ) → a ≤ b → b ≤ length r.text →
       KeepsLines (touched (Replace a b s) r) (operated_piece (Replace a b s)) r (operated (Replace a b s) r)
   replacement a b s ab bt =

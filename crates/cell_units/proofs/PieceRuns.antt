@@ -1,8 +1,9 @@
 -- The pieces of a line are its longest runs of tokens of one piece.
 use Rattle.std.proofs.Common.{◌≡◌, ℕ, ◌<◌, Bool, true, false, List, [], ◌∷◌, ◌++◌, length, length-append, map, take, refl, ap, sym, ◌∙◌, append-nil, arith}
 use Rattle.std.specs.List.{All, flat_map}
-use Rattle.std.proofs.lemmas.Bool.{false≢true}
+use Rattle.std.proofs.lemmas.Bool.{false≢true, eqb-true}
 use Rattle.cell_units.specs.declared.piece.Piece.{Piece}
+use Rattle.cell_units.specs.declared.piece.PieceKind.TheVariants.{Inlay}
 use Rattle.cell_units.specs.Inlaid.{Token, Byte, InlayByte, Hidden, bytes_of, offset_of}
 use Rattle.cell_units.specs.Pieces.{AreNeighbours, ArePiecesOf, IsRun, IsSeam, before_break, is_one_piece, kind_of, piece_before, pieces_of}
 use Rattle.cell_units.proofs.CutLists.{Every}
@@ -85,7 +86,7 @@ apart-runs (t ∷ u ∷ us) = apart-before (is_one_piece t u) t u (runs_of (u �
 
 same_kind : (t u : Token) → is_one_piece t u ≡ true → kind_of u ≡ kind_of t
 same_kind (Byte o b) (Byte p c) e = refl
-same_kind (InlayByte o i b) (InlayByte p j c) e = refl
+same_kind (InlayByte o i b) (InlayByte p j c) e = ap Inlay (sym (eqb-true i j e))
 same_kind (Byte o b) (InlayByte p j c) e = absurd (false≢true e)
 same_kind (Byte o b) (Hidden p) e = absurd (false≢true e)
 same_kind (InlayByte o i b) (Byte p c) e = absurd (false≢true e)

@@ -32,7 +32,7 @@ ended_at brk e (x ∷ y ∷ ys) d some h =
     let at : length (x ∷ y ∷ ys) - 1 ≡ suc (length (y ∷ ys) - 1) = omega arith in
     ap (λ k. brk (get_or (x ∷ y ∷ ys) k d)) at ∙ ended_at brk (brk x) (y ∷ ys) d (omega arith) h
 
-suffix_is : (whole rest : List ℕ) → ended is_feed true whole ≡ true → Every (λ b. is_feed b ≡ false) rest → suffix_len (λ b. not (is_feed b)) (whole ++ rest) ≡ length rest
+pub suffix_is : (whole rest : List ℕ) → ended is_feed true whole ≡ true → Every (λ b. is_feed b ≡ false) rest → suffix_len (λ b. not (is_feed b)) (whole ++ rest) ≡ length rest
 suffix_is whole rest h free =
     suffix_len_is (λ b. not (is_feed b)) (whole ++ rest) (length whole) 0 (omega (arith, length-append whole rest))
     (λ k from to. ap (λ (c : ℕ). not (is_feed c)) (get_or-append_right whole rest (length whole) k 0 refl from)
@@ -40,21 +40,21 @@ suffix_is whole rest h free =
     (λ some. ap (λ (c : ℕ). not (is_feed c)) (get_or_append_left whole rest 0 (length whole - 1) (omega arith)) ∙ ap not (ended_at is_feed true whole 0 some h))
     ∙ omega (arith, length-append whole rest)
 
-prefix_row : (row rest : List ℕ) → Every (λ b. is_feed b ≡ false) row → prefix_len (λ b. not (is_feed b)) (row ++ (line_feed ∷ rest)) ≡ length row
+pub prefix_row : (row rest : List ℕ) → Every (λ b. is_feed b ≡ false) row → prefix_len (λ b. not (is_feed b)) (row ++ (line_feed ∷ rest)) ≡ length row
 prefix_row [] rest free = refl
 prefix_row (b ∷ row) rest free =
     (λ i. cond (not (free.0 i)) (1 + prefix_row row rest free.1 i) 0) ∙ omega arith
 
-prefix_end : (ys : List ℕ) → prefix_len (λ b. not (is_feed b)) (ys ++ line_feed ∷ []) ≡ prefix_len (λ b. not (is_feed b)) ys
+pub prefix_end : (ys : List ℕ) → prefix_len (λ b. not (is_feed b)) (ys ++ line_feed ∷ []) ≡ prefix_len (λ b. not (is_feed b)) ys
 prefix_end [] = refl
 prefix_end (y ∷ ys) = ap (λ n. cond (not (is_feed y)) (1 + n) 0) (prefix_end ys)
 
 -- ---- breaks
 
-count-cons : {X : Type 0} (p : X → Bool) (x : X) (xs : List X) → count_by p (x ∷ xs) ≡ cond (p x) 1 0 + count_by p xs
+pub count-cons : {X : Type 0} (p : X → Bool) (x : X) (xs : List X) → count_by p (x ∷ xs) ≡ cond (p x) 1 0 + count_by p xs
 count-cons p x xs = sum_by-cons (λ y. cond (p y) 1 0) x xs
 
-count-append : {X : Type 0} (p : X → Bool) (xs ys : List X) → count_by p (xs ++ ys) ≡ count_by p xs + count_by p ys
+pub count-append : {X : Type 0} (p : X → Bool) (xs ys : List X) → count_by p (xs ++ ys) ≡ count_by p xs + count_by p ys
 count-append p xs ys = sum_by-append (λ y. cond (p y) 1 0) xs ys
 
 -- the last of a list that ends in no break is not counted
@@ -70,7 +70,7 @@ count_but_last brk e (x ∷ y ∷ ys) h =
 
 module _ (inlays : List Inlay) (folds : List Fold) where
   -- the breaks before the start of a row, which no fold's placeholder changes
-  breaks_to_left : (text : List ℕ) (o : ℕ) → o ≤ length text → line_of text inlays folds o Left ≡ count_by is_break (folded_before text inlays folds o)
+  pub breaks_to_left : (text : List ℕ) (o : ℕ) → o ≤ length text → line_of text inlays folds o Left ≡ count_by is_break (folded_before text inlays folds o)
   breaks_to_left text o le = go (inside folds o) refl where
     before : List Token
     before = folded_before text inlays folds o
@@ -85,7 +85,7 @@ module _ (inlays : List Inlay) (folds : List Fold) where
     go true is = count_but_last is_break true (folded_before text inlays folds o) (ended-inside inlays folds (take o text) (ap (inside folds) long ∙ is))
 
   -- the breaks of what is shown up to a feed and of its own offset, with one more where the feed is hidden
-  breaks_to_right : (text : List ℕ) (o : ℕ) →
+  pub breaks_to_right : (text : List ℕ) (o : ℕ) →
       count_by is_break (folded_before text inlays folds o ++ shown inlays folds o line_feed) + cond (cond (covered folds o) false (eqb line_feed line_feed)) 0 1
       ≡ line_of text inlays folds o Right + 1
   breaks_to_right text o = go (inside folds o) (covered folds o) (inside_covered inlays folds o) where

@@ -1,7 +1,7 @@
 -- The untouched lines after a change are those before it, moved.
-use Rattle.std.proofs.Common.{◌≡◌, ℕ, ◌<◌, ◌≤◌, Bool, true, false, leb, List, [], ◌∷◌, ◌++◌, length, map, replicate, refl, sym, ap, ◌∙◌}
+use Rattle.std.proofs.Common.{◌≡◌, ℕ, ◌+◌, ◌<◌, ◌≤◌, Bool, true, false, leb, List, [], ◌∷◌, ◌++◌, length, map, replicate, take, drop, refl, sym, ap, subst, ◌∙◌, arith, append_assoc, length-append}
 use Rattle.std.proofs.lemmas.Bool.{le-leb, lt-leb, and_left, and_right, and_from}
-use Rattle.std.proofs.lemmas.List.{append-nil, length-map, map-append}
+use Rattle.std.proofs.lemmas.List.{append-nil, take_at, drop_at, length-map, map-append}
 use Rattle.cell_units.specs.declared.piece.Piece.{Piece}
 use Rattle.cell_units.specs.Record.{Record}
 use Rattle.cell_units.specs.Inlaid.{Token, is_break}
@@ -76,10 +76,21 @@ module _ (text : List ℕ) (rows : RowRange) where
 
 -- ---- two records
 
+-- there is a touched line, and the lines in front of them end before the rows, and those behind them start behind these
+pub record LieApart (rows : RowRange) (r : Record) (front middle : ℕ) : Type 0 where
+  pub some : 0 < middle
+  pub in_front : Every (λ l. span_end r.text l < rows.first) (take front (display_lines r.text r.inlays r.folds))
+  pub behind : Every (λ l. rows.last < span_start r.text l) (drop (front + middle) (display_lines r.text r.inlays r.folds))
+
+abbrev pub AreApart : Touched → Record → ℕ → ℕ → Type 0
+AreApart (Rows before after) r front middle = LieApart before r front middle
+AreApart _ r front middle = Unit {0}
+
 -- what is proved of an operation
 pub record KeepsLines (touched : Touched) (moved : Piece → Piece) (r r' : Record) : Type 0 where
   pub run : TouchesOneRun touched r r'
   pub pieces : KeepsPieces touched moved r r'
+  pub apart : AreApart touched r run.front run.before
 
 -- two records whose lines are counted keep their lines
 module _ (sh : Token → Token) (moved : Piece → Piece) (moves : (l : List Token) → pieces_of (map sh l) ≡ map moved (pieces_of l))
@@ -96,6 +107,26 @@ module _ (sh : Token → Token) (moved : Piece → Piece) (moves : (l : List Tok
 
   after_are : map (is_touched r'.text rows') (display_lines r'.text r'.inlays r'.folds) ≡ one_run (length c.front) (length c.middle') (length (map (map sh) c.back))
   after_are = ap (map (is_touched r'.text rows')) c.after_is ∙ run_is r'.text rows' c.front c.middle' (map (map sh) c.back) c.front_above' c.middle_from' c.middle_to' c.back_below'
+
+  ends : (ls : List (List Token)) → Every (LastIs (λ x. token_row r.text x < first)) ls → Every (λ l. span_end r.text l < first) ls
+  ends [] a = tt
+  ends (l ∷ ls) a = (end_is r.text rows (λ k. k < first) l a.0, ends ls a.1)
+
+  starts : (ls : List (List Token)) → Every (FirstIs (λ x. last < token_row r.text x)) ls → Every (λ l. last < span_start r.text l) ls
+  starts [] a = tt
+  starts (l ∷ ls) a = (start_is r.text rows (λ k. last < k) l a.0, starts ls a.1)
+
+  apart : LieApart rows r (length c.front) (length c.middle)
+  apart = record {
+    some = some c.middle c.middle_some;
+    in_front = subst (Every (λ l. span_end r.text l < first)) (sym (ap (take (length c.front)) c.before_is ∙ take_at c.front (c.middle ++ c.back) (length c.front) refl)) (ends c.front c.front_above);
+    behind = subst (Every (λ l. last < span_start r.text l))
+        (sym (ap (drop (length c.front + length c.middle)) (c.before_is ∙ sym (append_assoc c.front c.middle c.back)) ∙ drop_at (c.front ++ c.middle) c.back (length c.front + length c.middle) (length-append c.front c.middle)))
+        (starts c.back c.back_below);
+  } where
+    some : (ls : List (List Token)) → (ls ≡ [] → ⊥) → 0 < length ls
+    some [] h = absurd (h refl)
+    some (l ∷ ls) h = omega arith
 
   moves_all : (ls : List (List Token)) → map pieces_of (map (map sh) ls) ≡ map (map moved) (map pieces_of ls)
   moves_all [] = refl
@@ -120,6 +151,7 @@ module _ (sh : Token → Token) (moved : Piece → Piece) (moves : (l : List Tok
       after_are = after_are ∙ ap (one_run (length c.front) (length c.middle')) (length-map c.back (map sh));
     };
     pieces = pieces_are;
+    apart = apart;
   }
 
 -- ---- none and all
@@ -148,6 +180,7 @@ module _ (r r' : Record) (same : display_lines r'.text r'.inlays r'.folds ≡ di
       after_are = ap (map (λ line. false)) same ∙ each_line false (display_lines r.text r.inlays r.folds);
     };
     pieces = (λ i. untouched (map (λ line. false) (same i)) (map pieces_of (same i))) ∙ same_lines (untouched (touched_before NoLine r) (map pieces_of (display_lines r.text r.inlays r.folds)));
+    apart = tt;
   }
 
   pub lines_kept-each : KeepsLines EachLine (λ p. p) r r'
@@ -161,4 +194,5 @@ module _ (r r' : Record) (same : display_lines r'.text r'.inlays r'.folds ≡ di
       after_are = ap (map (λ line. true)) same ∙ each_line true (display_lines r.text r.inlays r.folds) ∙ sym (append-nil (replicate (length (display_lines r.text r.inlays r.folds)) true));
     };
     pieces = (λ i. untouched (map (λ line. true) (same i)) (map pieces_of (same i))) ∙ same_lines (untouched (touched_before EachLine r) (map pieces_of (display_lines r.text r.inlays r.folds)));
+    apart = tt;
   }

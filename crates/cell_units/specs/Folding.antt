@@ -22,7 +22,7 @@ inlaid_token inlays t = inlays_at inlays (offset_of t) ++ t ∷ []
 -- the offset so many bytes into a piece that starts at an offset: only the buffer's bytes have offsets of their own
 abbrev pub offset_in : PieceKind → ℕ → ℕ → ℕ
 offset_in Buffer start n = start + n
-offset_in Inlay start n = start
+offset_in (Inlay id) start n = start
 offset_in Placeholder start n = start
 
 -- a piece up to its n-th byte, and from there on

@@ -2,13 +2,13 @@
 use Rattle.std.specs.Prelude.{ℕ, ◌≡◌, ◌+◌, ◌-◌, ◌≤◌, ◌<◌, List, length, map}
 use Rattle.cell_units.specs.declared.place.Bias.TheVariants.{Left, Right}
 use Rattle.cell_units.specs.declared.piece.Piece.{Piece}
-use Rattle.cell_units.specs.Text.{clean, row_start, row_end}
+use Rattle.cell_units.specs.Text.{clean, row_of, row_start, row_end}
 use Rattle.cell_units.specs.Anchor.{move}
 use Rattle.cell_units.specs.Record.{Record}
 use Rattle.cell_units.specs.Operation.{Operation, Replace}
 use Rattle.cell_units.specs.Folded.{line_of}
 use Rattle.cell_units.specs.Pieces.{folded_lines}
-use Rattle.cell_units.specs.Touched.{Touched, row_range, touched_lines, touched_before, touched_after, untouched, one_run}
+use Rattle.cell_units.specs.Touched.{Touched, NoLine, EachLine, Rows, row_range, touched_lines, touched_before, touched_after, untouched, one_run}
 
 abbrev pub move_piece : ℕ → ℕ → ℕ → Piece → Piece
 move_piece a b n p = record { kind = p.kind; text = p.text; start = move p.start Right a b n; end = move p.end Right a b n }
@@ -57,3 +57,48 @@ KeepsPieces touched moved r r' =
 abbrev pub KeepsCount : Touched → Record → Record → Type 0
 KeepsCount touched r r' =
     length (untouched (touched_after touched r') (lines_of r')) ≡ length (untouched (touched_before touched r) (lines_of r))
+
+-- ---- rows of the buffer that aren't touched
+
+-- where an operation moves an offset, as it moves that of a block
+abbrev pub operated_offset : Operation → ℕ → ℕ
+operated_offset (Replace a b s) o = move o Right a b (length (clean s))
+operated_offset _ o = o
+
+-- a row lies before all that are touched, or behind them. Where no line is touched each row does both, and where each line is,
+-- no row does either
+abbrev pub LiesBefore : Touched → ℕ → Type 0
+LiesBefore NoLine row = Unit {0}
+LiesBefore EachLine row = ⊥
+LiesBefore (Rows before after) row = row < before.first
+
+abbrev pub LiesBehind : Touched → ℕ → Type 0
+LiesBehind NoLine row = Unit {0}
+LiesBehind EachLine row = ⊥
+LiesBehind (Rows before after) row = before.last < row
+
+-- the row of o' after starts and ends in the display lines in which that of o did before
+pub record HasSameLines (r r' : Record) (o o' : ℕ) : Type 0 where
+  pub start : line_of_row_start r' o' ≡ line_of_row_start r o
+  pub end : line_of_row_end r' o' ≡ line_of_row_end r o
+
+-- it starts and ends as far from the last display line as that did
+pub record HasSameLinesFromEnd (r r' : Record) (o o' : ℕ) : Type 0 where
+  pub start : line_of_row_start r' o' + length (lines_of r) ≡ line_of_row_start r o + length (lines_of r')
+  pub end : line_of_row_end r' o' + length (lines_of r) ≡ line_of_row_end r o + length (lines_of r')
+
+-- a row before the touched ones stays in its display lines, and one behind them as far from the last line
+pub record KeepsRows (touched : Touched) (moved : ℕ → ℕ) (r r' : Record) : Type 0 where
+  pub before : (o : ℕ) → LiesBefore touched (row_of r.text o) → HasSameLines r r' o (moved o)
+  pub behind : (o : ℕ) → o ≤ length r.text → LiesBehind touched (row_of r.text o) → HasSameLinesFromEnd r r' o (moved o)
+
+-- where `after` lines took the place of `before` others that stood behind `front`, a line of those in front is the one of its
+-- number, and a line behind them is the one as far behind
+pub record IsLineThen (front before after line line' : ℕ) : Type 0 where
+  pub in_front : line < front → line' ≡ line
+  pub behind : front + before ≤ line → line' + before ≡ line + after
+
+-- each row goes with the line in which it starts, and with that in which it ends, if these aren't touched
+pub record GoWithLines (moved : ℕ → ℕ) (r r' : Record) (front before after : ℕ) : Type 0 where
+  pub start : (o : ℕ) → o ≤ length r.text → IsLineThen front before after (line_of_row_start r o) (line_of_row_start r' (moved o))
+  pub end : (o : ℕ) → o ≤ length r.text → IsLineThen front before after (line_of_row_end r o) (line_of_row_end r' (moved o))

@@ -10,7 +10,7 @@ use Rattle.cell_units.specs.Folded.{display_lines}
 
 abbrev pub kind_of : Token → PieceKind
 kind_of (Byte o b) = Buffer
-kind_of (InlayByte o id b) = Inlay
+kind_of (InlayByte o id b) = Inlay id
 kind_of (Hidden o) = Placeholder
 
 -- neighbours are of one piece where both are of the buffer or both of one inlay

@@ -55,8 +55,8 @@ line_texts r = map (λ line. flat_map bytes_of (filter (λ t. not (is_break t)) 
 abbrev pub buffer_piece : List ℕ → ℕ → ℕ → Piece
 buffer_piece text start end = record { kind = Buffer; text = text; start = start; end = end }
 
-abbrev pub inlay_piece : List ℕ → ℕ → Piece
-inlay_piece text offset = record { kind = Inlay; text = text; start = offset; end = offset }
+abbrev pub inlay_piece : ℕ → List ℕ → ℕ → Piece
+inlay_piece id text offset = record { kind = Inlay id; text = text; start = offset; end = offset }
 
 abbrev pub placeholder_piece : ℕ → ℕ → Piece
 placeholder_piece start end = record { kind = Placeholder; text = placeholder; start = start; end = end }

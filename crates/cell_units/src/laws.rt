@@ -9,7 +9,7 @@ ghost use Rattle.cell_units.specs.Text.{IsBoundary, IsText, clean, is_feed, row_
 ghost use Rattle.cell_units.specs.Record.{Block, Fold, Inlay, Record, block_le, fold_le, inlay_le, opened};
 ghost use Rattle.cell_units.specs.Operation.{Operation, operated};
 ghost use Rattle.cell_units.specs.Touched.{touched};
-ghost use Rattle.cell_units.specs.LineCounts.{KeepsCount, KeepsPieces, RowsAreOneRun, TouchesOneRun, operated_piece};
+ghost use Rattle.cell_units.specs.LineCounts.{GoWithLines, KeepsCount, KeepsPieces, KeepsRows, RowsAreOneRun, TouchesOneRun, operated_offset, operated_piece};
 ghost use Rattle.cell_units.specs.Inlaid.{Token, bytes_of, inlaid_place};
 ghost use Rattle.cell_units.specs.Folded.{covered, display_lines, folded, folded_place, line_of, place_in_line};
 ghost use Rattle.cell_units.specs.Pieces.{ArePiecesOf, before_break, pieces_of};
@@ -101,7 +101,8 @@ pub fn entry_laws()
 {}
 
 /// What every operation that is allowed leaves of a record with lawful entries: such a record, of whose display lines one run
-/// is touched before and one after, and the others are the same, moved. It does nothing.
+/// is touched before and one after, and the others are the same, moved. A buffer row that isn't touched stays in its lines, as
+/// they are moved. It does nothing.
 pub fn operation_laws()
     ensures opened { (text : List ℕ) → IsText text → IsLawful (opened text) }
     ensures lawful { (operation : Operation) (r : Record) → HasLawfulEntries r → IsAllowed operation r →
@@ -112,5 +113,10 @@ pub fn operation_laws()
         KeepsCount (touched operation r) r (operated operation r) }
     ensures same_pieces { (operation : Operation) (r : Record) → HasLawfulEntries r → IsAllowed operation r →
         KeepsPieces (touched operation r) (operated_piece operation) r (operated operation r) }
+    ensures same_rows { (operation : Operation) (r : Record) → HasLawfulEntries r → IsAllowed operation r →
+        KeepsRows (touched operation r) (operated_offset operation) r (operated operation r) }
+    ensures with_lines { (operation : Operation) (r : Record) → HasLawfulEntries r → IsAllowed operation r →
+        (run : TouchesOneRun (touched operation r) r (operated operation r)) →
+        GoWithLines (operated_offset operation) r (operated operation r) run.front run.before run.after }
     ensures rows { (r : Record) (a b : ℕ) → HasLawfulEntries r → a ≤ b → b ≤ length r.text → RowsAreOneRun r a b }
 {}

@@ -5,7 +5,8 @@ use crate::text::Text;
 #[derive(Clone, Copy, Debug, PartialEq, Eq)]
 pub enum PieceKind {
     Buffer,
-    Inlay,
+    /// An inlay, by its id.
+    Inlay(u32),
     Placeholder,
 }
 

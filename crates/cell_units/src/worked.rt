@@ -11,6 +11,7 @@ ghost use Rattle.cell_units.specs.Inlaid.{bytes_of, inlaid, inlaid_place, placeh
 ghost use Rattle.cell_units.specs.Folded.{display_lines, folded_place, line_of, place_in_line, span_end, span_start};
 ghost use Rattle.cell_units.specs.Pieces.{folded_lines};
 ghost use Rattle.cell_units.specs.Touched.{EachLine, NoLine, touched, touched_after, touched_before};
+ghost use Rattle.cell_units.specs.LineCounts.{line_of_row_end, line_of_row_start};
 ghost use Rattle.cell_units.specs.Points.{offset_at};
 ghost use Rattle.cell_units.specs.BufferLines.{buffer_lines, line_start, line_starts};
 ghost use Rattle.cell_units.specs.Layers.{place_of, point_of, shown_lines, shown_text, span_of, unfolded};
@@ -111,6 +112,26 @@ pub fn worked_changes()
         ((operated (SetWidth 40) r).width ≡ 40) × (touched (SetWidth 40) r ≡ NoLine) × (touched_after (touched (SetWidth 40) r) r ≡ false ∷ false ∷ []) }
 {}
 
+/// In which display lines rows start and end, before and after an operation that doesn't touch them. It does nothing.
+pub fn worked_rows()
+    ensures behind_a_fold { let r = folded_record (codes "a\nb\nc\nd") [] (fold 1 4 1 ∷ []) in
+        let s = operated (Replace 0 1 (codes "x\ny")) r in
+        (map (line_of_row_start r) (2 ∷ 4 ∷ 6 ∷ []) ≡ 0 ∷ 0 ∷ 1 ∷ []) × (map (line_of_row_start s) (4 ∷ 6 ∷ 8 ∷ []) ≡ 1 ∷ 1 ∷ 2 ∷ [])
+        × (map (line_of_row_end r) (2 ∷ 4 ∷ 6 ∷ []) ≡ 0 ∷ 0 ∷ 1 ∷ []) × (map (line_of_row_end s) (4 ∷ 6 ∷ 8 ∷ []) ≡ 1 ∷ 1 ∷ 2 ∷ []) }
+    ensures inlay_at_row_end { let r = folded_record (codes "a\nb") (inlay 1 Right 1 (codes "x\ny") ∷ []) [] in
+        let s = operated (Replace 2 3 (codes "c\nd")) r in
+        (line_of_row_start r 0 ≡ 0) × (line_of_row_start s 0 ≡ 0) × (line_of_row_end r 0 ≡ 1) × (line_of_row_end s 0 ≡ 1) }
+    ensures inlay_at_row_start { let r = folded_record (codes "a\nb") (inlay 2 Left 1 (codes "x\ny") ∷ []) [] in
+        let s = operated (Replace 0 1 (codes "c\nd")) r in
+        (line_of_row_start r 2 ≡ 1) × (line_of_row_start s 4 ≡ 2) × (line_of_row_end r 2 ≡ 2) × (line_of_row_end s 4 ≡ 3) }
+    ensures fold_to_row_start { let r = folded_record (codes "a\nb\nc") [] (fold 0 2 1 ∷ []) in
+        let s = operated (AddInlay (inlay 0 Left 1 (codes "x\ny"))) r in
+        (line_of_row_start r 2 ≡ 0) × (line_of_row_start s 2 ≡ 1) × (line_of_row_end r 2 ≡ 0) × (line_of_row_end s 2 ≡ 1) }
+    ensures last_row { let r = folded_record (codes "a\n") [] [] in
+        let s = operated (Replace 0 0 (codes "x\n")) r in
+        (line_of_row_start r 2 ≡ 1) × (line_of_row_start s 4 ≡ 2) × (line_of_row_end r 2 ≡ 1) × (line_of_row_end s 4 ≡ 2) }
+{}
+
 /// Folds, inlays and the display lines that they make. It does nothing.
 pub fn worked_lines()
     ensures empty_text { line_texts (folded_record [] [] []) ≡ [] ∷ [] }
@@ -121,7 +142,7 @@ pub fn worked_lines()
     ensures inlay_place { let inlays = inlay 3 Left 1 (codes ">") ∷ [] in
         (inlaid_place (codes "abc") inlays 3 Left ≡ 3) × (inlaid_place (codes "abc") inlays 3 Right ≡ 4) }
     ensures type_inlay { folded_lines (codes "let x = 1") (inlay 5 Right 1 (codes ": i32") ∷ []) []
-        ≡ (buffer_piece (codes "let x") 0 5 ∷ inlay_piece (codes ": i32") 5 ∷ buffer_piece (codes " = 1") 5 9 ∷ []) ∷ [] }
+        ≡ (buffer_piece (codes "let x") 0 5 ∷ inlay_piece 1 (codes ": i32") 5 ∷ buffer_piece (codes " = 1") 5 9 ∷ []) ∷ [] }
     ensures fold_two_line_ends { folded_lines (codes "a\nb\nc") [] (fold 1 4 1 ∷ [])
         ≡ (buffer_piece (codes "a") 0 1 ∷ placeholder_piece 1 4 ∷ buffer_piece (codes "c") 4 5 ∷ []) ∷ [] }
     ensures fold_span { let text = codes "a\nb\nc" in
@@ -138,11 +159,11 @@ pub fn worked_lines()
         let folds = fold 1 4 1 ∷ [] in
         (folded_place (codes "abcdef") inlays folds 2 Left ≡ 2) × (folded_place (codes "abcdef") inlays folds 2 Right ≡ 5) }
     ensures neighbour_inlays { folded_lines (codes "ab") (inlay 1 Left 1 (codes "x") ∷ inlay 1 Left 2 (codes "y") ∷ []) []
-        ≡ (buffer_piece (codes "a") 0 1 ∷ inlay_piece (codes "x") 1 ∷ inlay_piece (codes "y") 1 ∷ buffer_piece (codes "b") 1 2 ∷ []) ∷ [] }
+        ≡ (buffer_piece (codes "a") 0 1 ∷ inlay_piece 1 (codes "x") 1 ∷ inlay_piece 2 (codes "y") 1 ∷ buffer_piece (codes "b") 1 2 ∷ []) ∷ [] }
     ensures joined_folds { line_texts (folded_record (codes "abcdefgh") [] (fold 1 4 1 ∷ fold 3 6 2 ∷ [])) ≡ (codes "a" ++ placeholder ++ codes "gh") ∷ [] }
     ensures touching_folds { line_texts (folded_record (codes "abcdefgh") [] (fold 1 4 1 ∷ fold 4 6 3 ∷ [])) ≡ (codes "a" ++ placeholder ++ placeholder ++ codes "gh") ∷ [] }
     ensures inlay_with_break { folded_lines (codes "ab") (inlay 1 Right 1 (codes "x\ny") ∷ []) []
-        ≡ (buffer_piece (codes "a") 0 1 ∷ inlay_piece (codes "x") 1 ∷ []) ∷ (inlay_piece (codes "y") 1 ∷ buffer_piece (codes "b") 1 2 ∷ []) ∷ [] }
+        ≡ (buffer_piece (codes "a") 0 1 ∷ inlay_piece 1 (codes "x") 1 ∷ []) ∷ (inlay_piece 1 (codes "y") 1 ∷ buffer_piece (codes "b") 1 2 ∷ []) ∷ [] }
     ensures break_display { let inlays = inlay 1 Right 1 (codes "x\ny") ∷ [] in
         (line_of (codes "ab") inlays [] 1 Left ≡ 0) × (place_in_line (codes "ab") inlays [] 1 Left ≡ 1)
         × (line_of (codes "ab") inlays [] 1 Right ≡ 1) × (place_in_line (codes "ab") inlays [] 1 Right ≡ 1) }
@@ -167,7 +188,7 @@ pub fn worked_layers()
     ensures starts_below { map (line_start (shown_text (unfolded hidden_inlay))) (range_with_len 0 4)
         ≡ 0 ∷ 3 ∷ 5 ∷ 9 ∷ [] }
     ensures fronts_below { map (front_pieces 1) (shown_lines (unfolded hidden_inlay))
-        ≡ (buffer_piece (codes "a") 0 1 ∷ []) ∷ (inlay_piece (codes "x") 3 ∷ []) ∷ (inlay_piece (codes "y") 3 ∷ [])
+        ≡ (buffer_piece (codes "a") 0 1 ∷ []) ∷ (inlay_piece 1 (codes "x") 3 ∷ []) ∷ (inlay_piece 1 (codes "y") 3 ∷ [])
         ∷ (buffer_piece (codes "e") 6 7 ∷ []) ∷ [] }
     ensures rests_below { map (rest_pieces 2) (shown_lines (unfolded hidden_inlay))
         ≡ [] ∷ [] ∷ (buffer_piece (codes "d") 4 5 ∷ []) ∷ [] ∷ [] }

@@ -1,20 +1,26 @@
 //! Patches, as lists of edits in order.
-ghost use Rattle.std.specs.Prelude.{◌≡◌, ℕ, ◌^◌, ◌<◌, ◌↔◌, [], List, IsTrue, IsOk, IfOk, IfErr, IfSome};
+ghost use Rattle.std.specs.Prelude.{◌≡◌, ℕ, ◌+◌, ◌^◌, ◌<◌, ◌↔◌, [], List, IsTrue, IsOk, IfOk, IfErr, IfSome};
 ghost use Rattle.edit_patch.specs.declared.edit.Edit.{Edit};
 ghost use Rattle.edit_patch.specs.Came.{origin_of, carry_of, inverted};
+ghost use Rattle.edit_patch.specs.Fits.{replacement};
 ghost use Rattle.edit_patch.specs.Patch.{IsPatch, IsComposed, AllFit};
 
 use crate::edit::Edit;
 use crate::merge::merged;
-use cell_units::{NoMemory, Refusal};
+use cell_units::{NoMemory, Refusal, Shift};
 use std::alloc::Global;
 use std::marker::Model;
 
 /// A list of edits in order, none empty on both sides, with at least one kept position between neighbours, and as many
 /// kept positions before and between edits on the old side as on the new. Contracts see it as that list.
-#[derive(Drop)]
 pub struct Patch {
     edits: Vec<Edit>,
+}
+
+impl Drop for Patch {
+    fn drop(self) {
+        let Patch { edits: _ } = self;
+    }
 }
 
 impl Model for Patch {
@@ -50,6 +56,23 @@ impl Patch {
         } else {
             Err(Refusal::BadRange)
         }
+    }
+
+    /// The patch of one replacement: of one edit, or of none where nothing replaces nothing. All positions of it must be u32.
+    pub fn of_shift(alloc: Global, shift: Shift) -> Result<Patch, NoMemory>
+        requires { shift.start + shift.count < 2 ^ 32 }
+        ensures { IfOk result (λ p. p ≡ replacement shift.start shift.end shift.count) }
+    {
+        let mut edits = Vec::new(alloc);
+        if shift.start < shift.end || shift.count > 0 {
+            edits.push(Edit {
+                old_start: shift.start,
+                old_end: shift.end,
+                new_start: shift.start,
+                new_end: shift.start + shift.count,
+            })?;
+        }
+        Ok(Patch { edits })
     }
 
     /// The edits, in order.

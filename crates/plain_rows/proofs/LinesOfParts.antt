@@ -101,7 +101,7 @@ IsLine s q [] = ⊥
 IsLine s q (p ∷ []) = (is_end p ≡ true) × (part_end q ≡ part_start p) × IsApart q p × Lies s p
 IsLine s q (p ∷ o ∷ os) = (is_end p ≡ false) × (part_end q ≡ part_start p) × IsApart q p × Lies s p × IsLine s p (o ∷ os)
 
-inlay-tokens : (o id : ℕ) (k : ℕ) (bs : List ℕ) → map (InlayByte o id) bs ≡ each (λ _ b. InlayByte o id b) kinds.Inlay (λ _ _ _. eq-eqb id id refl) (λ _ _. refl) (λ _ _. refl) k bs
+inlay-tokens : (o id : ℕ) (k : ℕ) (bs : List ℕ) → map (InlayByte o id) bs ≡ each (λ _ b. InlayByte o id b) (kinds.Inlay id) (λ _ _ _. eq-eqb id id refl) (λ _ _. refl) (λ _ _. refl) k bs
 inlay-tokens o id k [] = refl
 inlay-tokens o id k (b ∷ bs) = ap (λ (l : List Token). InlayByte o id b ∷ l) (inlay-tokens o id (k + 1) bs)
 
@@ -122,8 +122,8 @@ pieces-last s (Inlay number offset start end) u off at lies =
     let id : ℕ = (inlay_at s number).id in
     ap (λ (bs : List ℕ). pieces_of (map (InlayByte offset id) bs ++ u ∷ [])) r.2
     ∙ ap (λ (l : List Token). pieces_of (l ++ u ∷ [])) (inlay-tokens offset id 0 (r.0 ∷ r.1))
-    ∙ run-last (λ _ b. InlayByte offset id b) kinds.Inlay (λ _ _ _. eq-eqb id id refl) (λ _ _. refl) (λ _ _. refl) (λ _ _. refl) 0 r.0 r.1 u
-    ∙ (λ i. record { kind = kinds.Inlay; text = sym r.2 i; start = offset; end = sym at i } ∷ [])
+    ∙ run-last (λ _ b. InlayByte offset id b) (kinds.Inlay id) (λ _ _ _. eq-eqb id id refl) (λ _ _. refl) (λ _ _. refl) (λ _ _. refl) 0 r.0 r.1 u
+    ∙ (λ i. record { kind = kinds.Inlay id; text = sym r.2 i; start = offset; end = sym at i } ∷ [])
 pieces-last s (Placeholder start end) u off at lies = λ i. record { kind = kinds.Placeholder; text = placeholder; start = start; end = sym at i } ∷ []
 pieces-last s (Feed offset) u off at lies = absurd (true≢false off)
 pieces-last s (InlayFeed number offset) u off at lies = absurd (true≢false off)
@@ -170,8 +170,8 @@ pieces-other s lawful (Inlay number offset start end) o us off also at apart lie
     let to : offset_of u ≡ offset = first-at s o ∙ sym at in
     ap (λ (bs : List ℕ). pieces_of (map (InlayByte offset id) bs ++ u ∷ us)) r.2
     ∙ ap (λ (l : List Token). pieces_of (l ++ u ∷ us)) (inlay-tokens offset id 0 (r.0 ∷ r.1))
-    ∙ run-other (λ _ b. InlayByte offset id b) kinds.Inlay (λ _ _ _. eq-eqb id id refl) (λ _ _. refl) (λ _ _. refl) (λ _ _. refl) 0 r.0 r.1 u us (inlay-other s lawful o number offset start end also apart next)
-    ∙ (λ i. record { kind = kinds.Inlay; text = sym r.2 i; start = offset; end = to i } ∷ pieces_of (u ∷ us))
+    ∙ run-other (λ _ b. InlayByte offset id b) (kinds.Inlay id) (λ _ _ _. eq-eqb id id refl) (λ _ _. refl) (λ _ _. refl) (λ _ _. refl) 0 r.0 r.1 u us (inlay-other s lawful o number offset start end also apart next)
+    ∙ (λ i. record { kind = kinds.Inlay id; text = sym r.2 i; start = offset; end = to i } ∷ pieces_of (u ∷ us))
 pieces-other s lawful (Placeholder start end) o us off also at apart lies next =
     let u = first_of s o in
     let to : offset_of u ≡ end = first-at s o ∙ sym at in

@@ -1,7 +1,7 @@
 -- The offsets that are shown at a spot.
 use Rattle.std.proofs.Common.{◌≡◌, ℕ, ◌+◌, ◌<◌, ◌≤◌, ◌&&◌, ◌==◌, ◌⊎◌, inl, inr, not, nat_le, Bool, true, false, List, filter, unwrap_or, Option, Some, None, max, min, refl, ap, sym, ◌∙◌, subst, arith}
 use Rattle.std.specs.List.{Contains}
-use Rattle.std.proofs.lemmas.Bool.{and_from, and_left, and_parts, cases_lt, false≢true, not-false, not_from_false, not_from_true}
+use Rattle.std.proofs.lemmas.Bool.{and_from, and_left, and_parts, cases_lt, false≢true, not-false, not-true, not_from_false, not_from_true}
 use Rattle.std.proofs.Math.Nat.{max-eq_left, max-eq_right, min-eq_left, min-eq_right}
 use Rattle.std.proofs.lemmas.Bool.Decides.{nat_tests}
 use Rattle.cell_units.specs.declared.place.Bias.{Bias}
@@ -13,8 +13,8 @@ use Rattle.cell_units.specs.Text.{is_boundary}
 use Rattle.cell_line.specs.declared.element.Element.{Element}
 use Rattle.plain_rows.specs.Spots.{back, clip, elements_at, first_by, is_open, is_spot, is_within, offsets_at, positions, show, spot_le}
 use Rattle.plain_rows.specs.inside.SpotOffsets.{IsFirstOffset, IsLastOffset, IsOffsetAt, greater, lesser}
-use Rattle.plain_rows.specs.inside.SpotSearch.{stands_before}
-use Rattle.plain_rows.proofs.Clips.{spot_le-antisym}
+use Rattle.plain_rows.specs.inside.SpotSearch.{IsPartedAt, stands_before}
+use Rattle.plain_rows.proofs.Clips.{spot_le-antisym, spot_le-refl}
 use Rattle.plain_rows.proofs.Lists.{IsFirst, all-contained, contains-filtered, contains-mapped, contains-none, contains-unfiltered, first_by-first}
 use Rattle.plain_rows.proofs.SpotPositions.{contains-unmapped, position-boundary, position-contained}
 
@@ -171,6 +171,17 @@ module _ (r : Record) (bias : Bias) (d : Spot) where
 
   pub no-offset-at : (o : ℕ) → is_boundary r.text o && is_open r o bias ≡ false → IsOffsetAt r bias d o → ⊥
   no-offset-at o h at = false≢true (sym h ∙ and_from (is_boundary r.text o) (is_open r o bias) at.boundary at.opened)
+
+  -- none is where all boundaries are shown before the spot, or all after it
+  pub none-before : (n : ℕ) → IsPartedAt r bias Left d n → (o : ℕ) → o < n → IsOffsetAt r bias d o → ⊥
+  none-before n parted o lt at =
+      false≢true
+      (sym (not-true (spot_le d (show r o bias)) (parted.before o lt at.boundary))
+      ∙ subst (λ (s : Spot). spot_le d s ≡ true) (sym at.is) (spot_le-refl d))
+
+  pub none-behind : (n : ℕ) → IsPartedAt r bias Right d n → (o : ℕ) → n ≤ o → IsOffsetAt r bias d o → ⊥
+  none-behind n parted o ge at =
+      false≢true (sym (parted.behind o ge at.boundary) ∙ subst (λ (s : Spot). spot_le s d ≡ true) (sym at.is) (spot_le-refl d))
 
   -- one more offset
   pub none-upto : (n : ℕ) → is_boundary r.text n && is_open r n bias ≡ false → ((o : ℕ) → o < n → IsOffsetAt r bias d o → ⊥) → (o : ℕ) → o < n + 1 → IsOffsetAt r bias d o → ⊥

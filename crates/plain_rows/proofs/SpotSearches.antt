@@ -1,16 +1,18 @@
 -- What halving and walks find among positions.
-use Rattle.std.proofs.Common.{◌≡◌, ℕ, ◌+◌, ◌<◌, ◌≤◌, ◌⊎◌, inl, inr, true, false, ltb, List, length, Some, refl, ap, sym, ◌∙◌, subst, arith}
+use Rattle.std.proofs.Common.{◌≡◌, ℕ, ◌+◌, ◌<◌, ◌≤◌, ◌⊎◌, inl, inr, true, false, ltb, List, length, Some, None, refl, ap, sym, ◌∙◌, subst, arith}
 use Rattle.std.specs.List.Sorted.{IsNonDecreasingBy}
 use Rattle.std.proofs.lemmas.Bool.{cases_Bool, cases_lt, false≢true, le-ltb, lt-ltb, not-false, not-true}
 use Rattle.std.proofs.lemmas.Bool.Decides.{nat_tests}
 use Rattle.std.proofs.lemmas.List.{get_or_default}
+use Rattle.std.proofs.lemmas.Str.{IsUtf8-nil}
 use Rattle.cell_units.specs.declared.place.Bias.{Bias}
 use Rattle.cell_units.specs.declared.place.Bias.TheVariants.{Left, Right}
 use Rattle.cell_units.specs.declared.place.Spot.{Spot}
 use Rattle.cell_units.specs.Folded.{line_of, place_in_line}
 use Rattle.cell_units.specs.Lawful.{IsLawful}
 use Rattle.cell_units.specs.Record.{Record}
-use Rattle.cell_units.specs.Text.{is_boundary}
+use Rattle.cell_units.specs.Text.{IsBoundary, is_boundary}
+use Rattle.cell_units.proofs.TextLaws.{tells_boundaries}
 use Rattle.cell_line.specs.Wrapping.{cuts_of}
 use Rattle.plain_rows.specs.declared.spots.searching.Aim.{Aim}
 use Rattle.plain_rows.specs.Spots.{elements_at, elements_before, mark_at, rows_before, show, spot_le}
@@ -111,6 +113,14 @@ module _ (r : Record) (lawful : IsLawful r) (short : length r.text ≤ 67108864)
         absurd (omega (arith, ap (λ (s : Spot). s.row) shown, is.ends line less (line_of-within r lawful o bias le), (show-row o bias line refl).0))
     go (inr ge) (inr le) = omega (arith, ge, le)
 
+-- ---- boundaries
+
+pub boundary-is : (r : Record) → IsLawful r → (o : ℕ) → is_boundary r.text o ≡ true → IsBoundary r.text o
+boundary-is r lawful o at = (tells_boundaries r.text lawful.entries.source.text.0 o).0 at
+
+pub first-boundary : (r : Record) → IsLawful r → is_boundary r.text 0 ≡ true
+first-boundary r lawful = (tells_boundaries r.text lawful.entries.source.text.0 0).1 (omega arith, IsUtf8-nil)
+
 -- ---- offsets on one side of a spot
 
 module _ (r : Record) (lawful : IsLawful r) (bias : Bias) (d : Spot) where
@@ -120,11 +130,27 @@ module _ (r : Record) (lawful : IsLawful r) (bias : Bias) (d : Spot) where
   pub behind-from : (side : Bias) (m o : ℕ) → m ≤ o → o ≤ length r.text → stands_before side (show r m bias) d ≡ false → stands_before side (show r o bias) d ≡ false
   behind-from side m o le within h = behind-up side (show r m bias) (show r o bias) d (show-rises r lawful.marked m o bias le within) h
 
+  -- where the last boundary up to an offset is shown before d, all up to it are
+  pub before-last : (side : Bias) (m b : ℕ) → IsLastBoundary r.text (m + 1) (Some b) → stands_before side (show r b bias) d ≡ true → (o : ℕ) → o < m + 1 → is_boundary r.text o ≡ true →
+      stands_before side (show r o bias) d ≡ true
+  before-last side m b last h o lt at = elim (cases_lt b o) [
+    | inl past ↦ absurd (false≢true (sym (last.2 o past lt) ∙ at))
+    | inr le ↦ before-upto side b o le (boundary-within r.text b last.1) h
+  ]
+
+  -- a boundary that isn't shown before d comes after those of which all are
+  pub after-low : (side : Bias) (low b : ℕ) → ((o : ℕ) → o < low → is_boundary r.text o ≡ true → stands_before side (show r o bias) d ≡ true) → is_boundary r.text b ≡ true →
+      stands_before side (show r b bias) d ≡ false → low ≤ b
+  after-low side low b before at h = elim (cases_lt b low) [
+    | inl less ↦ absurd (false≢true (sym h ∙ before b less at))
+    | inr le ↦ le
+  ]
+
   -- of the offsets that are shown at or before d the last boundary is shown last
   pub greatest-by : (n b : ℕ) (g : Spot) → IsPartedAt r bias Right d n → IsLastBoundary r.text n (Some b) → g ≡ show r b bias → IsGreatestBy r bias d (Some g)
   greatest-by n b g parted last is = (
     (b, last.1, sym is),
-    subst (λ (s : Spot). spot_le s d ≡ true) (sym is) (parted.before b last.0 (boundary-within r.text b last.1)),
+    subst (λ (s : Spot). spot_le s d ≡ true) (sym is) (parted.before b last.0 last.1),
     λ o boundary upto. subst (λ (s : Spot). spot_le (show r o bias) s ≡ true) (sym is) (show-rises r lawful.marked o b bias (most o boundary upto) (boundary-within r.text b last.1)),
   ) where
     most : (o : ℕ) → is_boundary r.text o ≡ true → spot_le (show r o bias) d ≡ true → o ≤ b
@@ -132,18 +158,31 @@ module _ (r : Record) (lawful : IsLawful r) (bias : Bias) (d : Spot) where
       go : (b < o) ⊎ (o ≤ b) → (o < n) ⊎ (n ≤ o) → o ≤ b
       go (inr le) k = le
       go (inl past) (inl lt) = absurd (false≢true (sym (last.2 o past lt) ∙ boundary))
-      go (inl past) (inr ge) = absurd (false≢true (sym (parted.behind o ge (boundary-within r.text o boundary)) ∙ upto))
+      go (inl past) (inr ge) = absurd (false≢true (sym (parted.behind o ge boundary) ∙ upto))
 
   -- of the others the first boundary is shown first
   pub least-by : (n b : ℕ) (g : Spot) → IsPartedAt r bias Left d n → IsFirstBoundary r.text n (Some b) → g ≡ show r b bias → IsLeastBy r bias d (Some g)
   least-by n b g parted first is = (
     (b, first.1, sym is),
-    subst (λ (s : Spot). spot_le d s ≡ true) (sym is) (not-false (spot_le d (show r b bias)) (parted.behind b first.0 (boundary-within r.text b first.1))),
+    subst (λ (s : Spot). spot_le d s ≡ true) (sym is) (not-false (spot_le d (show r b bias)) (parted.behind b first.0 first.1)),
     λ o boundary from. subst (λ (s : Spot). spot_le s (show r o bias) ≡ true) (sym is) (show-rises r lawful.marked b o bias (least o boundary from) (boundary-within r.text o boundary)),
   ) where
     least : (o : ℕ) → is_boundary r.text o ≡ true → spot_le d (show r o bias) ≡ true → b ≤ o
     least o boundary from = go (cases_lt o b) (cases_lt o n) where
       go : (o < b) ⊎ (b ≤ o) → (o < n) ⊎ (n ≤ o) → b ≤ o
       go (inr le) k = le
-      go (inl before) (inl lt) = absurd (false≢true (sym (not-true (spot_le d (show r o bias)) (parted.before o lt (boundary-within r.text o boundary))) ∙ from))
+      go (inl before) (inl lt) = absurd (false≢true (sym (not-true (spot_le d (show r o bias)) (parted.before o lt boundary)) ∙ from))
       go (inl before) (inr ge) = absurd (false≢true (sym (first.2 o ge before) ∙ boundary))
+
+  -- and where there is none, none is shown there
+  pub no-greatest : (n : ℕ) → IsPartedAt r bias Right d n → IsLastBoundary r.text n None → IsGreatestBy r bias d None
+  no-greatest n parted none o at = elim (cases_lt o n) [
+    | inl lt ↦ absurd (false≢true (sym (none o lt) ∙ at))
+    | inr ge ↦ parted.behind o ge at
+  ]
+
+  pub no-least : (n : ℕ) → IsPartedAt r bias Left d n → IsFirstBoundary r.text n None → IsLeastBy r bias d None
+  no-least n parted none o at = elim (cases_lt o n) [
+    | inl lt ↦ not-true (spot_le d (show r o bias)) (parted.before o lt at)
+    | inr ge ↦ absurd (false≢true (sym (none o ge) ∙ at))
+  ]

@@ -8,12 +8,11 @@ use Rattle.cell_units.specs.Record as records
 use Rattle.cell_units.specs.Inlaid.{Token, Byte, InlayByte, Hidden}
 use Rattle.cell_units.specs.Folded.{covered, folded, inside}
 use Rattle.cell_units.specs.Layers.{Source}
-use Rattle.cell_units.specs.declared.limits.TheConstants.{ENTRY_LIMIT, INLAY_LIMIT}
+use Rattle.cell_units.specs.declared.limits.TheConstants.{ENTRY_LIMIT, INLAY_LIMIT, LAID_LIMIT}
 use Rattle.plain_rows.specs.declared.folded_lines.Joined.{Joined}
 use Rattle.plain_rows.specs.declared.folded_lines.Part.{Part}
 use Rattle.plain_rows.specs.declared.folded_lines.Part.TheVariants.{Buffer, Inlay, Placeholder, Feed, InlayFeed}
 use Rattle.plain_rows.specs.declared.folded_lines.PlainSource.{PlainSource}
-use Rattle.plain_rows.specs.declared.limits.TheConstants.{LAID_LIMIT}
 use Rattle.plain_rows.specs.Plain.{listed_source}
 
 -- ---- what is laid out

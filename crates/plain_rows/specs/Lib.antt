@@ -1,5 +1,7 @@
 pub mod Rows
+pub mod ShownRows
 pub mod Spots
+pub mod SpotRows
 pub mod Worked
 pub mod Laws
 pub mod Plain

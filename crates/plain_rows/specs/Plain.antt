@@ -28,6 +28,20 @@ listed_source text inlays folds =
 abbrev pub marks_of : List ℕ → List Mark
 marks_of widths = map (λ n. record { stamp = n.0; width = n.1 }) (enumerate_from 0 widths)
 
+-- a source with blocks, of which each line has a width
+abbrev pub listed_record : Source → List PlainBlock → ℕ → ℕ → List ℕ → Record
+listed_record source blocks tab width widths =
+    record {
+      text = source.text;
+      inlays = source.inlays;
+      folds = source.folds;
+      blocks = map block_of blocks;
+      tab = tab;
+      width = width;
+      marks = marks_of widths;
+      next_stamp = length widths;
+    }
+
 abbrev pub record_of : Plain → Record
 record_of p =
     record {

@@ -7,3 +7,4 @@ pub mod BuiltRows
 pub mod SpotRows
 pub mod SpotSearch
 pub mod SpotOffsets
+pub mod LaidRows

@@ -5,14 +5,14 @@ ghost use Rattle.cell_units.specs.Inlaid.{placeholder};
 ghost use Rattle.cell_units.specs.Folded.{line_of, place_in_line};
 ghost use Rattle.cell_units.specs.Lawful.{IsWellFormed};
 ghost use Rattle.cell_units.specs.Layers.{Source, shown_lines};
-ghost use Rattle.plain_rows.specs.FoldedLines.{AreLinesOf, IsLawfulSource, Lies, is_end, seen};
+ghost use Rattle.plain_rows.specs.FoldedLines.{AreLinesOf, IsLawfulSource, Lies, inlay_at, is_end, seen};
 ghost use Rattle.plain_rows.specs.inside.PartPieces.{IsLaidOut, ends_from, line_from, piece_in};
 ghost use Rattle.plain_rows.specs.inside.Passed.{IsAround, IsSamePlace, part_bytes, part_passed, passed_bytes};
 
 use crate::joining::joined_folds;
 use crate::laying::lay_out;
-use crate::limits::LAID_LIMIT;
 use crate::plain::{PlainFold, PlainInlay};
+use cell_units::limits::LAID_LIMIT;
 use cell_units::{Bias, NoMemory, Piece, PieceKind, Text};
 use std::alloc::Global;
 use std::marker::Model;
@@ -157,12 +157,15 @@ fn piece(alloc: Global, source: &PlainSource, part: &Part) -> Result<Piece, NoMe
             start,
             end,
         } => {
-            let text = source.inlays[*number as usize].text.as_str();
-            inlay_piece(alloc, &text[*start as usize..*end as usize], *offset)
+            let inlay = &source.inlays[*number as usize];
+            let text = &inlay.text.as_str()[*start as usize..*end as usize];
+            inlay_piece(alloc, inlay.id, text, *offset)
         }
         Part::Placeholder { start, end } => placeholder_piece(alloc, *start, *end),
         Part::Feed { offset } => buffer_piece(alloc, "", *offset, *offset),
-        Part::InlayFeed { offset, .. } => inlay_piece(alloc, "", *offset),
+        Part::InlayFeed { number, offset } => {
+            inlay_piece(alloc, inlay_id(source, *number), "", *offset)
+        }
     }
 }
 
@@ -179,13 +182,25 @@ fn buffer_piece(alloc: Global, text: &str, start: u32, end: u32) -> Result<Piece
     })
 }
 
-/// A part of an inlay at the offset as a piece.
-fn inlay_piece(alloc: Global, text: &str, offset: u32) -> Result<Piece, NoMemory>
+/// The id of the inlay of this number; 0 past the last.
+fn inlay_id(source: &PlainSource, number: u32) -> u32
+    ensures { result ≡ (inlay_at (seen source.now) number).id }
+{
+    let number = number as usize;
+    if number < source.inlays.len() {
+        source.inlays[number].id
+    } else {
+        0
+    }
+}
+
+/// A part of the inlay of this id, which stands at the offset, as a piece.
+fn inlay_piece(alloc: Global, id: u32, text: &str, offset: u32) -> Result<Piece, NoMemory>
     ensures { IfOk result (λ piece.
-        piece ≡ record { kind = PieceKind.Inlay; text = text.now; start = offset; end = offset }) }
+        piece ≡ record { kind = PieceKind.Inlay id; text = text.now; start = offset; end = offset }) }
 {
     Ok(Piece {
-        kind: PieceKind::Inlay,
+        kind: PieceKind::Inlay(id),
         text: Text::from_str(alloc, text)?,
         start: offset,
         end: offset,
@@ -240,11 +255,20 @@ fn line_pieces(alloc: Global, source: &PlainSource, parts: &[Part]) -> Result<Ve
 }
 
 /// The display lines of a text with inlays and folds. Each is a run of parts, which are ranges: no byte is copied.
-#[derive(Drop)]
 pub struct FoldedLines {
     parts: Vec<Part>,
     ends: Vec<LineEnd>,
     joined: Vec<Joined>,
+}
+
+impl Drop for FoldedLines {
+    fn drop(self) {
+        let FoldedLines {
+            parts: _,
+            ends: _,
+            joined: _,
+        } = self;
+    }
 }
 
 impl Model for FoldedLines {

@@ -7,9 +7,9 @@ ghost use Rattle.plain_rows.specs.Rows.{block_rows, blocks_at, head_and_more, is
 ghost use Rattle.plain_rows.specs.inside.BuiltRows.{AreBefore, AreStanding, is_upto, shown_limit};
 
 use crate::folded_lines::FoldedLines;
-use crate::limits::LAID_LIMIT;
 use crate::plain::{Plain, PlainBlock};
 use cell_line::{cuts_of_pieces, line_laws, row_texts_of_pieces};
+use cell_units::limits::LAID_LIMIT;
 use cell_units::{NoMemory, Piece, Side, Text};
 use std::alloc::Global;
 

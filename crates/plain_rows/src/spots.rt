@@ -4,22 +4,27 @@ ghost use Rattle.cell_units.specs.Text.{IsBoundary};
 ghost use Rattle.cell_units.specs.Lawful.{IsLawful};
 ghost use Rattle.plain_rows.specs.Plain.{record_of};
 ghost use Rattle.plain_rows.specs.Spots.{back, clip, show};
-ghost use Rattle.plain_rows.specs.inside.SpotRows.{AreRowsOf, IsLaid};
+ghost use Rattle.plain_rows.specs.inside.SpotRows.{IsLaid};
 
 use crate::folded_lines::FoldedLines;
-use crate::limits::LAID_LIMIT;
 use crate::plain::Plain;
-use cell_units::{Bias, NoMemory, Spot};
+use cell_units::limits::LAID_LIMIT;
+use cell_units::{Bias, NoMemory, Spot, Steps};
 use std::alloc::Global;
 
 pub mod laid_rows;
-mod offsets;
+pub mod offsets;
 pub mod row_counts;
-mod row_line;
-mod searching;
+pub mod row_line;
+pub mod searching;
+pub mod showing;
+pub mod spot_rows;
 
 use laid_rows::LaidRows;
+use offsets::back_in;
 use row_counts::first_rows;
+use searching::clip_in;
+use showing::show_in;
 
 /// What is laid out of a record to look offsets and spots up.
 #[derive(Drop)]
@@ -43,12 +48,14 @@ impl Laid {
     /// The rows of the record that was laid out.
     fn rows<'a>(&'a self, plain: &'a Plain) -> LaidRows<'a>
         requires { IsLaid (record_of plain.now) self.now.lines self.now.first_rows.items }
-        ensures { AreRowsOf (record_of plain.now) result }
+        ensures { result ≡ record_of plain.now }
     {
         LaidRows {
             source: plain.source(),
-            lines: &self.lines,
+            blocks: plain.blocks.as_slice(),
             tab: plain.tab,
+            width: plain.width,
+            lines: &self.lines,
             widths: plain.marks.as_slice(),
             first_rows: self.first_rows.as_slice(),
         }
@@ -64,7 +71,7 @@ pub fn show(alloc: Global, plain: &Plain, offset: u32, bias: Bias) -> Result<Spo
 {
     let laid = lay_out(alloc, plain)?;
     let rows = laid.rows(plain);
-    rows.show(alloc, offset, bias)
+    show_in(alloc, &rows, offset, bias, &mut Steps::new())
 }
 
 /// The nearest spot at which some offset is shown.
@@ -75,7 +82,7 @@ pub fn clip(alloc: Global, plain: &Plain, spot: Spot, bias: Bias) -> Result<Spot
 {
     let laid = lay_out(alloc, plain)?;
     let rows = laid.rows(plain);
-    rows.clip(alloc, spot, bias)
+    clip_in(alloc, &rows, spot, bias, &mut Steps::new())
 }
 
 /// The least offset (Left) or the greatest (Right) that is shown at the nearest such spot.
@@ -86,5 +93,5 @@ pub fn back(alloc: Global, plain: &Plain, spot: Spot, bias: Bias) -> Result<u32,
 {
     let laid = lay_out(alloc, plain)?;
     let rows = laid.rows(plain);
-    rows.back(alloc, spot, bias)
+    back_in(alloc, &rows, spot, bias, &mut Steps::new())
 }

@@ -21,12 +21,13 @@ abbrev pub piece_in : Source → Part → Piece
 piece_in source (Buffer start end) =
     record { kind = kinds.Buffer; text = slice_range source.text start end; start = start; end = end }
 piece_in source (Inlay number offset start end) =
-    let text = slice_range (inlay_at source number).text start end in
-    record { kind = kinds.Inlay; text = text; start = offset; end = offset }
+    let inlay = inlay_at source number in
+    record { kind = kinds.Inlay inlay.id; text = slice_range inlay.text start end; start = offset; end = offset }
 piece_in source (Placeholder start end) =
     record { kind = kinds.Placeholder; text = placeholder; start = start; end = end }
 piece_in source (Feed offset) = record { kind = kinds.Buffer; text = []; start = offset; end = offset }
-piece_in source (InlayFeed number offset) = record { kind = kinds.Inlay; text = []; start = offset; end = offset }
+piece_in source (InlayFeed number offset) =
+    record { kind = kinds.Inlay (inlay_at source number).id; text = []; start = offset; end = offset }
 
 -- the ends of the lines of parts of which n stand before the first
 abbrev pub ends_from : ℕ → List Part → List LineEnd

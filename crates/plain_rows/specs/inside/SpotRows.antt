@@ -1,11 +1,10 @@
--- Rows counted line by line, and the display lines in which offsets and spots are looked up.
-use Rattle.std.specs.Prelude.{ℕ, ◌≡◌, ◌≤◌, ◌<◌, List, length, map, slice_index_or}
+-- Rows counted line by line, and a record laid out in display lines.
+use Rattle.std.specs.Prelude.{ℕ, ◌≡◌, ◌≤◌, ◌<◌, List, length, slice_index_or}
 use Rattle.cell_units.specs.declared.place.Side.{Side}
 use Rattle.cell_units.specs.Lawful.{IsLawful, source_of}
 use Rattle.cell_units.specs.Record.{Record}
-use Rattle.plain_rows.specs.declared.limits.TheConstants.{LAID_LIMIT}
-use Rattle.plain_rows.specs.declared.spots.laid_rows.LaidRows.{LaidRows}
-use Rattle.plain_rows.specs.FoldedLines.{AreLinesOf, LaidOut, seen}
+use Rattle.cell_units.specs.declared.limits.TheConstants.{LAID_LIMIT}
+use Rattle.plain_rows.specs.FoldedLines.{AreLinesOf, LaidOut}
 use Rattle.plain_rows.specs.Rows.{blocks_at}
 use Rattle.plain_rows.specs.Spots.{rows_before}
 
@@ -29,17 +28,3 @@ pub record IsLaid (r : Record) (lines : LaidOut) (first_rows : List ℕ) : Type 
   pub size : length r.text ≤ LAID_LIMIT
   pub lines_are : AreLinesOf (source_of r) lines
   pub rows_are : HasFirstRows r first_rows
-
--- the display lines are those of a lawful record, with their widths and the rows before them
-pub record AreRowsOf (r : Record) (rows : LaidRows) : Type 0 where
-  pub lawful : IsLawful r
-  pub size : length r.text ≤ LAID_LIMIT
-  pub source : seen rows.source ≡ source_of r
-  pub lines : AreLinesOf (source_of r) rows.lines.now
-  pub tab : rows.tab ≡ r.tab
-  pub widths : rows.widths.now ≡ map (λ m. m.width) r.marks
-  pub first_rows : HasFirstRows r rows.first_rows.now
-
--- there is such a record
-abbrev pub AreSomeRows : LaidRows → Type 0
-AreSomeRows rows = (r : Record) × AreRowsOf r rows

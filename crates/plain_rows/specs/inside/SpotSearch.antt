@@ -5,6 +5,8 @@ use Rattle.std.specs.Option.{option_or}
 use Rattle.cell_units.specs.declared.place.Bias.{Bias}
 use Rattle.cell_units.specs.declared.place.Bias.TheVariants.{Left, Right}
 use Rattle.cell_units.specs.declared.place.Spot.{Spot}
+use Rattle.cell_units.specs.declared.limits.TheConstants.{LAID_LIMIT}
+use Rattle.cell_units.specs.Lawful.{IsLawful}
 use Rattle.cell_units.specs.Record.{Record}
 use Rattle.cell_units.specs.Text.{is_boundary}
 use Rattle.plain_rows.specs.declared.spots.searching.Aim.{Aim}
@@ -15,18 +17,20 @@ abbrev pub stands_before : Bias → Spot → Spot → Bool
 stands_before Left s d = not (spot_le d s)
 stands_before Right s d = spot_le s d
 
--- the line is the last whose text rows begin at or before the spot's row, or the first
+-- the record is lawful, and the line is the last whose text rows begin at or before the spot's row, or the first
 pub record IsAim (r : Record) (aim : Aim) : Type 0 where
+  pub lawful : IsLawful r
+  pub short : length r.text ≤ LAID_LIMIT
   pub within : aim.number < length r.marks
   pub elements : aim.line.elements.items ≡ elements_at r aim.number
   pub width : aim.line.width ≡ (mark_at r aim.number).width
   pub begins : 0 < aim.number → rows_before r aim.number ≤ aim.spot.row
   pub ends : (line : ℕ) → aim.number < line → line < length r.marks → aim.spot.row < rows_before r line
 
--- the offsets below n, and no others, are shown on that side of the spot
+-- the boundaries below n, and no others, are shown on that side of the spot
 pub record IsPartedAt (r : Record) (bias side : Bias) (d : Spot) (n : ℕ) : Type 0 where
-  pub before : (o : ℕ) → o < n → o ≤ length r.text → stands_before side (show r o bias) d ≡ true
-  pub behind : (o : ℕ) → n ≤ o → o ≤ length r.text → stands_before side (show r o bias) d ≡ false
+  pub before : (o : ℕ) → o < n → is_boundary r.text o ≡ true → stands_before side (show r o bias) d ≡ true
+  pub behind : (o : ℕ) → n ≤ o → is_boundary r.text o ≡ true → stands_before side (show r o bias) d ≡ false
 
 abbrev pub IsLastBoundary : List ℕ → ℕ → Option ℕ → Type 0
 IsLastBoundary text n None = (o : ℕ) → o < n → is_boundary text o ≡ false

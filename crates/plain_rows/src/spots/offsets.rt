@@ -1,73 +1,73 @@
 //! The offsets that are shown at a spot.
-ghost use Rattle.std.specs.Prelude.{◌≡◌, ◌≤◌, false, ◌&&◌, length, IfOk};
+ghost use Rattle.std.specs.Prelude.{◌≡◌, ◌≤◌, false, IfOk};
 ghost use Rattle.cell_units.specs.Folded.{inside, line_of};
-ghost use Rattle.cell_units.specs.Record.{Record};
-ghost use Rattle.cell_units.specs.Text.{is_boundary};
+ghost use Rattle.cell_units.specs.Text.{IsBoundary};
 ghost use Rattle.cell_units.specs.declared.place.Spot.{Spot};
 ghost use Rattle.plain_rows.specs.Spots.{back, clip, is_open};
-ghost use Rattle.plain_rows.specs.inside.SpotRows.{AreRowsOf, AreSomeRows};
 ghost use Rattle.plain_rows.specs.inside.SpotSearch.{IsAim};
 ghost use Rattle.plain_rows.specs.inside.SpotOffsets.{IsFirstOffset, IsLastOffset, greater, lesser};
 
-use super::laid_rows::LaidRows;
-use super::searching::{Aim, is_boundary};
-use cell_units::{Bias, NoMemory, Spot};
+use super::searching::{Aim, aim_at, clip_in, count_before};
+use super::spot_rows::SpotRows;
+use cell_units::{Bias, NoMemory, Spot, Steps};
 use std::alloc::Global;
 
-impl LaidRows<'_> {
-    /// Whether an offset on the aim's line, which is not strictly inside a joined fold, is a boundary with an open position.
-    fn is_open(&self, aim: &Aim, offset: u32, bias: Bias) -> bool
-        requires rows { (r : Record) × AreRowsOf r self.now × IsAim r aim.now }
-        requires within { offset ≤ length self.now.source.text.now }
-        ensures { (r : Record) → AreRowsOf r self.now → IsAim r aim.now →
-            aim.now.number ≡ line_of r.text r.inlays r.folds offset bias →
-            inside r.folds offset ≡ false →
-            result ≡ is_boundary r.text offset && is_open r offset bias }
-    {
-        is_boundary(self.source.text, offset)
-            && !aim.line.is_within(self.lines.place_in_line(offset, bias))
-    }
+/// Whether a boundary on the aim's line, which is not strictly inside a joined fold, has an open position.
+fn is_open<R: SpotRows>(rows: &R, aim: &Aim, offset: u32, bias: Bias, steps: &mut Steps) -> bool
+    requires aim { IsAim (R.kept rows.now) aim.now }
+    requires boundary { IsBoundary (R.kept rows.now).text offset }
+    ensures value { let r = R.kept rows.now in
+        aim.now.number ≡ line_of r.text r.inlays r.folds offset bias → inside r.folds offset ≡ false →
+        result ≡ is_open r offset bias }
+    ensures counted { steps.old ≤ steps.new }
+{
+    let place = rows.place(offset, bias, steps);
+    !aim.line.is_within(place.1)
+}
 
-    /// The least offset with an open position of that bias that is shown at the aim.
-    fn first_offset(&self, aim: &Aim, bias: Bias) -> Option<u32>
-        requires rows { (r : Record) × AreRowsOf r self.now × IsAim r aim.now }
-        ensures { (r : Record) → AreRowsOf r self.now → IsAim r aim.now →
-            IsFirstOffset r bias aim.now.spot result }
-    {
-        let mut offset = self.count_before(aim, bias, Bias::Left);
-        let end = self.count_before(aim, bias, Bias::Right);
-        while offset < end {
-            if let Some(fold) = self.lines.fold_around(offset) {
-                offset = fold.end;
-            } else if self.is_open(aim, offset, bias) {
-                return Some(offset);
-            } else {
-                offset += 1;
-            }
+/// The least offset with an open position of that bias that is shown at the aim.
+fn first_offset<R: SpotRows>(rows: &R, aim: &Aim, bias: Bias, steps: &mut Steps) -> Option<u32>
+    requires { IsAim (R.kept rows.now) aim.now }
+    ensures first { IsFirstOffset (R.kept rows.now) bias aim.now.spot result }
+    ensures counted { steps.old ≤ steps.new }
+{
+    let mut offset = count_before(rows, aim, bias, Bias::Left, steps);
+    let end = count_before(rows, aim, bias, Bias::Right, steps);
+    while offset < end {
+        if !rows.is_boundary(offset, steps) {
+            offset += 1;
+        } else if let Some(fold) = rows.fold_around(offset, steps) {
+            offset = fold.end;
+        } else if is_open(rows, aim, offset, bias, steps) {
+            return Some(offset);
+        } else {
+            offset += 1;
         }
-        None
     }
+    None
+}
 
-    /// The greatest offset with an open position of that bias that is shown at the aim.
-    fn last_offset(&self, aim: &Aim, bias: Bias) -> Option<u32>
-        requires rows { (r : Record) × AreRowsOf r self.now × IsAim r aim.now }
-        ensures { (r : Record) → AreRowsOf r self.now → IsAim r aim.now →
-            IsLastOffset r bias aim.now.spot result }
-    {
-        let start = self.count_before(aim, bias, Bias::Left);
-        let mut end = self.count_before(aim, bias, Bias::Right);
-        while start < end {
-            let offset = end - 1;
-            if let Some(fold) = self.lines.fold_around(offset) {
-                end = fold.start + 1;
-            } else if self.is_open(aim, offset, bias) {
-                return Some(offset);
-            } else {
-                end = offset;
-            }
+/// The greatest offset with an open position of that bias that is shown at the aim.
+fn last_offset<R: SpotRows>(rows: &R, aim: &Aim, bias: Bias, steps: &mut Steps) -> Option<u32>
+    requires { IsAim (R.kept rows.now) aim.now }
+    ensures last { IsLastOffset (R.kept rows.now) bias aim.now.spot result }
+    ensures counted { steps.old ≤ steps.new }
+{
+    let start = count_before(rows, aim, bias, Bias::Left, steps);
+    let mut end = count_before(rows, aim, bias, Bias::Right, steps);
+    while start < end {
+        let offset = end - 1;
+        if !rows.is_boundary(offset, steps) {
+            end = offset;
+        } else if let Some(fold) = rows.fold_around(offset, steps) {
+            end = fold.start + 1;
+        } else if is_open(rows, aim, offset, bias, steps) {
+            return Some(offset);
+        } else {
+            end = offset;
         }
-        None
     }
+    None
 }
 
 /// The lesser of two offsets that were found, if any.
@@ -92,34 +92,39 @@ fn greater(one: Option<u32>, other: Option<u32>) -> Option<u32>
     }
 }
 
-impl LaidRows<'_> {
-    /// The least offset (Left) or the greatest (Right) with an open position that is shown at the aim.
-    fn offset_at(&self, aim: &Aim, bias: Bias) -> u32
-        requires rows { (r : Record) × AreRowsOf r self.now × IsAim r aim.now }
-        ensures { (r : Record) → AreRowsOf r self.now → IsAim r aim.now →
-            (d : Spot) → aim.now.spot ≡ clip r d bias → result ≡ back r d bias }
-    {
-        match bias {
-            Bias::Left => {
-                let left = self.first_offset(aim, Bias::Left);
-                let right = self.first_offset(aim, Bias::Right);
-                lesser(left, right).unwrap_or(0)
-            }
-            Bias::Right => {
-                let left = self.last_offset(aim, Bias::Left);
-                let right = self.last_offset(aim, Bias::Right);
-                greater(left, right).unwrap_or(0)
-            }
+/// The least offset (Left) or the greatest (Right) with an open position that is shown at the aim.
+fn offset_at<R: SpotRows>(rows: &R, aim: &Aim, bias: Bias, steps: &mut Steps) -> u32
+    requires { IsAim (R.kept rows.now) aim.now }
+    ensures offset { (d : Spot) → aim.now.spot ≡ clip (R.kept rows.now) d bias →
+        result ≡ back (R.kept rows.now) d bias }
+    ensures counted { steps.old ≤ steps.new }
+{
+    match bias {
+        Bias::Left => {
+            let left = first_offset(rows, aim, Bias::Left, steps);
+            let right = first_offset(rows, aim, Bias::Right, steps);
+            lesser(left, right).unwrap_or(0)
+        }
+        Bias::Right => {
+            let left = last_offset(rows, aim, Bias::Left, steps);
+            let right = last_offset(rows, aim, Bias::Right, steps);
+            greater(left, right).unwrap_or(0)
         }
     }
+}
 
-    /// The least offset (Left) or the greatest (Right) that is shown at the nearest spot at which some is.
-    pub fn back(&self, alloc: Global, spot: Spot, bias: Bias) -> Result<u32, NoMemory>
-        requires rows { AreSomeRows self.now }
-        ensures { IfOk result (λ offset. (r : Record) → AreRowsOf r self.now → offset ≡ back r spot bias) }
-    {
-        let nearest = self.clip(alloc, spot, bias)?;
-        let aim = self.aim(alloc, nearest)?;
-        Ok(self.offset_at(&aim, bias))
-    }
+/// The least offset (Left) or the greatest (Right) that is shown at the nearest spot at which some is.
+pub fn back_in<R: SpotRows>(
+    alloc: Global,
+    rows: &R,
+    spot: Spot,
+    bias: Bias,
+    steps: &mut Steps,
+) -> Result<u32, NoMemory>
+    ensures offset { IfOk result (λ offset. offset ≡ back (R.kept rows.now) spot bias) }
+    ensures counted { steps.old ≤ steps.new }
+{
+    let nearest = clip_in(alloc, rows, spot, bias, steps)?;
+    let aim = aim_at(alloc, rows, nearest, steps)?;
+    Ok(offset_at(rows, &aim, bias, steps))
 }

@@ -7,9 +7,9 @@ ghost use Rattle.plain_rows.specs.Rows.{is_on, line_of_block, line_rows};
 ghost use Rattle.plain_rows.specs.inside.SpotRows.{HasFirstRows, HasBlockRows};
 
 use crate::folded_lines::{FoldedLines, PlainSource};
-use crate::limits::LAID_LIMIT;
 use crate::plain::{Plain, PlainBlock};
 use cell_line::cuts_of_pieces;
+use cell_units::limits::LAID_LIMIT;
 use cell_units::{NoMemory, Side};
 use std::alloc::Global;
 

@@ -64,11 +64,11 @@ fn cells_between(elements: &[Element], start: usize, end: usize) -> u32
         .sum()
 }
 
-/// The elements of a display line, with where they are cut at the line's width.
+/// The elements of a display line, and the width at which it stands, with where they are cut at that width.
 #[derive(Drop)]
-pub(crate) struct RowLine {
-    elements: Vec<Element>,
-    width: u32,
+pub struct RowLine {
+    pub elements: Vec<Element>,
+    pub width: u32,
     cuts: Cuts,
     indent: u32,
     ghost cut: { cuts.items ≡ cuts_of elements.items width },
@@ -79,16 +79,13 @@ pub(crate) struct RowLine {
 }
 
 impl RowLine {
-    /// Cuts the line.
-    pub(crate) fn new(
-        alloc: Global,
-        elements: Vec<Element>,
-        width: u32,
-    ) -> Result<RowLine, NoMemory>
+    /// The line of these elements, cut at the width.
+    pub fn new(alloc: Global, elements: Vec<Element>, width: u32) -> Result<RowLine, NoMemory>
         requires few { total_cells elements.items ≤ cells_limit }
         requires count { length elements.items < 2 ^ 32 }
         requires width { IsWidth width }
-        ensures { IfOk result (λ line. (line.elements.items ≡ elements.items) × (line.width ≡ width)) }
+        ensures elements { IfOk result (λ line. line.elements.items ≡ elements.items) }
+        ensures width { IfOk result (λ line. line.width ≡ width) }
     {
         let cuts = cuts(alloc, elements.as_slice(), width)?;
         let indent = indent(elements.as_slice(), width);

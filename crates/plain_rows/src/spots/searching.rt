@@ -1,21 +1,18 @@
 //! Searches among all positions for those that are shown beside a spot.
-ghost use Rattle.std.specs.Prelude.{◌≡◌, ◌≤◌, ◌<◌, ◌+◌, ℕ, length, slice_index, IfOk};
-ghost use Rattle.std.specs.List.Sorted.{IsNonDecreasingBy};
-ghost use Rattle.cell_units.specs.Record.{Record};
-ghost use Rattle.cell_units.specs.Text.{is_boundary};
+ghost use Rattle.std.specs.Prelude.{◌≡◌, ◌≤◌, ◌+◌, Some, length, IfOk};
+ghost use Rattle.cell_units.specs.Text.{IsBoundary};
 ghost use Rattle.plain_rows.specs.Spots.{clip, show, spot_le};
-ghost use Rattle.plain_rows.specs.inside.SpotRows.{AreRowsOf, AreSomeRows};
 ghost use Rattle.plain_rows.specs.inside.SpotSearch.{IsAim, IsFirstBoundary, IsGreatestBy, IsLastBoundary, IsLeastBy, IsPartedAt, earlier, later, nearest_left, nearest_right, stands_before};
 
-use super::laid_rows::LaidRows;
 use super::row_line::RowLine;
-use crate::limits::LAID_LIMIT;
-use cell_units::{Bias, NoMemory, Spot};
+use super::showing::show_in;
+use super::spot_rows::SpotRows;
+use cell_units::{Bias, NoMemory, Spot, Steps};
 use std::alloc::Global;
 
 /// A spot that is looked for, with the display line among whose rows it is, or the first line where it is before all.
 #[derive(Drop)]
-pub(crate) struct Aim {
+pub(super) struct Aim {
     spot: Spot,
     number: u32,
     pub(super) line: RowLine,
@@ -38,37 +35,45 @@ fn stands_before(spot: Spot, other: Spot, side: Bias) -> bool
     }
 }
 
-/// Whether the offset is a boundary of the text.
-pub(super) fn is_boundary(text: &str, offset: u32) -> bool
-    ensures { result ≡ is_boundary text.now offset }
+/// The last boundary of the text at or before the offset: mostly the offset itself, and at most three bytes before it.
+fn boundary_upto<R: SpotRows>(rows: &R, offset: u32, steps: &mut Steps) -> u32
+    requires { offset ≤ length (R.kept rows.now).text }
+    ensures last { IsLastBoundary (R.kept rows.now).text (offset + 1) (Some result) }
+    ensures counted { steps.old ≤ steps.new }
 {
-    text.is_char_boundary(offset as usize)
+    // The record is lawful, so its text is UTF-8 and its first offset a boundary.
+    let _ = rows.text_len();
+    let mut offset = offset;
+    while offset > 0 {
+        if rows.is_boundary(offset, steps) {
+            return offset;
+        }
+        offset -= 1;
+    }
+    0
 }
 
 /// The last boundary of the text before the offset.
-fn boundary_before(text: &str, offset: u32) -> Option<u32>
-    requires { offset ≤ length text.now + 1 }
-    ensures { IsLastBoundary text.now offset result }
+fn boundary_before<R: SpotRows>(rows: &R, offset: u32, steps: &mut Steps) -> Option<u32>
+    requires { offset ≤ length (R.kept rows.now).text + 1 }
+    ensures last { IsLastBoundary (R.kept rows.now).text offset result }
+    ensures counted { steps.old ≤ steps.new }
 {
-    let mut offset = offset;
-    while offset > 0 {
-        offset -= 1;
-        if is_boundary(text, offset) {
-            return Some(offset);
-        }
+    if offset == 0 {
+        return None;
     }
-    None
+    Some(boundary_upto(rows, offset - 1, steps))
 }
 
-/// The first boundary of the text at or behind the offset.
-fn boundary_from(text: &str, offset: u32) -> Option<u32>
-    requires size { length text.now ≤ LAID_LIMIT }
-    requires within { offset ≤ length text.now + 1 }
-    ensures { IsFirstBoundary text.now offset result }
+/// The first boundary of the text at or after the offset.
+fn boundary_from<R: SpotRows>(rows: &R, offset: u32, steps: &mut Steps) -> Option<u32>
+    ensures first { IsFirstBoundary (R.kept rows.now).text offset result }
+    ensures counted { steps.old ≤ steps.new }
 {
+    let len = rows.text_len();
     let mut offset = offset;
-    while offset as usize <= text.len() {
-        if is_boundary(text, offset) {
+    while offset <= len {
+        if rows.is_boundary(offset, steps) {
             return Some(offset);
         }
         offset += 1;
@@ -76,72 +81,77 @@ fn boundary_from(text: &str, offset: u32) -> Option<u32>
     None
 }
 
-/// The last line whose rows begin at or before the row, or the first line.
-fn line_of_row(first_rows: &[u32], row: u32) -> usize
-    requires rising { IsNonDecreasingBy (λ (first : ℕ). first) first_rows.now }
-    requires some { 0 < length first_rows.now }
-    ensures within { result < length first_rows.now }
-    ensures begins { 0 < result → slice_index first_rows.now result ≤ row }
-    ensures ends { (line : ℕ) → result < line → line < length first_rows.now →
-        row < slice_index first_rows.now line }
+/// Aims at the spot: of all lines only the one among whose rows it is has its elements made.
+pub(super) fn aim_at<R: SpotRows>(
+    alloc: Global,
+    rows: &R,
+    spot: Spot,
+    steps: &mut Steps,
+) -> Result<Aim, NoMemory>
+    ensures aim { IfOk result (IsAim (R.kept rows.now)) }
+    ensures spot { IfOk result (λ aim. aim.spot ≡ spot) }
+    ensures counted { steps.old ≤ steps.new }
 {
-    let begun = first_rows.partition_point(|first| *first <= row);
-    begun.saturating_sub(1)
+    // The aim keeps that the record is lawful.
+    let _ = rows.text_len();
+    let number = rows.line_of_row(spot.row, steps);
+    let line = rows.row_line(alloc, number, steps)?;
+    Ok(Aim { spot, number, line })
 }
 
-impl LaidRows<'_> {
-    /// Aims at the spot: of all lines only the one among whose rows it is has its elements made.
-    pub(crate) fn aim(&self, alloc: Global, spot: Spot) -> Result<Aim, NoMemory>
-        requires rows { AreSomeRows self.now }
-        ensures { IfOk result (λ aim. (r : Record) → AreRowsOf r self.now →
-            IsAim r aim × (aim.spot ≡ spot)) }
-    {
-        let number = line_of_row(self.first_rows, spot.row) as u32;
-        Ok(Aim {
-            spot,
-            number,
-            line: self.row_line(alloc, number)?,
-        })
+/// Whether the boundary is shown before the spot (Left), or at or before it (Right).
+fn is_shown_before<R: SpotRows>(
+    rows: &R,
+    aim: &Aim,
+    offset: u32,
+    bias: Bias,
+    side: Bias,
+    steps: &mut Steps,
+) -> bool
+    requires aim { IsAim (R.kept rows.now) aim.now }
+    requires boundary { IsBoundary (R.kept rows.now).text offset }
+    ensures value { result ≡ stands_before side (show (R.kept rows.now) offset bias) aim.now.spot }
+    ensures counted { steps.old ≤ steps.new }
+{
+    let place = rows.place(offset, bias, steps);
+    let line = place.0;
+    if line != aim.number {
+        return line < aim.number;
     }
+    let within = aim.line.spot(place.1, bias);
+    let first = rows.first_row(line, steps);
+    let spot = Spot {
+        row: first + within.row,
+        col: within.col,
+    };
+    stands_before(spot, aim.spot, side)
+}
 
-    /// Whether the offset is shown before the spot (Left), or at or before it (Right).
-    fn is_shown_before(&self, aim: &Aim, offset: u32, bias: Bias, side: Bias) -> bool
-        requires rows { (r : Record) × AreRowsOf r self.now × IsAim r aim.now }
-        requires within { offset ≤ length self.now.source.text.now }
-        ensures { (r : Record) → AreRowsOf r self.now → IsAim r aim.now →
-            result ≡ stands_before side (show r offset bias) aim.now.spot }
-    {
-        let line = self.lines.line_of(offset, bias);
-        if line != aim.number {
-            return line < aim.number;
+/// The offset up to which boundaries are shown before the spot (Left), or at or before it (Right), by halving.
+pub(super) fn count_before<R: SpotRows>(
+    rows: &R,
+    aim: &Aim,
+    bias: Bias,
+    side: Bias,
+    steps: &mut Steps,
+) -> u32
+    requires { IsAim (R.kept rows.now) aim.now }
+    ensures within { result ≤ length (R.kept rows.now).text + 1 }
+    ensures parts { IsPartedAt (R.kept rows.now) bias side aim.now.spot result }
+    ensures counted { steps.old ≤ steps.new }
+{
+    let mut low = 0;
+    let mut high = rows.text_len() + 1;
+    while low < high {
+        let middle = low + (high - low) / 2;
+        let last = boundary_upto(rows, middle, steps);
+        if is_shown_before(rows, aim, last, bias, side, steps) {
+            low = middle + 1;
+        } else {
+            high = last;
         }
-        let within = aim.line.spot(self.lines.place_in_line(offset, bias), bias);
-        let spot = Spot {
-            row: self.first_rows[line as usize] + within.row,
-            col: within.col,
-        };
-        stands_before(spot, aim.spot, side)
     }
-
-    /// How many offsets are shown before the spot (Left), or at or before it (Right), by halving.
-    pub(crate) fn count_before(&self, aim: &Aim, bias: Bias, side: Bias) -> u32
-        requires rows { (r : Record) × AreRowsOf r self.now × IsAim r aim.now }
-        ensures within { result ≤ length self.now.source.text.now + 1 }
-        ensures parts { (r : Record) → AreRowsOf r self.now → IsAim r aim.now →
-            IsPartedAt r bias side aim.now.spot result }
-    {
-        let mut low = 0;
-        let mut high = self.source.text.len() as u32 + 1;
-        while low < high {
-            let middle = low + (high - low) / 2;
-            if self.is_shown_before(aim, middle, bias, side) {
-                low = middle + 1;
-            } else {
-                high = middle;
-            }
-        }
-        low
-    }
+    low
 }
 
 /// The later of two spots that were found, if any.
@@ -189,48 +199,64 @@ fn nearest_right(spot: Spot, before: Option<Spot>, after: Option<Spot>) -> Spot
     }
 }
 
-impl LaidRows<'_> {
-    /// The greatest spot at or before the aim at which an offset is shown with the bias.
-    fn greatest_upto(&self, alloc: Global, aim: &Aim, bias: Bias) -> Result<Option<Spot>, NoMemory>
-        requires rows { (r : Record) × AreRowsOf r self.now × IsAim r aim.now }
-        ensures { IfOk result (λ found. (r : Record) → AreRowsOf r self.now → IsAim r aim.now →
-            IsGreatestBy r bias aim.now.spot found) }
-    {
-        let count = self.count_before(aim, bias, Bias::Right);
-        match boundary_before(self.source.text, count) {
-            Some(offset) => Ok(Some(self.show(alloc, offset, bias)?)),
-            None => Ok(None),
-        }
+/// The greatest spot at or before the aim at which an offset is shown with the bias.
+fn greatest_upto<R: SpotRows>(
+    alloc: Global,
+    rows: &R,
+    aim: &Aim,
+    bias: Bias,
+    steps: &mut Steps,
+) -> Result<Option<Spot>, NoMemory>
+    requires { IsAim (R.kept rows.now) aim.now }
+    ensures spot { IfOk result (IsGreatestBy (R.kept rows.now) bias aim.now.spot) }
+    ensures counted { steps.old ≤ steps.new }
+{
+    let count = count_before(rows, aim, bias, Bias::Right, steps);
+    match boundary_before(rows, count, steps) {
+        Some(offset) => Ok(Some(show_in(alloc, rows, offset, bias, steps)?)),
+        None => Ok(None),
     }
+}
 
-    /// The least spot at or after the aim at which an offset is shown with the bias.
-    fn least_from(&self, alloc: Global, aim: &Aim, bias: Bias) -> Result<Option<Spot>, NoMemory>
-        requires rows { (r : Record) × AreRowsOf r self.now × IsAim r aim.now }
-        ensures { IfOk result (λ found. (r : Record) → AreRowsOf r self.now → IsAim r aim.now →
-            IsLeastBy r bias aim.now.spot found) }
-    {
-        let count = self.count_before(aim, bias, Bias::Left);
-        match boundary_from(self.source.text, count) {
-            Some(offset) => Ok(Some(self.show(alloc, offset, bias)?)),
-            None => Ok(None),
-        }
+/// The least spot at or after the aim at which an offset is shown with the bias.
+fn least_from<R: SpotRows>(
+    alloc: Global,
+    rows: &R,
+    aim: &Aim,
+    bias: Bias,
+    steps: &mut Steps,
+) -> Result<Option<Spot>, NoMemory>
+    requires { IsAim (R.kept rows.now) aim.now }
+    ensures spot { IfOk result (IsLeastBy (R.kept rows.now) bias aim.now.spot) }
+    ensures counted { steps.old ≤ steps.new }
+{
+    let count = count_before(rows, aim, bias, Bias::Left, steps);
+    match boundary_from(rows, count, steps) {
+        Some(offset) => Ok(Some(show_in(alloc, rows, offset, bias, steps)?)),
+        None => Ok(None),
     }
+}
 
-    /// The nearest spot at which some offset is shown.
-    pub fn clip(&self, alloc: Global, spot: Spot, bias: Bias) -> Result<Spot, NoMemory>
-        requires rows { AreSomeRows self.now }
-        ensures { IfOk result (λ nearest. (r : Record) → AreRowsOf r self.now → nearest ≡ clip r spot bias) }
-    {
-        let aim = self.aim(alloc, spot)?;
-        let left = self.greatest_upto(alloc, &aim, Bias::Left)?;
-        let right = self.greatest_upto(alloc, &aim, Bias::Right)?;
-        let before = later(left, right);
-        let left = self.least_from(alloc, &aim, Bias::Left)?;
-        let right = self.least_from(alloc, &aim, Bias::Right)?;
-        let after = earlier(left, right);
-        match bias {
-            Bias::Left => Ok(nearest_left(spot, before, after)),
-            Bias::Right => Ok(nearest_right(spot, before, after)),
-        }
+/// The nearest spot at which some offset is shown.
+pub fn clip_in<R: SpotRows>(
+    alloc: Global,
+    rows: &R,
+    spot: Spot,
+    bias: Bias,
+    steps: &mut Steps,
+) -> Result<Spot, NoMemory>
+    ensures nearest { IfOk result (λ nearest. nearest ≡ clip (R.kept rows.now) spot bias) }
+    ensures counted { steps.old ≤ steps.new }
+{
+    let aim = aim_at(alloc, rows, spot, steps)?;
+    let left = greatest_upto(alloc, rows, &aim, Bias::Left, steps)?;
+    let right = greatest_upto(alloc, rows, &aim, Bias::Right, steps)?;
+    let before = later(left, right);
+    let left = least_from(alloc, rows, &aim, Bias::Left, steps)?;
+    let right = least_from(alloc, rows, &aim, Bias::Right, steps)?;
+    let after = earlier(left, right);
+    match bias {
+        Bias::Left => Ok(nearest_left(spot, before, after)),
+        Bias::Right => Ok(nearest_right(spot, before, after)),
     }
 }

@@ -1,0 +1,13 @@
+use Rattle.std.proofs.Common.{◌≡◌, ◌≤◌, ◌<◌, ℕ, false}
+use Rattle.cell_units.specs.Text.{is_boundary}
+use Rattle.plain_rows.proofs.spots.searching.boundary_upto.Given as goal
+
+abbrev pub invariant-loop-offset : goal.invariant-loop-offset
+invariant-loop-offset g l = record {
+  order : l.offset ≤ l.fn.offset;
+  none : (o : ℕ) → l.offset < o → o ≤ l.fn.offset → is_boundary (g.R.SpotRows.kept l.rows).text o ≡ false;
+  counted : l.initial.steps ≤ l.steps;
+}
+
+abbrev pub decreases-loop-offset : goal.decreases-loop-offset
+decreases-loop-offset g l = l.offset

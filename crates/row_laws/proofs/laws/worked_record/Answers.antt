@@ -1,5 +1,0 @@
-use Rattle.row_laws.proofs.LawfulExample.{example-lawful}
-use Rattle.row_laws.proofs.laws.worked_record.Goals as goal
-
-pub returns : goal.returns
-returns c = example-lawful
