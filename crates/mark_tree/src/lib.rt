@@ -25,5 +25,6 @@ mod spaced;
 
 pub use mark::{Mark, Places, RangeMark};
 pub use mark_tree::MarkTree;
+pub use moving::moved_offset;
 pub use range_tree::RangeTree;
 pub use sum_core::Load;

@@ -20,9 +20,14 @@ use sum_core::Load;
 ///
 /// The bounds on the steps of a call are given for each h such that the number of marks is less than 2 * 6^(h + 1). The
 /// least such h is the greatest height of a tree of so many.
-#[derive(Drop)]
 pub struct MarkTree<P: Load> {
     marks: Spaced<P>,
+}
+
+impl<P: Load> Drop for MarkTree<P> {
+    fn drop(self) {
+        let MarkTree { marks: _ } = self;
+    }
 }
 
 impl<P: Load> Model for MarkTree<P> {

@@ -15,7 +15,7 @@ use std::alloc::Global;
 use sum_core::Load;
 
 /// Where an anchor goes.
-pub(crate) fn moved_offset(offset: u32, bias: Bias, shift: &Shift) -> u32
+pub fn moved_offset(offset: u32, bias: Bias, shift: &Shift) -> u32
     requires fits { move offset bias shift.now.start shift.now.end shift.now.count < 2 ^ 32 }
     ensures { result ≡ move offset bias shift.now.start shift.now.end shift.now.count }
 {

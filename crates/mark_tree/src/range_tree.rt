@@ -1,8 +1,8 @@
 //! The tree of ranges.
-ghost use Rattle.std.specs.Prelude.{◌≡◌, ℕ, ◌+◌, ◌*◌, ◌^◌, ◌<◌, ◌≤◌, [], not, false, length, map, filter, count_by, All, Contains, IfOk, IfErr, OnOk, OnErr};
+ghost use Rattle.std.specs.Prelude.{◌≡◌, ℕ, ◌+◌, ◌*◌, ◌^◌, ◌<◌, ◌≤◌, [], not, false, length, map, filter, count_by, slice_get, All, Contains, IfOk, IfErr, OnOk, OnErr};
 ghost use Rattle.std.specs.List.{list_any};
 ghost use Rattle.cell_units.specs.Sorting.{insert_by};
-ghost use Rattle.sum_tree.specs.Bounds.{Searches, TakesAtMost};
+ghost use Rattle.sum_tree.specs.Bounds.{Searches, TakesAtMost, way};
 ghost use Rattle.mark_tree.specs.Bounds.{SearchesAndTakes, changing, meeting, shrinking};
 ghost use Rattle.mark_tree.specs.Marks.{IsRefusedFor};
 ghost use Rattle.mark_tree.specs.Ranges.{IsRangeList, dropped_ids, has_in_common, has_range_id, is_range_met, lacks_range_id, move_range, moved_ranges, range_le};
@@ -20,9 +20,14 @@ use sum_core::NoLoad;
 ///
 /// The bounds on the steps of a call are given for each h such that the number of ranges is less than 2 * 6^(h + 1). The
 /// least such h is the greatest height of a tree of so many.
-#[derive(Drop)]
 pub struct RangeTree {
     ranges: Spaced<NoLoad>,
+}
+
+impl Drop for RangeTree {
+    fn drop(self) {
+        let RangeTree { ranges: _ } = self;
+    }
 }
 
 impl Model for RangeTree {
@@ -62,6 +67,22 @@ impl RangeTree {
         ensures lawful { IsRangeList self.now }
     {
         self.ranges.len()
+    }
+
+    /// The range at place `at`, counted from 0. `None` exactly where there is none.
+    pub fn get(&self, at: u32, steps: &mut Steps) -> Option<RangeMark>
+        ensures range { result ≡ slice_get self.now at }
+        ensures counted { steps.old ≤ steps.new }
+        ensures steps { TakesAtMost way (length self.now) steps.old steps.new }
+    {
+        // Each end is a u32.
+        let _count = self.ranges.len();
+        let found = self.ranges.get(at, steps)?;
+        Some(RangeMark {
+            start: found.offset,
+            end: found.offset + found.entry.length,
+            id: found.entry.id,
+        })
     }
 
     /// Whether there is a range of this id.

@@ -18,9 +18,14 @@ use sum_core::Load;
 use sum_tree::{Cursor, SumTree};
 
 /// What stands at offsets that don't fall and fit u32, as do all ends. Contracts see it as the list of these things.
-#[derive(Drop)]
 pub(crate) struct Spaced<P: Load> {
     pub(crate) entries: SumTree<Entry<P>>,
+}
+
+impl<P: Load> Drop for Spaced<P> {
+    fn drop(self) {
+        let Spaced { entries: _ } = self;
+    }
 }
 
 impl<P: Load> Model for Spaced<P> {

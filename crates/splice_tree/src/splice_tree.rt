@@ -16,9 +16,14 @@ use sum_core::{Count, Load, Summary};
 use sum_tree::SumTree;
 
 /// A list of splices.
-#[derive(Drop)]
 pub struct SpliceTree<S: Summary, P: Load> {
     splices: SumTree<Splice<S, P>>,
+}
+
+impl<S: Summary, P: Load> Drop for SpliceTree<S, P> {
+    fn drop(self) {
+        let SpliceTree { splices: _ } = self;
+    }
 }
 
 impl<S: Summary, P: Load> Model for SpliceTree<S, P> {

@@ -28,6 +28,18 @@ module _ {T S : Type 0} (empty : S) (joined : S → S → S) (summary : T → S)
         items_is = ap (λ l. items_in a.2 ++ l) (append-nil (items_in b.2)) ∙ ap (λ l. l ++ items_in b.2) ia ∙ ap (λ l. xs ++ l) ib ∙ sym e;
       })
 
+  pub packed-one : (h n least : ℕ) (a : S × ℕ × Entries T S) (all : List T) (cs : List (S × ℕ × Entries T S)) → cs ≡ a ∷ [] → IsChild empty joined summary (IsLawful empty joined summary h) n a → least ≤ n → items_in a.2 ≡ all → IsPacked empty joined summary h least all cs
+  packed-one h n least a all cs is k le ia =
+      let P : Entries T S → Type 0 = IsLawful empty joined summary h in
+      subst (IsPacked empty joined summary h least all) (sym is)
+      (record {
+        children = children-one empty joined summary P least a (child-weaker empty joined summary P least n a le k);
+        both = λ two. absurd (omega arith);
+        some = omega arith;
+        few = omega arith;
+        items_is = append-nil (items_in a.2) ∙ ia;
+      })
+
   pub parted-first : (h : ℕ) (e : Entries T S) (cs rest : List (S × ℕ × Entries T S)) (c : S × ℕ × Entries T S) → IsInner empty joined summary h e cs → cs ≡ c ∷ rest → IsParted empty joined summary h e rest c.2 (items_in c.2 ++ items_under rest)
   parted-first h e cs rest c o is =
       let P : Entries T S → Type 0 = IsLawful empty joined summary (h - 1) in

@@ -63,6 +63,12 @@ in-vain-then (Ok _) f p = tt
 in-vain-then (Err NoRoom) f p = f p
 in-vain-then (Err NoMemory) f p = tt
 
+-- what holds at all
+pub in-vain : {V P : Type 0} → (r : Result V PutError) → P → IfNoRoom r P
+in-vain (Ok _) p = tt
+in-vain (Err NoRoom) p = p
+in-vain (Err NoMemory) p = tt
+
 module _ {T S : Type 0} where
   -- Child i of these has `offset` items before it, and the place `to` lies below it or at its end.
   pub record IsPlaced (children : List (Child T S)) (i offset to : ℕ) : Type 0 where

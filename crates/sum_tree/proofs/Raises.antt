@@ -24,7 +24,7 @@ module _ {T S : Type 0} (empty : S) (joined : S → S → S) (summary : T → S)
       level (suc h) least w v two low t = omega (arith, t (omega arith))
 
   -- a tree with this root
-  rooted : (h n : ℕ) (c : S × ℕ × Entries T S) (t : Tree T S) → (t.sum, t.count, entries_of t.node) ≡ c → t.height ≡ h → IsRoot empty joined summary h c.2 → IsChild empty joined summary (IsLawful empty joined summary h) n c → IsTreeOf empty joined summary t (items_in c.2)
+  pub rooted : (h n : ℕ) (c : S × ℕ × Entries T S) (t : Tree T S) → (t.sum, t.count, entries_of t.node) ≡ c → t.height ≡ h → IsRoot empty joined summary h c.2 → IsChild empty joined summary (IsLawful empty joined summary h) n c → IsTreeOf empty joined summary t (items_in c.2)
   rooted h n c t is same r k =
       let e : entries_of t.node ≡ c.2 = ap (λ v. v.2) is in
       record {

@@ -14,13 +14,24 @@ use std::marker::Model;
 use sum_core::{Dimension, Item, Summary};
 
 /// A cursor on a tree. It keeps the nodes on the way to its item inline, and takes no memory.
-#[derive(Drop)]
 pub struct Cursor<'a, T: Item, D: Dimension<T::Sum>> {
     path: Path<'a, T>,
     place: usize,
     item: Option<&'a T>,
     start: D,
     end: D,
+}
+
+impl<'a, T: Item, D: Dimension<T::Sum>> Drop for Cursor<'a, T, D> {
+    fn drop(self) {
+        let Cursor {
+            path: _,
+            place: _,
+            item: _,
+            start: _,
+            end: _,
+        } = self;
+    }
 }
 
 impl<'a, T: Item, D: Dimension<T::Sum>> Model for Cursor<'a, T, D> {

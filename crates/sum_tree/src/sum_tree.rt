@@ -26,10 +26,15 @@ use sum_core::{Dimension, Item, Summary};
 ///
 /// The bounds on the steps of a call are given for each h such that n is less than 2 * 6^(h + 1). The least such h
 /// is the greatest height of a tree of n items.
-#[derive(Drop)]
 pub struct SumTree<T: Item> {
     alloc: Global,
     tree: Option<Tree<T>>,
+}
+
+impl<T: Item> Drop for SumTree<T> {
+    fn drop(self) {
+        let SumTree { alloc: _, tree: _ } = self;
+    }
 }
 
 impl<T: Item> Model for SumTree<T> {

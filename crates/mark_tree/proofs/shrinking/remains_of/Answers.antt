@@ -1,7 +1,7 @@
 use Rattle.std.proofs.Common.{◌<◌, ◌^◌, ◌++◌, ◌∙◌, ap, sym, subst, append_assoc}
 use Rattle.std.specs.List.{All}
 use Rattle.std.specs.Vec.Iter.{into_iter_items}
-use Rattle.std.proofs.lemmas.List.Elements.{All-tail}
+use Rattle.std.proofs.lemmas.List.Elements.{All-head, All-tail}
 use Rattle.mark_tree.specs.Entries.{end_at}
 use Rattle.mark_tree.specs.RangeViews.{IsFittingMoved, all_left_over, emptied_ids, left_over, emptied_id}
 use Rattle.mark_tree.proofs.Shrunk.{left-cons, gone-cons}
@@ -25,3 +25,13 @@ loop-range-preserved g c =
       ends = All-tail (λ p. end_at p < 2 ^ 32) c.in-Some.range rest (subst (All (λ p. end_at p < 2 ^ 32)) c.in-Some.ensures.steps.0 c.loop-range.invariant.ends);
       fits = All-tail (IsFittingMoved s) c.in-Some.range rest (subst (All (IsFittingMoved s)) c.in-Some.ensures.steps.0 c.loop-range.invariant.fits);
     }
+
+pub add-requires-clause-end : goal.add-requires-clause-end
+add-requires-clause-end g c =
+    let rest = into_iter_items c.next.new.self in
+    All-head (λ p. end_at p < 2 ^ 32) c.in-Some.range rest (subst (All (λ p. end_at p < 2 ^ 32)) c.in-Some.ensures.steps.0 c.loop-range.invariant.ends)
+
+pub add-requires-clause-fits : goal.add-requires-clause-fits
+add-requires-clause-fits g c =
+    let rest = into_iter_items c.next.new.self in
+    All-head (IsFittingMoved c.args.shift.now) c.in-Some.range rest (subst (All (IsFittingMoved c.args.shift.now)) c.in-Some.ensures.steps.0 c.loop-range.invariant.fits)

@@ -1,4 +1,4 @@
-use Rattle.std.proofs.Common.{◌≡◌, ◌+◌, ◌-◌, ◌∙◌, ap, sym, refl, get_or, arith, map, take, drop, length}
+use Rattle.std.proofs.Common.{◌≡◌, ◌+◌, ◌-◌, ◌∙◌, ap, sym, refl, get_or, arith, map, take, drop, length, le_trans}
 use Rattle.std.proofs.lemmas.Option.{slice_get_read}
 use Rattle.sum_core.specs.Nodes.{entries_of, child_value, items_of, items_in, items_under, IsLawful, contents}
 use Rattle.sum_core.proofs.Levels.{seen, items-seen, items-leaf, lawful_below, inner-high, contents-Leaf}
@@ -56,3 +56,20 @@ returns-in-Inner-clause-item g t c =
     slice_get_within_part (items_of c.args.node.now) (items_under (take i (map child_value xs))) (items_in (child_value k).2) (items_under (drop (i + 1) (map child_value xs))) c.args.at c.find_child-found.result.1 c.item_at.result.now
     (items-seen (entries_of c.args.node.now) (map child_value xs) shows ∙ items-split xs i k f.index is)
     f.offset (omega (arith, f.not_at_start)) c.item_at.ensures.item
+
+pub returns-in-Inner-clause-counted : goal.returns-in-Inner-clause-counted
+returns-in-Inner-clause-counted g t c = le_trans c.entries.ensures.counted c.item_at.ensures.counted
+
+pub returns-in-Inner-clause-steps : goal.returns-in-Inner-clause-steps
+returns-in-Inner-clause-steps g t c =
+    let m = g.T.Sum.Summary in
+    let is = seen c.entries.result.now (entries_of c.args.node.now) c.in-Inner.children c.deref.result.now c.entries.ensures.value c.in-Inner.is c.deref.ensures.value in
+    let high = inner-high m.empty m.joined g.T.Item.summary c.args.height (entries_of c.args.node.now) (map child_value c.deref.result.now) c.requires.lawful is in
+    omega (arith, high, c.entries.ensures.ticks, c.item_at.ensures.steps)
+
+pub returns-in-Inner-clause-opened : goal.returns-in-Inner-clause-opened
+returns-in-Inner-clause-opened g t c =
+    let m = g.T.Sum.Summary in
+    let is = seen c.entries.result.now (entries_of c.args.node.now) c.in-Inner.children c.deref.result.now c.entries.ensures.value c.in-Inner.is c.deref.ensures.value in
+    let high = inner-high m.empty m.joined g.T.Item.summary c.args.height (entries_of c.args.node.now) (map child_value c.deref.result.now) c.requires.lawful is in
+    omega (arith, high, c.entries.ensures.ticks, c.item_at.ensures.opened)

@@ -1,4 +1,4 @@
-use Rattle.std.proofs.Common.{◌≡◌, ◌-◌, ◌<◌, ◌≤◌, ◌∙◌, ap, sym, refl, subst, arith, map, length, is_ok}
+use Rattle.std.proofs.Common.{◌≡◌, ◌-◌, ◌<◌, ◌≤◌, ◌∙◌, ap, sym, refl, subst, arith, map, length, is_ok, le_trans, le-add_right}
 use Rattle.std.proofs.lemmas.List.{length-map}
 use Rattle.sum_core.specs.declared.node.Entries as entries
 use Rattle.sum_core.specs.declared.node.Entries.TheVariants.{Inner}
@@ -7,7 +7,7 @@ use Rattle.sum_core.proofs.Levels.{contents-Inner, items-seen, lawful_below, inn
 use Rattle.sum_core.proofs.Children.{children-at}
 use Rattle.sum_tree.specs.inside.InPlace.{IsNode, IsRefilled}
 use Rattle.sum_tree.specs.inside.Nodes.{AreChildren, items_below}
-use Rattle.sum_tree.proofs.Puts.{IsPlaced, below-child, can-below, can-same, refilled-same, refilled-below, items-two, length-splice, children-set, children-two, node-same, node-inner, same-items}
+use Rattle.sum_tree.proofs.Puts.{IsPlaced, in-vain, in-vain-then, below-child, can-below, can-same, refilled-same, refilled-below, items-two, length-splice, children-set, children-two, node-same, node-inner, same-items}
 use Rattle.sum_tree.proofs.in_place.+put.Goals as goal
 
 pub put_below-takes_two-requires-clause-leaf : goal.put_below-takes_two-requires-clause-leaf
@@ -225,3 +225,40 @@ put_in_entries-returns-in-Inner-clause-put g t c =
     rw c.in-Inner.is
     (refilled-same g.T.Item g.T.Sum.Summary (items_below old.items) (items_in (Inner old)) c.args.span c.args.items.now c.put_in_children.new.items (items_below new.items) (items_in (Inner new)) c.put_in_children.result
     (sym (items-seen (Inner old) (map child_value old.items) (contents-Inner old))) (sym (items-seen (Inner new) (map child_value new.items) (contents-Inner new))) put)
+
+pub put_in_node-returns-in-Ok-clause-counted : goal.put_in_node-returns-in-Ok-clause-counted
+put_in_node-returns-in-Ok-clause-counted g t c = le_trans c.in-Ok.ensures.counted c.put_in_entries.ensures.counted
+
+pub put_in_node-returns-in-Ok-clause-steps : goal.put_in_node-returns-in-Ok-clause-steps
+put_in_node-returns-in-Ok-clause-steps g t c = omega (arith, c.in-Ok.ensures.ticks, c.put_in_entries.ensures.steps)
+
+pub put_in_node-returns-in-Ok-clause-in_vain : goal.put_in_node-returns-in-Ok-clause-in_vain
+put_in_node-returns-in-Ok-clause-in_vain g t c =
+    in-vain-then c.put_in_entries.result (λ few. omega (arith, few, c.in-Ok.ensures.ticks)) c.put_in_entries.ensures.in_vain
+
+pub put_in_entries-returns-in-Leaf-clause-in_vain : goal.put_in_entries-returns-in-Leaf-clause-in_vain
+put_in_entries-returns-in-Leaf-clause-in_vain g t c = in-vain c.put_in_leaf.result (le-add_right _ _)
+
+pub put_in_children-returns-in_err-put_below-clause-steps : goal.put_in_children-returns-in_err-put_below-clause-steps
+put_in_children-returns-in_err-put_below-clause-steps g t c = omega (arith, c.requires.is_inner, c.in_err-put_below.ensures.steps)
+
+pub put_in_children-returns-clause-steps : goal.put_in_children-returns-clause-steps
+put_in_children-returns-clause-steps g t c = omega (arith, c.requires.is_inner, c.in_ok-put_below.ensures.steps)
+
+pub put_below-returns-in_err-left-clause-steps : goal.put_below-returns-in_err-left-clause-steps
+put_below-returns-in_err-left-clause-steps g t c = omega (arith, c.in_err-left.ensures.steps)
+
+pub put_below-returns-in_err-replace_by_two-clause-steps : goal.put_below-returns-in_err-replace_by_two-clause-steps
+put_below-returns-in_err-replace_by_two-clause-steps g t c = omega (arith, c.in_ok-left.ensures.steps)
+
+pub put_below-returns-in_ok-replace_by_two-clause-steps : goal.put_below-returns-in_ok-replace_by_two-clause-steps
+put_below-returns-in_ok-replace_by_two-clause-steps g t c = omega (arith, c.in_ok-left.ensures.steps)
+
+pub put_below-returns-else-below-eq0-clause-counted : goal.put_below-returns-else-below-eq0-clause-counted
+put_below-returns-else-below-eq0-clause-counted g t c = c.put_in_child.ensures.counted
+
+pub put_below-returns-else-below-eq0-clause-steps : goal.put_below-returns-else-below-eq0-clause-steps
+put_below-returns-else-below-eq0-clause-steps g t c = c.put_in_child.ensures.steps
+
+pub put_below-returns-else-below-eq0-clause-in_vain : goal.put_below-returns-else-below-eq0-clause-in_vain
+put_below-returns-else-below-eq0-clause-in_vain g t c = c.put_in_child.ensures.in_vain

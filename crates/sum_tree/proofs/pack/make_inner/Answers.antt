@@ -24,3 +24,6 @@ returns-in-Ok-clause-kept g c =
 pub returns-in-Ok-clause-items : goal.returns-in-Ok-clause-items
 returns-in-Ok-clause-items g c =
     items-seen (entries_of c.in-Ok.node) (map child_value c.args.children.items) (ap contents c.in-Ok.ensures.ok ∙ contents-Inner c.args.children)
+
+pub returns-in-Ok-clause-steps : goal.returns-in-Ok-clause-steps
+returns-in-Ok-clause-steps g c = omega (arith, c.in-Ok.ensures.ticks)

@@ -1,3 +1,4 @@
+use Rattle.std.proofs.Common.{arith, le_trans}
 use Rattle.sum_core.proofs.Children.{fits-left, fits-right}
 use Rattle.sum_tree.proofs.pack.make_leaves.Goals as goal
 
@@ -10,3 +11,18 @@ pub make_leaf-requires-2-clause-fits : goal.make_leaf-requires-2-clause-fits
 make_leaf-requires-2-clause-fits g c =
     let m = g.T.Sum.Summary in
     fits-right m.empty m.joined m.fits g.T.Item.summary g.met.T.Sum.Summary.laws _ _ _ c.in_ok-front.ensures.joined c.requires.fits
+
+pub returns-in_err-right-clause-counted : goal.returns-in_err-right-clause-counted
+returns-in_err-right-clause-counted g c = le_trans c.in_ok-left.ensures.counted c.in_err-right.ensures.counted
+
+pub returns-in_err-left-clause-steps : goal.returns-in_err-left-clause-steps
+returns-in_err-left-clause-steps g c = omega (arith, c.in_err-left.ensures.steps)
+
+pub returns-in_err-right-clause-steps : goal.returns-in_err-right-clause-steps
+returns-in_err-right-clause-steps g c = omega (arith, c.in_ok-left.ensures.steps, c.in_err-right.ensures.steps)
+
+pub returns-clause-counted : goal.returns-clause-counted
+returns-clause-counted g c = le_trans c.in_ok-left.ensures.counted c.in_ok-right.ensures.counted
+
+pub returns-clause-steps : goal.returns-clause-steps
+returns-clause-steps g c = omega (arith, c.in_ok-left.ensures.steps, c.in_ok-right.ensures.steps)

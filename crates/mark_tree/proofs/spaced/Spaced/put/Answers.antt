@@ -1,4 +1,4 @@
-use Rattle.std.proofs.Common.{◌≡◌, ◌+◌, ◌*◌, ◌^◌, ◌<◌, ◌++◌, ◌∷◌, ◌∙◌, length, take, drop, ap, sym, subst, arith}
+use Rattle.std.proofs.Common.{◌≡◌, ◌+◌, ◌*◌, ◌^◌, ◌<◌, ◌++◌, ◌∷◌, ◌∙◌, length, take, drop, ap, sym, subst, arith, le_trans}
 use Rattle.cell_units.specs.Sorting.{insert_by}
 use Rattle.mark_tree.specs.Entries.{IsCodable, spliced}
 use Rattle.mark_tree.specs.Order.{placed_le, IsOrdered}
@@ -43,3 +43,28 @@ returns-clause-steps g c h few =
     let new : length (spliced at at c.in_ok-single.single.items no_shift c.args.self.now) < 2 * 6 ^ (h + 1) = omega (arith, few, ap length added, length-added c.args.fresh c.args.self.now) in
     put-steps h c.args.steps.now c.place_for-at.new.steps c.splice.new.steps (c.place_for-at.ensures.steps h old)
     (omega (arith, c.in_ok-splice.ensures.steps h old new, ap length c.in_ok-single.ensures))
+
+pub returns-in_err-single-clause-steps : goal.returns-in_err-single-clause-steps
+returns-in_err-single-clause-steps g c h few =
+    let old : length c.args.self.now < 2 * 6 ^ (h + 1) = omega (arith, few) in
+    let one = c.place_for-at.ensures.steps h old in
+    omega (arith, one)
+
+pub returns-in_err-splice-clause-ordered : goal.returns-in_err-splice-clause-ordered
+returns-in_err-splice-clause-ordered g c = subst IsOrdered (sym c.in_err-splice.ensures.err) c.requires.ordered
+
+pub returns-in_err-splice-clause-counted : goal.returns-in_err-splice-clause-counted
+returns-in_err-splice-clause-counted g c = le_trans c.place_for-at.ensures.counted c.in_err-splice.ensures.counted
+
+pub returns-in_err-splice-clause-steps : goal.returns-in_err-splice-clause-steps
+returns-in_err-splice-clause-steps g c h few =
+    let at = c.place_for-at.result in
+    let old : length c.args.self.now < 2 * 6 ^ (h + 1) = omega (arith, few) in
+    let added : spliced at at c.in_ok-single.single.items no_shift c.args.self.now ≡ insert_by placed_le c.args.fresh c.args.self.now =
+    ap (λ l. spliced at at l no_shift c.args.self.now) c.in_ok-single.ensures ∙ spliced-added at c.args.fresh c.args.self.now (placed-at c.args.fresh c.args.self.now c.key.result at c.key.ensures c.place_for-at.ensures.place) in
+    let new : length (spliced at at c.in_ok-single.single.items no_shift c.args.self.now) < 2 * 6 ^ (h + 1) = omega (arith, few, ap length added, length-added c.args.fresh c.args.self.now) in
+    put-steps h c.args.steps.now c.place_for-at.new.steps c.splice.new.steps (c.place_for-at.ensures.steps h old)
+    (omega (arith, c.in_err-splice.ensures.steps h old new, ap length c.in_ok-single.ensures))
+
+pub returns-clause-counted : goal.returns-clause-counted
+returns-clause-counted g c = le_trans c.place_for-at.ensures.counted c.in_ok-splice.ensures.counted

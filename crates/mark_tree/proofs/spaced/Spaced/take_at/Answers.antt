@@ -1,4 +1,4 @@
-use Rattle.std.proofs.Common.{◌≡◌, ◌+◌, ◌*◌, ◌^◌, ◌<◌, ◌∙◌, length, filter, ap, sym, subst, arith}
+use Rattle.std.proofs.Common.{◌≡◌, ◌+◌, ◌*◌, ◌^◌, ◌<◌, ◌∙◌, length, filter, ap, sym, subst, arith, le_trans}
 use Rattle.mark_tree.specs.Entries.{IsCodable, spliced}
 use Rattle.mark_tree.specs.Order.{lacks_placed_id, IsOrdered}
 use Rattle.mark_tree.proofs.Changing.{no_shift, spliced-at, spliced-out, codable-taken, ordered-taken, length-taken}
@@ -42,3 +42,27 @@ returns-clause-steps g c h few =
     ap (λ l. spliced at (at + 1) l no_shift ps) c.new.ensures.items ∙ spliced-at at thing ps c.requires.ordered c.in_ok-thing.ensures.copy in
     let new : length (spliced at (at + 1) c.new.result.items no_shift ps) < 2 * 6 ^ (h + 1) = omega (arith, few, ap length made, length-taken thing.id ps) in
     omega (arith, c.in_ok-thing.ensures.steps h few, c.in_ok-splice.ensures.steps h few new, ap length c.new.ensures.items)
+
+pub returns-in_err-thing-clause-steps : goal.returns-in_err-thing-clause-steps
+returns-in_err-thing-clause-steps g c h few =
+    let one = c.in_err-thing.ensures.steps h few in
+    omega (arith, one)
+
+pub returns-in_err-splice-clause-ordered : goal.returns-in_err-splice-clause-ordered
+returns-in_err-splice-clause-ordered g c = subst IsOrdered (sym c.in_err-splice.ensures.err) c.requires.ordered
+
+pub returns-in_err-splice-clause-counted : goal.returns-in_err-splice-clause-counted
+returns-in_err-splice-clause-counted g c = le_trans c.in_ok-thing.ensures.counted c.in_err-splice.ensures.counted
+
+pub returns-in_err-splice-clause-steps : goal.returns-in_err-splice-clause-steps
+returns-in_err-splice-clause-steps g c h few =
+    let at = c.args.at in
+    let ps = c.args.self.now in
+    let thing = c.in_ok-thing.thing in
+    let made : spliced at (at + 1) c.new.result.items no_shift ps ≡ filter (lacks_placed_id thing.id) ps =
+    ap (λ l. spliced at (at + 1) l no_shift ps) c.new.ensures.items ∙ spliced-at at thing ps c.requires.ordered c.in_ok-thing.ensures.copy in
+    let new : length (spliced at (at + 1) c.new.result.items no_shift ps) < 2 * 6 ^ (h + 1) = omega (arith, few, ap length made, length-taken thing.id ps) in
+    omega (arith, c.in_ok-thing.ensures.steps h few, c.in_err-splice.ensures.steps h few new, ap length c.new.ensures.items)
+
+pub returns-clause-counted : goal.returns-clause-counted
+returns-clause-counted g c = le_trans c.in_ok-thing.ensures.counted c.in_ok-splice.ensures.counted

@@ -1,4 +1,4 @@
-use Rattle.std.proofs.Common.{◌≡◌, ◌*◌, ◌^◌, ◌+◌, ◌-◌, ◌<◌, ◌∙◌, ap, sym, subst, arith, length}
+use Rattle.std.proofs.Common.{◌≡◌, ◌*◌, ◌^◌, ◌+◌, ◌-◌, ◌<◌, ◌∙◌, ap, sym, subst, arith, length, le-add_right}
 use Rattle.sum_tree.specs.Cursors.{last_of, measure_to}
 use Rattle.sum_tree.specs.inside.Paths.{items_seen}
 use Rattle.sum_tree.proofs.PlaceLists.{seen-at}
@@ -37,3 +37,9 @@ invariant_of-self g c =
       start_is = c.self.invariant.end_is ∙ ap (measure_to m.empty m.joined g.T.Item.summary d.measure all) k ∙ ap (λ l. measure_to m.empty m.joined g.T.Item.summary d.measure l (n + 1 - 1)) same;
       end_is = c.plus-self-inside.ensures ∙ ap (d.joined_with c.self.inside.end) (c.of.ensures ∙ ap d.measure c.sum.ensures) ∙ sym next ∙ ap (λ l. measure_to m.empty m.joined g.T.Item.summary d.measure l (n + 1)) same;
     }
+
+pub returns-then-index-count-clause-counted : goal.returns-then-index-count-clause-counted
+returns-then-index-count-clause-counted g c = c.go_to-item.ensures.counted
+
+pub returns-else-index-count-clause-steps : goal.returns-else-index-count-clause-steps
+returns-else-index-count-clause-steps g c h few = le-add_right _ _

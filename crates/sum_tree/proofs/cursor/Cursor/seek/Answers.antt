@@ -21,3 +21,6 @@ returns-clause-sought g c =
     (sought-by m.empty m.joined m.fits g.T.Item.summary g.met.T.Sum.Summary.laws d.joined_with d.fits_with d.measure g.D.Ord.cmp g.met.D.Dimension.dimension_laws g.met.D.Ord.total
     c.find-found.result all c.args.target c.args.bias c.settle.new.self.place c.self.invariant.path_is.sum_fits c.find-found.ensures.found
     (subst (λ r. MatchOption c.find-found.result (c.settle.new.self.place ≡ length (items_seen r) + 1) (λ f. c.settle.new.self.place ≡ f.index + 1)) c.find-found.ensures.root c.settle.ensures.place))
+
+pub returns-clause-counted : goal.returns-clause-counted
+returns-clause-counted g c = c.find-found.ensures.counted

@@ -87,3 +87,12 @@ returns-clause-around g c =
     let first_is : first ≡ n + length (items_under (take i (map child_value xs))) = omega (arith, f.offset) in
     let taken = items-taken xs i k f.index is in
     (omega (arith, c.requires.around, f.not_at_start), omega (arith, c.requires.around, taken, f.offset, f.high, here.count_is))
+
+pub returns-clause-height : goal.returns-clause-height
+returns-clause-height g c = omega (arith, c.requires.is_inner)
+
+pub returns-clause-counted : goal.returns-clause-counted
+returns-clause-counted g c = c.entries.ensures.counted
+
+pub returns-clause-steps : goal.returns-clause-steps
+returns-clause-steps g c = omega (arith, c.entries.ensures.ticks)
