@@ -11,7 +11,7 @@ use Rattle.cell_units.specs.Record.{Block}
 use Rattle.cell_units.specs.Rows.{HaveRows, rows_before}
 use Rattle.plain_rows.specs.Rows.{Row, block_rows, blocks_at, head_and_more, is_on, line_of_block}
 use Rattle.block_map.specs.Between.{block_row, rows_above, rows_below}
-use Rattle.block_map.specs.Maps.{Kept, RowsAgree, between_of, block_of, blocks_of, line_of_kept, record_with, row_of_kept, stop_of}
+use Rattle.block_map.specs.Maps.{BlocksAgree, Kept, RowsAgree, between_of, block_of, blocks_of, line_of_kept, record_with, row_of_kept, stop_of}
 use Rattle.block_map.specs.Stops.{texts_at}
 use Rattle.block_map.proofs.FoundTexts.{texts-cons}
 use Rattle.block_map.proofs.LineStarts.{rows_before-next, rows_before-rises}
@@ -108,15 +108,17 @@ at-below source line above below =
     (filter-append (at_line source Below line) (map (block_of Above) above) (map (block_of Below) below)
     ∙ ap (λ (bs : List Block). bs ++ filter (at_line source Below line) (map (block_of Below) below)) (none-below source line above))
 
+pub blocks-agree : BlocksAgree
+blocks-agree source s lines have above below l within = (
+  side-rows source lines Above (rows_before lines l) l s.above
+      (λ k d kt. same-start lines have (line_of_kept source Above (get_or s.above k d)) l (omega (arith, above k d kt)) (omega (arith, within)))
+      ∙ sym (at-above source l s.above s.below),
+  side-rows source lines Below (rows_before lines (l + 1)) l s.below
+      (λ k d kt. same-start lines have (line_of_kept source Below (get_or s.below k d) + 1) (l + 1) (omega (arith, below k d kt)) (omega (arith, within)) ∙ next-same (line_of_kept source Below (get_or s.below k d)) l)
+      ∙ sym (at-below source l s.above s.below),
+)
+
 pub rows-agree : RowsAgree
 rows-agree source s lines have above below =
     with-same (rows_above (between_of source lines s)) (rows_below (between_of source lines s)) (blocks_at (record_with source (blocks_of s)) Above) (blocks_at (record_with source (blocks_of s)) Below) 0 (map head_and_more lines)
-    (λ l le lt.
-    let within : l < length lines = omega (arith, lt, length-map lines head_and_more) in (
-      side-rows source lines Above (rows_before lines l) l s.above
-          (λ k d kt. same-start lines have (line_of_kept source Above (get_or s.above k d)) l (omega (arith, above k d kt)) (omega (arith, within)))
-          ∙ sym (at-above source l s.above s.below),
-      side-rows source lines Below (rows_before lines (l + 1)) l s.below
-          (λ k d kt. same-start lines have (line_of_kept source Below (get_or s.below k d) + 1) (l + 1) (omega (arith, below k d kt)) (omega (arith, within)) ∙ next-same (line_of_kept source Below (get_or s.below k d)) l)
-          ∙ sym (at-below source l s.above s.below),
-    ))
+    (λ l le lt. blocks-agree source s lines have above below l (omega (arith, lt, length-map lines head_and_more)))

@@ -1,7 +1,9 @@
 pub mod AlteredSides
 pub mod AnewPlaces
 pub mod BlockRefusals
+pub mod BegunLines
 pub mod BlockRows
+pub mod BlocksGot
 pub mod ClearRows
 pub mod CountedPlaces
 pub mod CutWindows

@@ -11,7 +11,7 @@ use Rattle.cell_units.specs.declared.place.Bias.{Bias}
 use Rattle.cell_units.specs.declared.place.Bias.TheVariants.{Left, Right}
 use Rattle.cell_units.specs.Rows.{IsLineAt, all_rows, line_rows, rows_before}
 use Rattle.plain_rows.specs.Rows.{Row, head_and_more, head_kind, more_kind, more_row}
-use Rattle.block_map.specs.Between.{Between, IsTextAt, block_row, place_of_row, rows_above, rows_between, rows_by_line}
+use Rattle.block_map.specs.Between.{Between, IsTextAt, block_row, place_of_row, rows_above, rows_between, rows_by_line, rows_to}
 use Rattle.block_map.specs.Stops.{all_stop_rows, rows_upto, texts_at}
 use Rattle.block_map.specs.inside.Zones.{IsBetween, IsInZone, text_of_kind, text_row, text_rows, texts_of_kinds, zone, zone_start}
 use Rattle.block_map.proofs.FoundTexts.{get-append_left, get-append_right}
@@ -94,10 +94,14 @@ module _ (b : Between) (is : IsBetween b) where
   abbrev pub count : ℕ
   count = length (all_rows b.lines)
 
+  -- no line begins past all rows
+  pub begin-within : (l : ℕ) → l ≤ length b.lines → rows_before b.lines l ≤ count
+  begin-within l le =
+      omega (arith, rows_before-rises b.lines l (length b.lines) le, ap (λ ls. length (all_rows ls)) (take_all (length b.lines) b.lines (omega arith)))
+
   -- a line's rows end within those of all
   line-end : (l : ℕ) → l < length b.lines → rows_before b.lines (l + 1) ≤ count
-  line-end l lt =
-      omega (arith, rows_before-rises b.lines (l + 1) (length b.lines) (omega arith), ap (λ ls. length (all_rows ls)) (take_all (length b.lines) b.lines (omega arith)))
+  line-end l lt = begin-within (l + 1) (omega arith)
 
   line-some : (l : ℕ) → l < length b.lines → rows_before b.lines l < rows_before b.lines (l + 1)
   line-some l lt = omega (arith, rows_before-next b.lines l lt, is.rows l [] lt)
@@ -151,6 +155,10 @@ module _ (b : Between) (is : IsBetween b) where
 
   -- ---- where a row of text stands
 
+  -- a line begins, with what stands above it, where the zone of its first row does
+  pub line-zone : (l : ℕ) → l ≤ length b.lines → zone_start b (rows_before b.lines l) ≡ rows_to l (rows_by_line b)
+  line-zone l le = sym (ap length (rows-zones-before b is l le) ∙ zone-sizes b none-first (rows_before b.lines l))
+
   no-rows : (xs : List (List ℕ)) → map block_row xs ≡ [] → length xs ≡ 0
   no-rows xs e = sym (length-map xs block_row) ∙ ap length e
 
@@ -174,8 +182,7 @@ module _ (b : Between) (is : IsBetween b) where
       let t = rows_before b.lines l + k in place_of_row b l k ≡ t + (rows_upto Right t b.above + rows_upto Right t b.below)
   place-is l k lt few =
       let p = rows_before b.lines l in
-      let start : length (flat_map (λ rows. rows) (take l (rows_by_line b))) ≡ zone_start b p =
-      ap length (rows-zones-before b is l (omega arith)) ∙ zone-sizes b none-first p in
+      let start : zone_start b p ≡ rows_to l (rows_by_line b) = line-zone l (omega arith) in
       let above : length (rows_above b l) ≡ length (texts_at p b.above) = length-map (texts_at p b.above) block_row in
       let same = same-upto l k lt few in
       omega (arith, start, above, same.0, same.1, upto-through p b.above)

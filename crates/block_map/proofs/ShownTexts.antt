@@ -2,8 +2,8 @@
 use Rattle.std.proofs.Common.{◌≡◌, ℕ, ◌+◌, cond, eqb, List, [], ◌∷◌, ◌++◌, length, sym, ap, ◌∙◌, append_assoc}
 use Rattle.std.proofs.lemmas.List.{map_push}
 use Rattle.plain_rows.specs.Rows.{Row, head_kind, more_kind}
-use Rattle.block_map.specs.declared.shown.Shown.{Shown}
-use Rattle.block_map.specs.ShownRows.{letter_of, row_of_shown, shown_rows}
+use Rattle.plain_rows.specs.declared.shown.Shown.{Shown}
+use Rattle.plain_rows.specs.ShownRows.{letter_of, row_of_shown, shown_rows}
 use Rattle.block_map.specs.inside.Zones.{text_of_kind, texts_of_kinds}
 use Rattle.block_map.proofs.RowsInZones.{kinds-push}
 

@@ -12,8 +12,8 @@ use Rattle.std.proofs.lemmas.Result.{on_ok_weaker}
 use Rattle.mark_tree.proofs.Splicing.{either}
 use Rattle.mark_tree.proofs.Sorting.{every-insert, length-insert}
 use Rattle.mark_tree.proofs.Changing.{all-from_every, every-from_all}
-use Rattle.block_map.specs.Maps.{BlockState, Kept, added, has_block, kept_le, removed, state_of, without}
-use Rattle.block_map.specs.inside.TwoSides.{IsState, WasAtLine, is_kept, on_side}
+use Rattle.block_map.specs.Maps.{BlockState, Kept, added, has_block, kept_le, on_side, removed, state_of, without}
+use Rattle.block_map.specs.inside.TwoSides.{IsState, WasAtLine, is_kept}
 use Rattle.block_map.proofs.SortedTests.{any-insert}
 
 any-without : (id other : ℕ) (ks : List Kept) → is_kept id ks ≡ false → is_kept id (without other ks) ≡ false

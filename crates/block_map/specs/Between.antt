@@ -1,5 +1,5 @@
 -- Rows of lines with blocks between them, as a block snapshot is seen.
-use Rattle.std.specs.Prelude.{◌≡◌, ◌≢◌, ℕ, ◌+◌, ◌<◌, List, flat_map, length, map, take, Option, Some, None}
+use Rattle.std.specs.Prelude.{◌≡◌, ◌≢◌, ℕ, ◌+◌, ◌<◌, ◌≤◌, List, flat_map, length, map, take, Option, Some, None}
 use Rattle.cell_units.specs.Rows.{line_rows, rows_before}
 use Rattle.plain_rows.specs.Rows.{Row, block_kind, head_and_more, with_blocks}
 use Rattle.block_map.specs.Stops.{Stop, texts_at}
@@ -29,12 +29,15 @@ rows_by_line b = with_blocks (rows_above b) (rows_below b) (map head_and_more b.
 abbrev pub rows_between : Between → List Row
 rows_between b = flat_map (λ rows. rows) (rows_by_line b)
 
+-- how many rows all lines before one have, with those above and below them
+abbrev pub rows_to : ℕ → List (List Row) → ℕ
+rows_to line lines = length (flat_map (λ rows. rows) (take line lines))
+
 -- ---- rows of text among them
 
 -- the row at which a text row of a line stands
 abbrev pub place_of_row : Between → ℕ → ℕ → ℕ
-place_of_row b line k =
-    length (flat_map (λ rows. rows) (take line (rows_by_line b))) + (length (rows_above b line) + k)
+place_of_row b line k = rows_to line (rows_by_line b) + (length (rows_above b line) + k)
 
 -- the line and the text row in it that stand at a row, or none where no text row does
 abbrev pub IsTextAt : Between → ℕ → Option (ℕ × ℕ) → Type 0
@@ -42,3 +45,9 @@ IsTextAt b row None =
     (line k : ℕ) → line < length b.lines → k < length (line_rows b.lines line) → place_of_row b line k ≢ row
 IsTextAt b row (Some (line, k)) =
     (line < length b.lines) × (k < length (line_rows b.lines line)) × (place_of_row b line k ≡ row)
+
+-- the last line of which the text rows begin at or before a row, or the first line
+pub record IsLastBegun (b : Between) (row line : ℕ) : Type 0 where
+  pub within : line < length b.lines
+  pub begun : 0 < line → place_of_row b line 0 ≤ row
+  pub behind : (l : ℕ) → line < l → l < length b.lines → row < place_of_row b l 0

@@ -4,7 +4,6 @@ pub mod Carried
 pub mod Follows
 pub mod Maps
 pub mod RowCounts
-pub mod ShownRows
 pub mod Stops
 pub mod Worked
 pub mod inside

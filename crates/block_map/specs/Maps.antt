@@ -1,5 +1,5 @@
 -- What a block map is seen as, and what its calls make of it.
-use Rattle.std.specs.Prelude.{◌≡◌, ℕ, ◌+◌, ◌<◌, ◌==◌, ◌&&◌, ◌||◌, not, nat_lt, nat_le, Bool, if◌then◌else◌, List, [], ◌++◌, filter, length, map, Option, Some, None}
+use Rattle.std.specs.Prelude.{◌≡◌, ℕ, ◌+◌, ◌<◌, ◌==◌, ◌&&◌, ◌||◌, not, nat_lt, nat_le, Bool, if◌then◌else◌, List, [], ◌++◌, filter, length, map, slice_get, Option, Some, None}
 use Rattle.std.specs.List.{All, list_any}
 use Rattle.cell_units.specs.declared.limits.TheConstants.{BLOCK_LINES_LIMIT, BLOCK_LINE_LIMIT, ENTRY_LIMIT}
 use Rattle.cell_units.specs.declared.fault.Fault.{Fault}
@@ -17,7 +17,7 @@ use Rattle.cell_units.specs.Rows.{HaveRows, rows_before}
 use Rattle.cell_units.specs.Sorting.{insert_by, sort_by}
 use Rattle.cell_units.specs.Text.{carriage_return, is_boundary, is_feed}
 use Rattle.plain_rows.specs.Rows.{Row, blocks_at, head_and_more, line_of_block, with_blocks}
-use Rattle.block_map.specs.Between.{Between, rows_by_line}
+use Rattle.block_map.specs.Between.{Between, rows_above, rows_below, rows_by_line}
 use Rattle.block_map.specs.Stops.{Stop}
 
 -- A block of one side: its anchor in the text, its id and its lines, and how many rows of text stood before its own when the
@@ -166,11 +166,27 @@ between_of source lines s = record {
 abbrev pub StandWithin : Source → List (List (List ℕ)) → Side → List Kept → Type 0
 StandWithin source lines side ks = All (λ k. line_of_kept source side k < length lines) ks
 
+-- the blocks of a side
+abbrev pub on_side : Side → BlockState → List Kept
+on_side Above s = s.above
+on_side Below s = s.below
+
+-- the block at a place among these has this offset, id and lines
+abbrev pub IsBlockAt : List Kept → ℕ → ℕ → ℕ → List (List ℕ) → Type 0
+IsBlockAt ks at offset id lines = (k : Kept) × (slice_get ks at ≡ Some k) × (k.offset ≡ offset) × (k.id ≡ id) × (k.lines ≡ lines)
+
 -- Stops at the lines of blocks show what a record with these blocks shows.
 abbrev pub RowsAgree : Type 0
 RowsAgree = (source : Source) (s : BlockState) (lines : List (List (List ℕ))) → HaveRows lines
     → StandWithin source lines Above s.above → StandWithin source lines Below s.below
     → rows_by_line (between_of source lines s) ≡ rows_with source (blocks_of s) lines
+
+-- Above and below each line they show the rows of the record's blocks there.
+abbrev pub BlocksAgree : Type 0
+BlocksAgree = (source : Source) (s : BlockState) (lines : List (List (List ℕ))) → HaveRows lines
+    → StandWithin source lines Above s.above → StandWithin source lines Below s.below → (line : ℕ) → line < length lines
+    → (rows_above (between_of source lines s) line ≡ blocks_at (record_with source (blocks_of s)) Above line)
+    × (rows_below (between_of source lines s) line ≡ blocks_at (record_with source (blocks_of s)) Below line)
 
 -- What a `sync` shows: the new lines, and between them the blocks, moved, each at its line of the new layer.
 pub record IsShown (source : Source) (shift : Option Shift) (lines : List (List (List ℕ)))

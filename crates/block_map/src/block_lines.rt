@@ -10,9 +10,14 @@ use std::sync::Arc;
 use sum_core::Load;
 
 /// The lines of a block, which all copies share. Contracts see them as a list of texts.
-#[derive(Drop)]
 pub(crate) struct BlockLines {
     lines: Arc<Vec<Text>>,
+}
+
+impl Drop for BlockLines {
+    fn drop(self) {
+        let BlockLines { lines: _ } = self;
+    }
 }
 
 impl Model for BlockLines {
@@ -53,6 +58,13 @@ impl BlockLines {
         ensures { result ≡ length self.now }
     {
         self.lines.len()
+    }
+
+    /// Their texts.
+    pub(crate) fn texts(&self) -> &[Text]
+        ensures { result.now ≡ self.now }
+    {
+        self.lines.as_slice()
     }
 
     /// The text of a line.

@@ -2,9 +2,10 @@
 ghost use Rattle.std.specs.Prelude.{◌≡◌, ◌+◌, ◌<◌, ◌≤◌, None, true, false, length, IfErr, IfOk, MatchOption, OnErr, OnOk};
 ghost use Rattle.cell_units.specs.declared.limits.TheConstants.{ENTRY_LIMIT};
 ghost use Rattle.cell_units.specs.Lawful.{AreBlockLines};
+ghost use Rattle.sum_tree.specs.Bounds.{TakesAtMost, way};
 ghost use Rattle.block_map.specs.Bounds.{SearchesBoth, SearchesTwice, TakesOneEach, altering, altering_side};
-ghost use Rattle.block_map.specs.Maps.{IsOwed, add_refusal, added, fresh, has_block, remove_refusal, removed, state_of};
-ghost use Rattle.block_map.specs.inside.TwoSides.{is_kept, on_side};
+ghost use Rattle.block_map.specs.Maps.{IsBlockAt, IsOwed, add_refusal, added, fresh, has_block, on_side, remove_refusal, removed, state_of};
+ghost use Rattle.block_map.specs.inside.TwoSides.{is_kept};
 
 use crate::block_lines::BlockLines;
 use crate::block_side::BlockSide;
@@ -19,11 +20,20 @@ use std::marker::Model;
 ///
 /// The bounds on the steps of a call are given for each h such that the number of blocks is less than 2 * 6^(h + 1). The
 /// least such h is the greatest height of a tree of so many.
-#[derive(Drop)]
 pub struct BlockMap<R: Rows> {
     pub(crate) rows: R,
     pub(crate) above: BlockSide,
     pub(crate) below: BlockSide,
+}
+
+impl<R: Rows> Drop for BlockMap<R> {
+    fn drop(self) {
+        let BlockMap {
+            rows: _,
+            above: _,
+            below: _,
+        } = self;
+    }
 }
 
 impl<R: Rows> Model for BlockMap<R> {
@@ -68,6 +78,20 @@ impl<R: Rows> BlockMap<R> {
         ensures { result ≡ length self.now.above + length self.now.below }
     {
         self.above.len() + self.below.len()
+    }
+
+    /// The offset, id and lines of a block of one side, by its place among those of that side, counted from 0. `None` exactly
+    /// where there is none.
+    pub fn get(&self, side: Side, at: u32, steps: &mut Steps) -> Option<(u32, u32, &[Text])>
+        ensures block { MatchOption result (length (on_side side self.now) ≤ at) (λ b.
+            IsBlockAt (on_side side self.now) at b.0 b.1 b.2.now) }
+        ensures counted { steps.old ≤ steps.new }
+        ensures steps { TakesAtMost way (length (on_side side self.now)) steps.old steps.new }
+    {
+        match side {
+            Side::Above => self.above.get(at, steps),
+            Side::Below => self.below.get(at, steps),
+        }
     }
 
     /// Adds a block: lines that are shown above or below the line of an offset's row. The offset counts bytes, and goes behind

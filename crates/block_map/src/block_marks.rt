@@ -1,23 +1,31 @@
 //! The marks of one side's blocks, which may have a replacement of the text yet to follow.
-ghost use Rattle.std.specs.Prelude.{◌≡◌, ◌≤◌, [], length, IfOk};
+ghost use Rattle.std.specs.Prelude.{◌≡◌, ◌≤◌, [], Some, length, slice_get, IfOk, MatchOption};
 ghost use Rattle.std.specs.List.{list_any};
 ghost use Rattle.mark_tree.specs.Bounds.{moving};
-ghost use Rattle.mark_tree.specs.Marks.{has_id};
-ghost use Rattle.sum_tree.specs.Bounds.{Searches, TakesAtMost};
+ghost use Rattle.mark_tree.specs.Marks.{has_id, mark_with};
+ghost use Rattle.sum_tree.specs.Bounds.{Searches, TakesAtMost, way};
 ghost use Rattle.block_map.specs.inside.SideMoves.{MayFollow, marks_after};
 
 use crate::block_lines::BlockLines;
-use cell_units::{NoMemory, Shift, Steps};
-use mark_tree::MarkTree;
+use cell_units::{Bias, NoMemory, Shift, Steps};
+use mark_tree::{MarkTree, moved_offset};
 use std::alloc::Global;
 use std::marker::Model;
 
 /// The marks of blocks, and the replacement that they have yet to follow, if there is one: it meets none of them. A tree that
 /// nobody else holds is moved in place, where its share would be copied on the way to a mark. Contracts see the marks after it.
-#[derive(Drop)]
 pub(crate) struct BlockMarks {
     marks: MarkTree<BlockLines>,
     pending: Option<Shift>,
+}
+
+impl Drop for BlockMarks {
+    fn drop(self) {
+        let BlockMarks {
+            marks: _,
+            pending: _,
+        } = self;
+    }
 }
 
 impl Model for BlockMarks {
@@ -89,6 +97,22 @@ impl BlockMarks {
         ensures { result ≡ length self.now }
     {
         self.marks.len()
+    }
+
+    /// The offset, bias, id and lines of the mark at a place, counted from 0. `None` exactly where there is none.
+    pub(crate) fn get(&self, at: u32, steps: &mut Steps) -> Option<(u32, Bias, u32, &BlockLines)>
+        ensures mark { MatchOption result (length self.now ≤ at) (λ m.
+            slice_get self.now at ≡ Some (mark_with m.0 m.1 m.2 m.3.now)) }
+        ensures counted { steps.old ≤ steps.new }
+        ensures steps { TakesAtMost way (length self.now) steps.old steps.new }
+    {
+        // They are in order.
+        let _count = self.marks.len();
+        let (offset, bias, id, lines) = self.marks.get(at, steps)?;
+        match self.pending {
+            None => Some((offset, bias, id, lines)),
+            Some(shift) => Some((moved_offset(offset, bias, &shift), bias, id, lines)),
+        }
     }
 
     /// Whether there is a mark of this id, which no replacement changes.

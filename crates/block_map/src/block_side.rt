@@ -1,12 +1,12 @@
 //! The blocks of one side.
-ghost use Rattle.std.specs.Prelude.{◌≡◌, ◌==◌, ◌+◌, ◌<◌, ◌≤◌, ◌^◌, [], true, false, length, IfOk, OnErr, OnOk};
+ghost use Rattle.std.specs.Prelude.{◌≡◌, ◌==◌, ◌+◌, ◌<◌, ◌≤◌, ◌^◌, [], true, false, length, IfOk, MatchOption, OnErr, OnOk};
 ghost use Rattle.std.specs.List.{list_any};
 ghost use Rattle.cell_units.specs.declared.limits.TheConstants.{ENTRY_LIMIT};
 ghost use Rattle.cell_units.specs.Lawful.{AreBlockLines};
 ghost use Rattle.cell_units.specs.Sorting.{insert_by};
-ghost use Rattle.sum_tree.specs.Bounds.{Searches};
+ghost use Rattle.sum_tree.specs.Bounds.{Searches, TakesAtMost, way};
 ghost use Rattle.block_map.specs.Bounds.{SearchesTwice, altering_side};
-ghost use Rattle.block_map.specs.Maps.{fresh, kept_le, without};
+ghost use Rattle.block_map.specs.Maps.{IsBlockAt, fresh, kept_le, without};
 ghost use Rattle.cell_units.specs.declared.place.Bias.TheVariants.{Right};
 ghost use Rattle.mark_tree.specs.Marks.{mark_with};
 
@@ -14,7 +14,7 @@ use crate::block_lines::BlockLines;
 use crate::block_marks::BlockMarks;
 use crate::marks_by_id::{with_new, without_any, without_known};
 use crate::stops::Stops;
-use cell_units::{Bias, NoMemory, Steps};
+use cell_units::{Bias, NoMemory, Steps, Text};
 use mark_tree::{Mark, MarkTree};
 use std::alloc::Global;
 use std::marker::Model;
@@ -22,11 +22,20 @@ use sum_core::NoLoad;
 
 /// Blocks at their anchors, beside each its stop, and the anchors of those of which nothing is shown yet. Contracts see the
 /// blocks in order, each with how many rows of text stood before its own when it was shown.
-#[derive(Drop)]
 pub(crate) struct BlockSide {
     pub(crate) marks: BlockMarks,
     pub(crate) stops: Stops,
     pub(crate) added: MarkTree<NoLoad>,
+}
+
+impl Drop for BlockSide {
+    fn drop(self) {
+        let BlockSide {
+            marks: _,
+            stops: _,
+            added: _,
+        } = self;
+    }
 }
 
 impl Model for BlockSide {
@@ -72,6 +81,17 @@ impl BlockSide {
         ensures { result ≡ length self.now }
     {
         self.marks.len()
+    }
+
+    /// The offset, id and lines of the block at a place, counted from 0. `None` exactly where there is none.
+    pub(crate) fn get(&self, at: u32, steps: &mut Steps) -> Option<(u32, u32, &[Text])>
+        ensures block { MatchOption result (length self.now ≤ at) (λ b.
+            IsBlockAt self.now at b.0 b.1 b.2.now) }
+        ensures counted { steps.old ≤ steps.new }
+        ensures steps { TakesAtMost way (length self.now) steps.old steps.new }
+    {
+        let (offset, _bias, id, lines) = self.marks.get(at, steps)?;
+        Some((offset, id, lines.texts()))
     }
 
     /// Whether there is a block of this id.

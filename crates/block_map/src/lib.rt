@@ -12,7 +12,6 @@ mod map_sync;
 mod marks_by_id;
 mod placing;
 mod row_count;
-mod shown;
 mod side_sync;
 mod snapshot;
 mod stop_moves;
@@ -23,6 +22,6 @@ mod worked;
 
 pub use block_map::BlockMap;
 pub use laws::block_laws;
-pub use shown::{Kind, Shown};
+pub use plain_rows::{Kind, Shown};
 pub use snapshot::BlockSnapshot;
 pub use worked::worked_rows;

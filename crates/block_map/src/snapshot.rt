@@ -4,17 +4,17 @@ ghost use Rattle.cell_units.specs.declared.place.Bias.TheVariants.{Left};
 ghost use Rattle.cell_units.specs.Rows.{all_rows, line_rows};
 ghost use Rattle.plain_rows.specs.Rows.{head_kind, more_kind};
 ghost use Rattle.sum_tree.specs.Bounds.{way};
-ghost use Rattle.block_map.specs.Between.{Between, IsTextAt, block_row, place_of_row, rows_between};
+ghost use Rattle.block_map.specs.Between.{Between, IsLastBegun, IsTextAt, block_row, place_of_row, rows_between, rows_by_line, rows_to};
 ghost use Rattle.block_map.specs.Bounds.{TakesBetween, both_ways, finding, locating, reading, zoning};
-ghost use Rattle.block_map.specs.ShownRows.{letter_of, row_of_shown, shown_row};
+ghost use Rattle.plain_rows.specs.ShownRows.{letter_of, row_of_shown, shown_row};
 ghost use Rattle.block_map.specs.Stops.{rows_upto, texts_at};
 ghost use Rattle.block_map.specs.inside.Seekings.{IsPlace, IsWindow, IsZoneStart};
 ghost use Rattle.block_map.specs.inside.Zones.{IsBetween, IsInZone, text_row, zone, zone_start};
 
-use crate::shown::{Kind, Shown};
 use crate::stops::Stops;
 use crate::window::Window;
 use cell_units::{Bias, NoMemory, Rows, Steps, Text};
+use plain_rows::{Kind, Shown};
 use std::alloc::Global;
 use std::marker::Model;
 
@@ -23,11 +23,20 @@ use std::marker::Model;
 const SPARE_ROOM: u32 = 16;
 
 /// Rows of lines with blocks between them. Contracts see the lines, and the stops of the blocks above and below them.
-#[derive(Drop)]
 pub struct BlockSnapshot<R: Rows> {
     pub(crate) rows: R,
     pub(crate) above: Stops,
     pub(crate) below: Stops,
+}
+
+impl<R: Rows> Drop for BlockSnapshot<R> {
+    fn drop(self) {
+        let BlockSnapshot {
+            rows: _,
+            above: _,
+            below: _,
+        } = self;
+    }
 }
 
 impl<R: Rows> Model for BlockSnapshot<R> {
@@ -308,6 +317,20 @@ impl<R: Rows> BlockSnapshot<R> {
         text_row + above + below
     }
 
+    /// The row at which a line begins with the blocks above it: how many rows all lines before it have, with theirs. That of the
+    /// number of lines is the number of rows.
+    pub fn start_of(&self, line: u32, steps: &mut Steps) -> u32
+        requires { line ≤ length self.now.lines }
+        ensures start { result ≡ rows_to line (rows_by_line self.now) }
+        ensures counted { steps.old ≤ steps.new }
+        ensures steps { TakesBetween both_ways self.now steps.old steps.new }
+    {
+        // No line begins past all rows.
+        let _count = self.text_rows();
+        let text_row = self.rows.rows_before(line);
+        self.zone_start(text_row, steps).row
+    }
+
     /// The line whose text row stands at a row, and which of its text rows that is. `None` exactly at a block's row and
     /// past the last row.
     pub fn text_at(&self, row: u32, steps: &mut Steps) -> Option<(u32, u32)>
@@ -325,6 +348,25 @@ impl<R: Rows> BlockSnapshot<R> {
             return None;
         }
         self.rows.line_at(place.text_row)
+    }
+
+    /// The last line of which the text rows begin at or before a row, and the first line at the rows of blocks above it.
+    pub fn line_of_row(&self, row: u32, steps: &mut Steps) -> u32
+        requires { row < length (rows_between self.now) }
+        ensures line { IsLastBegun self.now row result }
+        ensures counted { steps.old ≤ steps.new }
+        ensures steps { TakesBetween locating self.now steps.old steps.new }
+    {
+        // Stops stand between lines.
+        let _count = self.text_rows();
+        let place = self.place_of(row, steps);
+        let Some((line, at)) = self.rows.line_at(place.text_row) else {
+            unreachable!()
+        };
+        if line > 0 && at == 0 && place.at < self.rows_above(place, steps) {
+            return line - 1;
+        }
+        line
     }
 
     /// How many rows of blocks stand in a place's zone above the line, before its text row.

@@ -18,9 +18,14 @@ use std::marker::Model;
 use sum_core::Summary;
 
 /// Where the rows of blocks stand between rows of text. Contracts see a list of stops, whose rows don't fall.
-#[derive(Drop)]
 pub(crate) struct Stops {
     splices: SpliceTree<RowCount, BlockLines>,
+}
+
+impl Drop for Stops {
+    fn drop(self) {
+        let Stops { splices: _ } = self;
+    }
 }
 
 impl Model for Stops {

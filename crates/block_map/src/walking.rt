@@ -5,15 +5,15 @@ ghost use Rattle.cell_units.specs.Rows.{all_rows};
 ghost use Rattle.sum_tree.specs.Bounds.{TakesAtMost, way};
 ghost use Rattle.block_map.specs.Between.{block_row, rows_between};
 ghost use Rattle.block_map.specs.Bounds.{TakesBetween, both_ways, walking};
-ghost use Rattle.block_map.specs.ShownRows.{shown_rows};
+ghost use Rattle.plain_rows.specs.ShownRows.{shown_rows};
 ghost use Rattle.block_map.specs.Stops.{rows_upto, texts_at};
 ghost use Rattle.block_map.specs.inside.Seekings.{IsPlace};
 ghost use Rattle.block_map.specs.inside.Zones.{IsClear, IsInZone, texts_of_kinds};
 
-use crate::shown::Shown;
 use crate::snapshot::{BlockSnapshot, Place, block_row, kind_of};
 use crate::stops::Stops;
 use cell_units::{NoMemory, Rows, Steps, Text};
+use plain_rows::Shown;
 use std::alloc::Global;
 
 impl<R: Rows> BlockSnapshot<R> {

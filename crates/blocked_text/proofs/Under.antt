@@ -7,7 +7,7 @@ use Rattle.std.proofs.lemmas.Bool.{cases_eq}
 use Rattle.std.proofs.lemmas.List.{length-map, length-replicate, length-take-le}
 use Rattle.cell_line.specs.declared.element.Element.{Element}
 use Rattle.cell_line.specs.declared.lines.Run.{Run}
-use Rattle.cell_units.specs.declared.limits.TheConstants.{TEXT_LIMIT}
+use Rattle.cell_units.specs.declared.limits.TheConstants.{LAID_LIMIT}
 use Rattle.cell_units.specs.declared.place.Shift.{Shift}
 use Rattle.cell_units.specs.Lawful.{IsWellFormed}
 use Rattle.cell_units.specs.Layers.{plain_source, shown_lines}
@@ -44,7 +44,7 @@ Lines = List (List (List ℕ))
 pub record IsTabbed (text : List ℕ) (standing : Standing) : Type 0 where
   pub lines : standing.lines ≡ lines_at (plain_source text) 4
   pub one_each : length standing.marks ≡ length standing.lines
-  pub short : length text ≤ TEXT_LIMIT
+  pub short : length text ≤ LAID_LIMIT
   pub formed : IsWellFormed (plain_source text)
 
 -- there are as many as the text has, and few rows

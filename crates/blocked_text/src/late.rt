@@ -7,7 +7,7 @@ ghost use Rattle.edit_patch.specs.Fits.{Fits};
 ghost use Rattle.text_rope.specs.Edits.{IsRange, IsReplaceFault};
 ghost use Rattle.wrap_map.specs.Landing.{cuts_of_run, standing_landed};
 ghost use Rattle.wrap_map.specs.Standing.{standing_after};
-ghost use Rattle.wrap_map.specs.Waiting.{IsNextIfAny};
+ghost use Rattle.cell_line.specs.Waiting.{IsNextIfAny};
 ghost use Rattle.blocked_text.specs.Standing.{IsShownAfter, IsShownOf, synced_with};
 
 use crate::text::BlockedText;
@@ -21,7 +21,6 @@ use wrapped_text::followed;
 
 /// A text with blocks, the run that was taken last, with its cuts, and where the lines of now came from since. At first that is
 /// a run of no lines.
-#[derive(Drop)]
 pub struct LateBlocks {
     pub blocked: BlockedText,
     /// The lines of the moment at which the run was taken.
@@ -35,6 +34,19 @@ pub struct LateBlocks {
     ghost within: { run.first + run.count ≤ length taken },
     ghost cut: { map (λ cuts. cuts.items) wraps.items ≡ cuts_of_run taken run width },
     ghost fits: { Fits since taken blocked.text.lines },
+}
+
+impl Drop for LateBlocks {
+    fn drop(self) {
+        let LateBlocks {
+            blocked: _,
+            taken: _,
+            run: _,
+            width: _,
+            wraps: _,
+            since: _,
+        } = self;
+    }
 }
 
 impl LateBlocks {

@@ -5,11 +5,16 @@ use block_map::BlockSnapshot;
 use cell_units::{NoMemory, Rows};
 
 /// Rows of lines, and what is shown of them with blocks between them.
-#[derive(Drop)]
 pub struct BlockRows<R: Rows> {
     pub rows: R,
     pub blocks: BlockSnapshot<R>,
     ghost same: { blocks.lines ≡ R.shown rows },
+}
+
+impl<R: Rows> Drop for BlockRows<R> {
+    fn drop(self) {
+        let BlockRows { rows: _, blocks: _ } = self;
+    }
 }
 
 impl<R: Rows> BlockRows<R> {

@@ -27,12 +27,21 @@ use text_rope::Rope;
 use wrapped_text::{Shown, WrappedText};
 
 /// A text under its maps, its blocks, and what was shown last of both.
-#[derive(Drop)]
 pub struct BlockedText {
     pub text: WrappedText,
     pub map: BlockMap<Shown>,
     pub shown: BlockRows<Shown>,
     ghost stands: { StandsUnder text.rope text.map.standing map } by { Prim.hlevel props },
+}
+
+impl Drop for BlockedText {
+    fn drop(self) {
+        let BlockedText {
+            text: _,
+            map: _,
+            shown: _,
+        } = self;
+    }
 }
 
 /// Shows the blocks as they are now, over a text that is as it was shown last.

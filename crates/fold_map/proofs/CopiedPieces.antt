@@ -28,7 +28,7 @@ pub offset-small : (p : Piece) (n : ℕ) → IsWhole p → n ≤ length p.text �
 offset-small p n w le first last = go p.kind refl where
   go : (k : PieceKind) → p.kind ≡ k → offset_in k p.start n < 2 ^ 32
   go Buffer e = omega (arith, w.buffer e, le, last)
-  go Inlay e = omega (arith, first)
+  go (Inlay id) e = omega (arith, first)
   go Placeholder e = omega (arith, first)
 
 module _ (line : LineBelow) (from to : ℕ) (m : MayCopy line from to) where

@@ -71,14 +71,14 @@ offset-none : (p : Piece) → offset_in p.kind p.start 0 ≡ p.start
 offset-none p = go p.kind where
   go : (k : _) → offset_in k p.start 0 ≡ p.start
   go Buffer = omega arith
-  go Inlay = refl
+  go (Inlay id) = refl
   go Placeholder = refl
 
 offset-more : (p : Piece) (a b : ℕ) → a ≤ b → offset_in p.kind p.start b ≡ offset_in p.kind (offset_in p.kind p.start a) (b - a)
 offset-more p a b le = go p.kind where
   go : (k : _) → offset_in k p.start b ≡ offset_in k (offset_in k p.start a) (b - a)
   go Buffer = omega (arith, le)
-  go Inlay = refl
+  go (Inlay id) = refl
   go Placeholder = refl
 
 cut-all : (p : Piece) → cut_piece 0 (length p.text) p ≡ p

@@ -23,11 +23,20 @@ use std::marker::Model;
 ///
 /// The bounds on the steps of a call are given for each h such that the number of folds is less than 2 * 6^(h + 1). The least
 /// such h is the greatest height of a tree of so many.
-#[derive(Drop)]
 pub struct FoldMap<L: Layer> {
     current: FoldSnapshot<L>,
     shown: FoldSnapshot<L>,
     pending: Option<Shift>,
+}
+
+impl<L: Layer> Drop for FoldMap<L> {
+    fn drop(self) {
+        let FoldMap {
+            current: _,
+            shown: _,
+            pending: _,
+        } = self;
+    }
 }
 
 impl<L: Layer> Model for FoldMap<L> {

@@ -93,7 +93,7 @@ fn offset_in(kind: PieceKind, start: u32, bytes: u32) -> u32
 {
     match kind {
         PieceKind::Buffer => start + bytes,
-        PieceKind::Inlay => start,
+        PieceKind::Inlay(_) => start,
         PieceKind::Placeholder => start,
     }
 }

@@ -1,8 +1,9 @@
 //! What a fold map shows at one moment.
-ghost use Rattle.std.specs.Prelude.{◌≡◌, ◌==◌, ◌≤◌, [], length, IfOk};
+ghost use Rattle.std.specs.Prelude.{◌≡◌, ◌==◌, ◌≤◌, [], length, option_map, slice_get, IfOk};
 ghost use Rattle.std.specs.List.{list_any};
 ghost use Rattle.cell_units.specs.Layers.{place_of};
 ghost use Rattle.cell_units.specs.Text.{IsBoundary, is_boundary};
+ghost use Rattle.joined_folds.specs.Sweeps.{fold_of};
 ghost use Rattle.sum_tree.specs.Bounds.{Searches, TakesAtMost, way};
 ghost use Rattle.text_rope.specs.Bounds.{ways};
 ghost use Rattle.fold_map.specs.Amounts.{line_at};
@@ -12,18 +13,27 @@ use crate::amount::{Amount, ByBytes};
 use crate::spots::spot_at;
 use cell_units::limits::ENTRY_LIMIT;
 use cell_units::{Bias, Layer, NoMemory, Refusal, Steps};
-use mark_tree::RangeTree;
+use mark_tree::{RangeMark, RangeTree};
 use splice_tree::SpliceTree;
 use std::alloc::Global;
 use std::marker::Model;
 use sum_core::NoLoad;
 
 /// A layer with folds over it. Contracts see it as the layer's text and inlays with the folds.
-#[derive(Drop)]
 pub struct FoldSnapshot<L: Layer> {
     pub(crate) layer: L,
     pub(crate) folds: RangeTree,
     pub(crate) splices: SpliceTree<Amount, NoLoad>,
+}
+
+impl<L: Layer> Drop for FoldSnapshot<L> {
+    fn drop(self) {
+        let FoldSnapshot {
+            layer: _,
+            folds: _,
+            splices: _,
+        } = self;
+    }
 }
 
 impl<L: Layer> Model for FoldSnapshot<L> {
@@ -83,10 +93,19 @@ impl<L: Layer> FoldSnapshot<L> {
     }
 
     /// The number of folds.
-    pub(crate) fn count(&self) -> u32
+    pub fn count(&self) -> u32
         ensures { result ≡ length self.now.folds }
     {
         self.folds.len()
+    }
+
+    /// The range and the id of a fold, by its place among them, counted from 0. `None` exactly where there is none.
+    pub fn get(&self, at: u32, steps: &mut Steps) -> Option<RangeMark>
+        ensures fold { option_map fold_of result ≡ slice_get self.now.folds at }
+        ensures counted { steps.old ≤ steps.new }
+        ensures steps { TakesAtMost way (length self.now.folds) steps.old steps.new }
+    {
+        self.folds.get(at, steps)
     }
 
     /// Whether the offset is a boundary of the text.

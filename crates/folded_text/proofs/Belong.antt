@@ -5,7 +5,7 @@ use Rattle.std.specs.Result.{OnErr, OnOk}
 use Rattle.std.proofs.Math.Logic.{∥∥₁_elim}
 use Rattle.std.proofs.lemmas.Bool.{eqb-true}
 use Rattle.cell_units.specs.declared.fault.Refusal.{Refusal}
-use Rattle.cell_units.specs.declared.limits.TheConstants.{TEXT_LIMIT}
+use Rattle.cell_units.specs.declared.limits.TheConstants.{LAID_LIMIT}
 use Rattle.cell_units.specs.declared.place.Bias.{Bias}
 use Rattle.cell_units.specs.Inlaid.{inlays_at}
 use Rattle.cell_units.specs.Lawful.{IsWellFormed}
@@ -104,7 +104,7 @@ belong-removed text inlays folds id after b inlaid' e is =
 
 -- ---- folds
 
-module _ (text : List ℕ) (inlays : InlayState) (folds : FoldState) (b : BelongTogether text inlays folds) (is : IsWellFormed folds.current) (few : length text ≤ TEXT_LIMIT) where
+module _ (text : List ℕ) (inlays : InlayState) (folds : FoldState) (b : BelongTogether text inlays folds) (is : IsWellFormed folds.current) (few : length text ≤ LAID_LIMIT) where
   abbrev s : Source
   s = folds.current
 

@@ -4,7 +4,7 @@ use Rattle.std.proofs.Math.Logic.{∥∥₁_elim}
 use Rattle.std.proofs.lemmas.Result.{on_ok_weaker}
 use Rattle.std.specs.Result.{IfOk, OnOk}
 use Rattle.std.proofs.Props.{props}
-use Rattle.cell_units.specs.declared.limits.TheConstants.{TEXT_LIMIT}
+use Rattle.cell_units.specs.declared.limits.TheConstants.{LAID_LIMIT}
 use Rattle.cell_units.specs.declared.place.Bias.TheVariants.{Right}
 use Rattle.cell_units.specs.declared.place.Shift.{Shift}
 use Rattle.cell_units.specs.Lawful.{AreFolds, IsWellFormed}
@@ -25,7 +25,7 @@ use Rattle.folded_text.proofs.Reaches.{ReachesOver, answer-reaches, meets-rows, 
 use Rattle.folded_text.proofs.Texts.{folds-moved, folds-stand, places-fit, replaced-leads}
 
 module _ (inlays : InlayState) (folds : FoldState) (text : List ℕ) (belong : BelongTogether inlays.current.text inlays folds) (is-inlaid : IsInlaid inlays.current) (old-formed : IsWellFormed folds.current)
-    (shift : Option Shift) (replaced : IsReplacedIfAny inlays.current.text text (option_map reach_of shift)) (short : length text ≤ TEXT_LIMIT) where
+    (shift : Option Shift) (replaced : IsReplacedIfAny inlays.current.text text (option_map reach_of shift)) (short : length text ≤ LAID_LIMIT) where
   abbrev old : Source
   old = folds.current
 

@@ -1,4 +1,9 @@
+pub mod AnsweredLines
 pub mod Belong
 pub mod Follows
+pub mod LedLines
+pub mod MetRuns
+pub mod PlaceTexts
 pub mod Reaches
 pub mod Texts
+pub mod ToldMaps

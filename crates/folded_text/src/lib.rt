@@ -3,7 +3,9 @@
 #![tactic(auto)]
 
 mod callers;
+mod laws;
 mod text;
 
 pub use callers::show;
+pub use laws::answer_laws;
 pub use text::{FoldedText, Shown};

@@ -25,12 +25,21 @@ use text_rope::Rope;
 pub type Shown = FoldSnapshot<InlaySnapshot>;
 
 /// A text under the map of its inlays, with the map of folds over that.
-#[derive(Drop)]
 pub struct FoldedText {
     pub rope: Rope,
     pub inlays: InlayMap,
     pub folds: FoldMap<InlaySnapshot>,
     ghost belong: { BelongTogether rope inlays folds },
+}
+
+impl Drop for FoldedText {
+    fn drop(self) {
+        let FoldedText {
+            rope: _,
+            inlays: _,
+            folds: _,
+        } = self;
+    }
 }
 
 /// The text with another in the place of a range, and the replacement that leads to it. It is refused as the rope refuses it.

@@ -4,7 +4,7 @@ use Rattle.std.specs.List.{position_or_len, slice_get}
 use Rattle.std.proofs.lemmas.Bool.Decides.{nat_tests}
 use Rattle.std.proofs.lemmas.List.Sums.{prefix_len-le-length}
 use Rattle.std.proofs.lemmas.Option.{get_or_from_slice_get, slice_get_within}
-use Rattle.cell_units.specs.declared.limits.TheConstants.{INLAY_LIMIT, TEXT_LIMIT}
+use Rattle.cell_units.specs.declared.limits.TheConstants.{INLAY_LIMIT, LAID_LIMIT}
 use Rattle.cell_units.specs.Layers.{Source}
 use Rattle.cell_units.specs.Text.{clean}
 use Rattle.cell_units.specs.Lawful.{AreInlays, IsInlayOf}
@@ -86,7 +86,7 @@ splice-found s at m base gap old new found here g o n =
     splice-get s.text 0 s.inlays at (inlay_of m) found.got
     ∙ (λ i. Some (record { gap = (sym (g ∙ ap (λ (b : ℕ). amount_between s.text b m.offset) here)) i; old = sym o i; new = sym n i; load = record {} }))
 
-pub splice-fits : (s : Source) (at : ℕ) (m : Mark (List ℕ)) (base : ℕ) (gap new : Amount) → AreInlays s.text s.inlays → length s.text ≤ TEXT_LIMIT → IsFound s at m → base ≡ base_at 0 s.inlays at
+pub splice-fits : (s : Source) (at : ℕ) (m : Mark (List ℕ)) (base : ℕ) (gap new : Amount) → AreInlays s.text s.inlays → length s.text ≤ LAID_LIMIT → IsFound s at m → base ≡ base_at 0 s.inlays at
     → gap ≡ amount_between s.text base m.offset → new ≡ amount_of (clean m.load) → AmountFits (together gap new)
 splice-fits s at m base gap new are short found here g n =
     subst (λ (p : Amount × Amount). AmountFits (together p.0 p.1)) (λ i. ((sym (g ∙ ap (λ (b : ℕ). amount_between s.text b m.offset) here)) i, sym n i))

@@ -3,7 +3,7 @@ use Rattle.std.proofs.Common.{◌≡◌, ◌≢◌, ℕ, ◌+◌, ◌<◌, ◌�
 use Rattle.std.specs.List.{flat_map, find, list_any}
 use Rattle.std.proofs.lemmas.Bool.Decides.{nat_tests}
 use Rattle.std.proofs.lemmas.List.{length-drop, length-take}
-use Rattle.cell_units.specs.declared.limits.TheConstants.{ENTRY_LIMIT, INLAY_LIMIT, TEXT_LIMIT}
+use Rattle.cell_units.specs.declared.limits.TheConstants.{ENTRY_LIMIT, INLAY_LIMIT, LAID_LIMIT}
 use Rattle.cell_units.specs.declared.place.Bias.{Bias}
 use Rattle.cell_units.specs.declared.place.Shift.{Shift}
 use Rattle.cell_units.specs.declared.place.Bias.TheVariants.{Left, Right}
@@ -175,7 +175,7 @@ left-moved s text rope is are order leads =
 -- ---- sizes
 
 -- how much all inlays over a text can show
-pub shown-small : (text : List ℕ) (is : List Inlay) (bias : Bias) (o : ℕ) → AreInlays text is → length text ≤ TEXT_LIMIT → o ≤ length text → place_of (inlay_source text is) o bias < 2 ^ 28
+pub shown-small : (text : List ℕ) (is : List Inlay) (bias : Bias) (o : ℕ) → AreInlays text is → length text ≤ LAID_LIMIT → o ≤ length text → place_of (inlay_source text is) o bias < 2 ^ 28
 shown-small text is bias o are short le = place-limit text bias o is are short le
 
 -- inlays that differ at an offset alone leave its left place, in sources
@@ -195,7 +195,7 @@ ordered-pending (Some f) s e = subst (λ (r : Reach). r.start ≤ r.end) (some-s
   some-same x y h = cc
 
 -- what is shown has no more places than this
-pub places-small : (s : Source) → s.folds ≡ [] → AreInlays s.text s.inlays → length s.text ≤ TEXT_LIMIT → length (layer_places s) < 2 ^ 28
+pub places-small : (s : Source) → s.folds ≡ [] → AreInlays s.text s.inlays → length s.text ≤ LAID_LIMIT → length (layer_places s) < 2 ^ 28
 places-small s none are short =
     let n = length s.text in
     let is = source-is s none in

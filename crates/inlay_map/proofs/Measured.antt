@@ -4,7 +4,7 @@ use Rattle.std.specs.List.{slice_get}
 use Rattle.std.proofs.lemmas.List.{length-take}
 use Rattle.std.proofs.lemmas.List.Sums.{count_by-le-length}
 use Rattle.std.proofs.lemmas.Option.{slice_get_within}
-use Rattle.cell_units.specs.declared.limits.TheConstants.{TEXT_LIMIT}
+use Rattle.cell_units.specs.declared.limits.TheConstants.{LAID_LIMIT}
 use Rattle.cell_units.specs.Layers.{Source}
 use Rattle.cell_units.specs.Record.{Inlay}
 use Rattle.cell_units.specs.Text.{is_feed, row_of}
@@ -47,7 +47,7 @@ end-next text base [] n lt = absurd (omega arith)
 end-next text base (i ∷ is) zero lt = refl
 end-next text base (i ∷ is) (suc n) lt = end-next text i.offset is n (omega arith)
 
-pub next-before : (s : Source) (at : ℕ) (before : Amount) (p : Piece Amount NoLoad) → IsSpread s.text 0 s.inlays → length s.text ≤ TEXT_LIMIT → before ≡ before_at s at → slice_get (splices_from s.text 0 s.inlays) at ≡ Some p
+pub next-before : (s : Source) (at : ℕ) (before : Amount) (p : Piece Amount NoLoad) → IsSpread s.text 0 s.inlays → length s.text ≤ LAID_LIMIT → before ≡ before_at s at → slice_get (splices_from s.text 0 s.inlays) at ≡ Some p
     → AmountFits (together before p.gap) × (together before p.gap ≡ before_at s (at + 1))
 next-before s at before p spread short is got =
     let base = base_at 0 s.inlays at in
@@ -60,7 +60,7 @@ next-before s at before p spread short is got =
     let bytes : before.bytes + p.gap.bytes ≡ base_at 0 s.inlays (at + 1) - 0 = omega (arith, ap (λ (a : Amount). a.bytes) is, ap (λ (a : Amount). a.bytes) gap, ends.0, next) in
     let feeds : before.feeds + p.gap.feeds ≡ row_of s.text (base_at 0 s.inlays (at + 1)) - row_of s.text 0 =
     omega (arith, ap (λ (a : Amount). a.feeds) is, ap (λ (a : Amount). a.feeds) gap, row_of-le s.text base end ends.0, ap (row_of s.text) next, first) in
-    let low : row_of s.text (base_at 0 s.inlays (at + 1)) ≤ TEXT_LIMIT =
+    let low : row_of s.text (base_at 0 s.inlays (at + 1)) ≤ LAID_LIMIT =
     omega (arith, count_by-le-length is_feed (take (base_at 0 s.inlays (at + 1)) s.text), length-take (base_at 0 s.inlays (at + 1)) s.text, short) in (
       (omega (arith, bytes, next, ends.1, short), omega (arith, feeds, low)),
       λ i. record { bytes = bytes i; feeds = feeds i },

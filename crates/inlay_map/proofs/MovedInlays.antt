@@ -6,7 +6,7 @@ use Rattle.std.specs.Str.{IsUtf8}
 use Rattle.std.proofs.lemmas.Bool.{cases_lt, eq-eqb}
 use Rattle.std.proofs.lemmas.Bool.Decides.{nat_tests}
 use Rattle.std.proofs.lemmas.Option.{slice_get_cases}
-use Rattle.cell_units.specs.declared.limits.TheConstants.{INLAY_LIMIT, TEXT_LIMIT}
+use Rattle.cell_units.specs.declared.limits.TheConstants.{INLAY_LIMIT, LAID_LIMIT}
 use Rattle.cell_units.specs.declared.place.Bias.{Bias}
 use Rattle.cell_units.specs.declared.place.Shift.{Shift}
 use Rattle.cell_units.specs.Anchor.{move}
@@ -45,7 +45,7 @@ moved-are s text new is are at =
 
 -- ---- their marks
 
-move-small : (p : ℕ) (bias : Bias) (a b n : ℕ) → a ≤ b → p ≤ TEXT_LIMIT → a + n ≤ TEXT_LIMIT → move p bias a b n < 2 ^ 32
+move-small : (p : ℕ) (bias : Bias) (a b n : ℕ) → a ≤ b → p ≤ LAID_LIMIT → a + n ≤ LAID_LIMIT → move p bias a b n < 2 ^ 32
 move-small p bias a b n order small less = elim (cases_lt p a) [
   | inl before ↦ omega (arith, move-before p bias a b n before, small)
   | inr from ↦ elim (cases_lt b p) [
@@ -54,7 +54,7 @@ move-small p bias a b n order small less = elim (cases_lt p a) [
   ]
 ]
 
-pub offsets-fit : (s : Shift) (text : List ℕ) (ms : List (Mark (List ℕ))) → AreInlays text (map inlay_of ms) → length text ≤ TEXT_LIMIT → s.start + s.count ≤ TEXT_LIMIT
+pub offsets-fit : (s : Shift) (text : List ℕ) (ms : List (Mark (List ℕ))) → AreInlays text (map inlay_of ms) → length text ≤ LAID_LIMIT → s.start + s.count ≤ LAID_LIMIT
     → All (λ m. m.offset < 2 ^ 32) (map (marks.move_mark s) ms)
 offsets-fit s text ms are short less =
     All-from_Every (λ (m : Mark (List ℕ)). m.offset < 2 ^ 32) (map (marks.move_mark s) ms) (each ms (Every-from_All (IsInlayOf text) (map inlay_of ms) are.each))

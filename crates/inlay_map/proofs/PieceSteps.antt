@@ -22,8 +22,8 @@ pub record Closed (t : Token) (o : ℕ) (rest : List Token) : Type 0 where
 abbrev text_piece : ℕ → List ℕ → Piece
 text_piece o bs = record { kind = Buffer; text = bs; start = o; end = o + length bs }
 
-abbrev inlay_piece : ℕ → List ℕ → Piece
-inlay_piece o bs = record { kind = Inlay; text = bs; start = o; end = o }
+abbrev inlay_piece : ℕ → ℕ → List ℕ → Piece
+inlay_piece id o bs = record { kind = Inlay id; text = bs; start = o; end = o }
 
 alone : (t u : Token) (us : List Token) (e : ℕ) (p : Piece) → Closes t u us → offset_of u ≡ e
     → ((ps : List Piece) → piece_before false t e ps ≡ p ∷ ps) → piece_before (is_one_piece t u) t e [] ≡ p ∷ []
@@ -57,7 +57,7 @@ text-run o (b ∷ d ∷ ds) rest some c =
     ap (piece_before true (Byte o b) (o + 1)) (text-run (o + 1) (d ∷ ds) rest (omega arith) next)
     ∙ (λ i. record { kind = Buffer; text = b ∷ d ∷ ds; start = o; end = end i } ∷ pieces_of rest)
 
-inlay-first : (o id b : ℕ) (ps : List Piece) → piece_before false (InlayByte o id b) o ps ≡ inlay_piece o (b ∷ []) ∷ ps
+inlay-first : (o id b : ℕ) (ps : List Piece) → piece_before false (InlayByte o id b) o ps ≡ inlay_piece id o (b ∷ []) ∷ ps
 inlay-first o id b [] = refl
 inlay-first o id b (p ∷ ps) = refl
 
@@ -69,12 +69,12 @@ inlay-closes o p b c id u us (inr e) = inr e
 
 -- a run of one inlay's bytes is one piece
 pub inlay-run : (o id : ℕ) (bs : List ℕ) (rest : List Token) → 0 < length bs → Closed (InlayByte 0 id 0) o rest
-    → pieces_of (map (λ b. InlayByte o id b) bs ++ rest) ≡ inlay_piece o bs ∷ pieces_of rest
+    → pieces_of (map (λ b. InlayByte o id b) bs ++ rest) ≡ inlay_piece id o bs ∷ pieces_of rest
 inlay-run o id [] rest some c = absurd (omega arith)
 inlay-run o id (b ∷ []) rest some c =
     (λ i. pieces_of (InlayByte o id b ∷ c.is i))
-    ∙ alone (InlayByte o id b) c.head c.more o (inlay_piece o (b ∷ [])) (inlay-closes 0 o 0 b id c.head c.more c.closes) c.at (inlay-first o id b) refl
-    ∙ (λ i. inlay_piece o (b ∷ []) ∷ pieces_of (sym c.is i))
+    ∙ alone (InlayByte o id b) c.head c.more o (inlay_piece id o (b ∷ [])) (inlay-closes 0 o 0 b id c.head c.more c.closes) c.at (inlay-first o id b) refl
+    ∙ (λ i. inlay_piece id o (b ∷ []) ∷ pieces_of (sym c.is i))
 inlay-run o id (b ∷ d ∷ ds) rest some c =
     let one : is_one_piece (InlayByte o id b) (InlayByte o id d) ≡ true = eq-eqb id id refl in
     (λ i. piece_before (one i) (InlayByte o id b) o (inlay-run o id (d ∷ ds) rest (omega arith) c i))

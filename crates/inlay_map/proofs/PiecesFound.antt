@@ -6,7 +6,7 @@ use Rattle.std.proofs.lemmas.Str.{IsCharBoundary-end}
 use Rattle.std.proofs.lemmas.Bool.{cases_lt}
 use Rattle.std.proofs.lemmas.List.{get_or-map, length-drop, length-map, length-take}
 use Rattle.std.proofs.lemmas.Option.{slice_get-get_or}
-use Rattle.cell_units.specs.declared.limits.TheConstants.{TEXT_LIMIT}
+use Rattle.cell_units.specs.declared.limits.TheConstants.{LAID_LIMIT}
 use Rattle.cell_units.specs.declared.piece.Piece.{Piece}
 use Rattle.cell_units.specs.declared.piece.PieceKind.TheVariants as Kinds
 use Rattle.cell_units.specs.BufferLines.{line_end, line_start}
@@ -31,7 +31,7 @@ use Rattle.inlay_map.proofs.ShownBoundaries.{cut-end, cut-inlay, inlay-boundary,
 use Rattle.inlay_map.proofs.SoughtSpots.{AreNumbers, IsThere}
 use Rattle.inlay_map.proofs.Spread.{spread}
 
-module _ (v : Source) (none : v.folds ≡ []) (are : AreInlays v.text v.inlays) (short : length v.text ≤ TEXT_LIMIT) (is-text : IsText v.text) where
+module _ (v : Source) (none : v.folds ≡ []) (are : AreInlays v.text v.inlays) (short : length v.text ≤ LAID_LIMIT) (is-text : IsText v.text) where
   -- the part of the source is that of its text with its inlays
   part-same : (place end : ℕ) → part_of (inlay_source v.text v.inlays) place end ≡ part_of v place end
   part-same place end = ap (λ s. part_of s place end) (source-is v none)
@@ -109,12 +109,12 @@ module _ (v : Source) (none : v.folds ≡ []) (are : AreInlays v.text v.inlays) 
         subst (IsCharBoundary (clean t.inlay.text)) e (IsCharBoundary-end (clean t.inlay.text))
 
   -- a piece of an inlay
-  pub inlay-next : (place end to : ℕ) (spot : Spot) (bytes : List ℕ) (t : IsThere v spot) → AreNumbers v spot → spot.before.upper.bytes ≤ place → spot.gap.bytes ≤ place - spot.before.upper.bytes
+  pub inlay-next : (place end to id : ℕ) (spot : Spot) (bytes : List ℕ) (t : IsThere v spot) → id ≡ t.inlay.id → AreNumbers v spot → spot.before.upper.bytes ≤ place → spot.gap.bytes ≤ place - spot.before.upper.bytes
       → place - spot.before.upper.bytes - spot.gap.bytes < length (clean t.inlay.text) → place < end → IsBoundary (shown_text v) end
       → to ≡ min (length (clean t.inlay.text)) (place - spot.before.upper.bytes - spot.gap.bytes + (end - place))
       → bytes ≡ take (to - (place - spot.before.upper.bytes - spot.gap.bytes)) (drop (place - spot.before.upper.bytes - spot.gap.bytes) (clean t.inlay.text))
-      → IsNextPiece v place end (record { kind = Kinds.Inlay; text = bytes; start = spot.before.lower.bytes + spot.gap.bytes; end = spot.before.lower.bytes + spot.gap.bytes })
-  inlay-next place end to spot bytes t n from past lt some b st is =
+      → IsNextPiece v place end (record { kind = Kinds.Inlay id; text = bytes; start = spot.before.lower.bytes + spot.gap.bytes; end = spot.before.lower.bytes + spot.gap.bytes })
+  inlay-next place end to id spot bytes t own n from past lt some b st is =
       let shown = clean t.inlay.text in
       let r = place - spot.before.upper.bytes - spot.gap.bytes in
       let o = end_at v.text v.inlays spot.index in
@@ -123,10 +123,10 @@ module _ (v : Source) (none : v.folds ≡ []) (are : AreInlays v.text v.inlays) 
       let size : l ≡ to - r = omega (arith, st, lt, some) in
       let long : length bytes ≡ l = omega (arith, ap (λ (x : List ℕ). length x) is, length-take (to - r) (drop r shown), length-drop r shown, size, st, lt) in
       let got : take l (drop r shown) ≡ bytes = (λ i. take (size i) (drop r shown)) ∙ sym is in
-      next-is place end l (record { kind = Kinds.Inlay; text = bytes; start = spot.before.lower.bytes + spot.gap.bytes; end = spot.before.lower.bytes + spot.gap.bytes })
-      (record { kind = Kinds.Inlay; text = take l (drop r shown); start = o; end = o })
+      next-is place end l (record { kind = Kinds.Inlay id; text = bytes; start = spot.before.lower.bytes + spot.gap.bytes; end = spot.before.lower.bytes + spot.gap.bytes })
+      (record { kind = Kinds.Inlay t.inlay.id; text = take l (drop r shown); start = o; end = o })
       (inlay-piece v.text v.inlays spot.index (spread v.text v.inlays are) are t.inlay place end r t.got (omega (arith, n.upper, n.base, n.end, from, past)) lt some)
-      (λ i. record { kind = Kinds.Inlay; text = got i; start = there i; end = there i })
+      (λ i. record { kind = Kinds.Inlay (sym own i); text = got i; start = there i; end = there i })
       long (omega (arith, lt, some)) (omega arith) (go (cases_lt (end - place) (length shown - r)))
     where
       go : ((end - place) < (length (clean t.inlay.text) - (place - spot.before.upper.bytes - spot.gap.bytes))) ⊎ ((length (clean t.inlay.text) - (place - spot.before.upper.bytes - spot.gap.bytes)) ≤ (end - place))
@@ -156,7 +156,7 @@ pub record IsRange (v : Source) (line : ℕ) : Type 0 where
   pub order : line_start (shown_text v) line ≤ line_end (shown_text v) line
   pub pieces : slice_get (shown_lines v) line ≡ Some (pieces_of (part_of v (line_start (shown_text v) line) (line_end (shown_text v) line)))
 
-pub range-is : (v : Source) (none : v.folds ≡ []) (are : AreInlays v.text v.inlays) (short : length v.text ≤ TEXT_LIMIT) (is-text : IsText v.text) (line : ℕ) → line < length (shown_lines v) → IsRange v line
+pub range-is : (v : Source) (none : v.folds ≡ []) (are : AreInlays v.text v.inlays) (short : length v.text ≤ LAID_LIMIT) (is-text : IsText v.text) (line : ℕ) → line < length (shown_lines v) → IsRange v line
 range-is v none are short is-text line lt =
     let shown = shown_text v in
     let utf8 = shown-utf8 v none are short is-text in

@@ -110,7 +110,7 @@ take-inlay o id (suc r) (b ∷ bs) = ap (λ l. InlayByte o id b ∷ l) (take-inl
 -- the same for a run of an inlay
 pub inlay-part : (o id m : ℕ) (xs : List ℕ) (rest : List Token) → 0 < m → 0 < length xs → Closed (InlayByte 0 id 0) o rest
     → pieces_of (take (m + 1) (inlay_tokens o id xs ++ rest))
-    ≡ record { kind = Kinds.Inlay; text = take (min (length xs) m) xs; start = o; end = o } ∷ pieces_of (take (m + 1 - min (length xs) m) (drop (min (length xs) m) (inlay_tokens o id xs ++ rest)))
+    ≡ record { kind = Kinds.Inlay id; text = take (min (length xs) m) xs; start = o; end = o } ∷ pieces_of (take (m + 1 - min (length xs) m) (drop (min (length xs) m) (inlay_tokens o id xs ++ rest)))
 inlay-part o id m xs rest some more c =
     let l = min (length xs) m in
     let long : length (take l xs) ≡ l = omega (arith, length-take l xs) in
@@ -321,7 +321,7 @@ module _ (text : List ℕ) (is : List Inlay) (n : ℕ) (s : IsSpread text 0 is) 
   -- a piece of an inlay
   pub inlay-piece : (i : Inlay) (place end' r : ℕ) → slice_get is n ≡ Some i → place ≡ (sum_before text 0 is n).upper.bytes + (end - base) + r → r < length (clean i.text) → place < end'
       → pieces_of (part_of source place end')
-      ≡ record { kind = Kinds.Inlay; text = take (min (length (clean i.text) - r) (end' - place)) (drop r (clean i.text)); start = end; end = end }
+      ≡ record { kind = Kinds.Inlay i.id; text = take (min (length (clean i.text) - r) (end' - place)) (drop r (clean i.text)); start = end; end = end }
       ∷ pieces_of (part_of source (place + min (length (clean i.text) - r) (end' - place)) end')
   inlay-piece i place end' r found e lt some =
       let m = end' - place in
@@ -347,8 +347,8 @@ module _ (text : List ℕ) (is : List Inlay) (n : ℕ) (s : IsSpread text 0 is) 
       (λ j f. (apart-ids is n i j are.distinct found f, some-shown (suc n) j (got-next is n j f))) in
       (λ k. pieces_of (take (size k) (dropped k)))
       ∙ inlay-part i.offset i.id m xs tl (omega (arith, some)) (omega (arith, left, lt)) closes
-      ∙ (λ k. record { kind = Kinds.Inlay; text = take (min (left k) m) xs; start = sym o k; end = sym o k } ∷ pieces_of (take (m + 1 - min (left k) m) (drop (min (left k) m) (inlay_tokens i.offset i.id xs ++ tl))))
-      ∙ (λ k. record { kind = Kinds.Inlay; text = take l xs; start = end; end = end } ∷ pieces_of (next-part place l end' (inlay_tokens i.offset i.id xs ++ tl) dropped (omega arith) k))
+      ∙ (λ k. record { kind = Kinds.Inlay i.id; text = take (min (left k) m) xs; start = sym o k; end = sym o k } ∷ pieces_of (take (m + 1 - min (left k) m) (drop (min (left k) m) (inlay_tokens i.offset i.id xs ++ tl))))
+      ∙ (λ k. record { kind = Kinds.Inlay i.id; text = take l xs; start = end; end = end } ∷ pieces_of (next-part place l end' (inlay_tokens i.offset i.id xs ++ tl) dropped (omega arith) k))
     where
       next-spread : IsSpread text i.offset (drop (suc n) is)
       next-spread = subst (λ (k : ℕ). IsSpread text k (drop (suc n) is)) (base-behind 0 is n i found) (cut-at text 0 is (suc n) s (omega arith)).spread

@@ -9,7 +9,7 @@ use Rattle.cell_units.specs.Record.{Inlay}
 use Rattle.cell_units.specs.Layers.{inlay_source, place_of}
 use Rattle.cell_units.specs.Laws.{inlaid_bytes}
 use Rattle.cell_units.specs.Lawful.{AreInlays}
-use Rattle.cell_units.specs.declared.limits.TheConstants.{INLAY_LIMIT, TEXT_LIMIT}
+use Rattle.cell_units.specs.declared.limits.TheConstants.{INLAY_LIMIT, LAID_LIMIT}
 use Rattle.cell_units.proofs.Returns.{clean-not_longer}
 use Rattle.cell_units.proofs.InlaidPlaces.{left-is, right-is}
 use Rattle.splice_tree.specs.Splices.{measured, to_upper, is_behind}
@@ -101,10 +101,10 @@ module _ (text : List ℕ) where
     go false r = omega (arith, r)
 
   -- how much can be shown at most
-  pub place-limit : (bias : Bias) (x : ℕ) (is : List Inlay) → AreInlays text is → length text ≤ TEXT_LIMIT → x ≤ length text → place_of (inlay_source text is) x bias < 2 ^ 28
+  pub place-limit : (bias : Bias) (x : ℕ) (is : List Inlay) → AreInlays text is → length text ≤ LAID_LIMIT → x ≤ length text → place_of (inlay_source text is) x bias < 2 ^ 28
   place-limit Left x is are short le = omega (arith, left-is text is x le, bytes-most (stands_before Left x) 0 is (spread text is are), are.few)
   place-limit Right x is are short le = omega (arith, right-is text is x le, bytes-most (stands_before Right x) 0 is (spread text is are), are.few)
 
   -- so every place is a number of 32 bits
-  pub place-small : (bias : Bias) (x : ℕ) (is : List Inlay) → AreInlays text is → length text ≤ TEXT_LIMIT → x ≤ length text → place_of (inlay_source text is) x bias < 2 ^ 32
+  pub place-small : (bias : Bias) (x : ℕ) (is : List Inlay) → AreInlays text is → length text ≤ LAID_LIMIT → x ≤ length text → place_of (inlay_source text is) x bias < 2 ^ 32
   place-small bias x is are short le = omega (arith, place-limit bias x is are short le)

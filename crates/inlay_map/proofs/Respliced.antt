@@ -4,7 +4,7 @@ use Rattle.std.specs.List.{slice_get}
 use Rattle.std.proofs.lemmas.List.{drop_all, get_or-drop, length-drop, length-take, take_more}
 use Rattle.std.proofs.lemmas.List.Sums.{count_by-le-length}
 use Rattle.std.proofs.lemmas.Option.{get_or_from_slice_get, slice_get_within}
-use Rattle.cell_units.specs.declared.limits.TheConstants.{TEXT_LIMIT}
+use Rattle.cell_units.specs.declared.limits.TheConstants.{LAID_LIMIT}
 use Rattle.cell_units.specs.Record.{Inlay}
 use Rattle.cell_units.specs.Text.{clean, is_feed, row_of}
 use Rattle.cell_units.proofs.Returns.{clean-not_longer}
@@ -47,8 +47,8 @@ run-more ps run from at p le e is =
 
 -- ---- sizes
 
-module _ (text : List ℕ) (short : length text ≤ TEXT_LIMIT) where
-  row-small : (o : ℕ) → row_of text o ≤ TEXT_LIMIT
+module _ (text : List ℕ) (short : length text ≤ LAID_LIMIT) where
+  row-small : (o : ℕ) → row_of text o ≤ LAID_LIMIT
   row-small o = omega (arith, count_by-le-length is_feed (take o text), length-take o text, short)
 
   pub fits-at : (base : ℕ) (is : List Inlay) (k : ℕ) (p : Piece Amount NoLoad) → IsSpread text base is → slice_get (splices_from text base is) k ≡ Some p → AmountFits (together p.gap p.old) × AmountFits (together p.gap p.new)

@@ -4,7 +4,7 @@ use Rattle.std.specs.Str.{IsCharBoundary, IsUtf8}
 use Rattle.std.proofs.lemmas.List.{drop-take, length-drop, length-take, take-take, take_all}
 use Rattle.std.proofs.lemmas.Str.{IsCharBoundary-from_take, IsUtf8-append, IsUtf8-drop, IsUtf8-nil, IsUtf8-take}
 use Rattle.std.proofs.Math.Seq.{take-add, take-append-add, take-append_seam}
-use Rattle.cell_units.specs.declared.limits.TheConstants.{TEXT_LIMIT}
+use Rattle.cell_units.specs.declared.limits.TheConstants.{LAID_LIMIT}
 use Rattle.cell_units.specs.Lawful.{AreInlays, IsInlayOf}
 use Rattle.cell_units.specs.Layers.{Source, inlay_source, shown_text}
 use Rattle.cell_units.specs.Record.{Inlay}
@@ -85,7 +85,7 @@ module _ (text : List ℕ) (utf8 : IsUtf8 text) where
       (IsUtf8-append gap (clean i.text ++ take k rest) (between base i.offset s.0 b fits.0.boundary)
       (IsUtf8-append (clean i.text) (take k rest) (clean-utf8 i.text fits.0.utf8) (front-utf8 i.offset is n fits.0.boundary s.3 fits.1)))
 
-module _ (v : Source) (none : v.folds ≡ []) (are : AreInlays v.text v.inlays) (short : length v.text ≤ TEXT_LIMIT) (is-text : IsText v.text) where
+module _ (v : Source) (none : v.folds ≡ []) (are : AreInlays v.text v.inlays) (short : length v.text ≤ LAID_LIMIT) (is-text : IsText v.text) where
   abbrev sp : IsSpread v.text 0 v.inlays
   sp = spread v.text v.inlays are
 

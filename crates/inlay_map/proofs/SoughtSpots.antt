@@ -4,7 +4,7 @@ use Rattle.std.specs.List.{slice_get}
 use Rattle.std.proofs.lemmas.List.{length-drop, length-take}
 use Rattle.std.proofs.lemmas.List.Sums.{count_by-le-length}
 use Rattle.std.proofs.lemmas.Option.{slice_get_within}
-use Rattle.cell_units.specs.declared.limits.TheConstants.{INLAY_LIMIT, TEXT_LIMIT}
+use Rattle.cell_units.specs.declared.limits.TheConstants.{INLAY_LIMIT, LAID_LIMIT}
 use Rattle.cell_units.specs.declared.place.Bias.{Bias}
 use Rattle.cell_units.specs.declared.place.Bias.TheVariants.{Left, Right}
 use Rattle.cell_units.specs.BufferLines.{line_start}
@@ -55,7 +55,11 @@ pub record IsThere (v : Source) (spot : Spot) : Type 0 where
 pub text-there : (v w : Source) (spot : Spot) (t : IsThere v spot) (text : List ℕ) → w ≡ v → ((i : Inlay) → slice_get w.inlays spot.index ≡ Some i → text ≡ clean i.text) → text ≡ clean t.inlay.text
 text-there v w spot t text e f = f t.inlay (ap (λ (s : Source). slice_get s.inlays spot.index) e ∙ t.got)
 
-module _ (v : Source) (none : v.folds ≡ []) (are : AreInlays v.text v.inlays) (short : length v.text ≤ TEXT_LIMIT) where
+-- its id, in an equal source
+pub id-there : (v w : Source) (spot : Spot) (t : IsThere v spot) (id : ℕ) → w ≡ v → ((i : Inlay) → slice_get w.inlays spot.index ≡ Some i → id ≡ i.id) → id ≡ t.inlay.id
+id-there v w spot t id e f = f t.inlay (ap (λ (s : Source). slice_get s.inlays spot.index) e ∙ t.got)
+
+module _ (v : Source) (none : v.folds ≡ []) (are : AreInlays v.text v.inlays) (short : length v.text ≤ LAID_LIMIT) where
   abbrev pub sp : IsSpread v.text 0 v.inlays
   sp = spread v.text v.inlays are
 

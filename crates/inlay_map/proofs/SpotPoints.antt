@@ -1,6 +1,6 @@
 -- The point of a place whose line begins in the text that it stands in.
 use Rattle.std.proofs.Common.{◌≡◌, ℕ, ◌+◌, ◌-◌, ◌<◌, ◌≤◌, [], ◌∙◌, length, ap, arith, refl}
-use Rattle.cell_units.specs.declared.limits.TheConstants.{TEXT_LIMIT}
+use Rattle.cell_units.specs.declared.limits.TheConstants.{LAID_LIMIT}
 use Rattle.cell_units.specs.declared.place.Point.{Point}
 use Rattle.cell_units.specs.BufferLines.{line_start}
 use Rattle.cell_units.specs.Lawful.{AreInlays}
@@ -14,7 +14,7 @@ use Rattle.inlay_map.specs.Spots.{end_at}
 use Rattle.inlay_map.proofs.SoughtSpots.{AreNumbers, row-text, start-text}
 use Rattle.inlay_map.proofs.SourceLayers.{point-is}
 
-module _ (v : Source) (none : v.folds ≡ []) (are : AreInlays v.text v.inlays) (short : length v.text ≤ TEXT_LIMIT) where
+module _ (v : Source) (none : v.folds ≡ []) (are : AreInlays v.text v.inlays) (short : length v.text ≤ LAID_LIMIT) where
   pub point-text : (place : ℕ) (spot : Spot) (p : Point) → AreNumbers v spot → spot.before.upper.bytes ≤ place → place ≤ length (shown_text v) → place - spot.before.upper.bytes ≤ spot.gap.bytes
       → p ≡ point_of v.text (spot.before.lower.bytes + (place - spot.before.upper.bytes)) → 0 < p.row - spot.before.lower.feeds
       → record { row = spot.before.upper.feeds + (p.row - spot.before.lower.feeds); column = p.column } ≡ point_of (shown_text v) place

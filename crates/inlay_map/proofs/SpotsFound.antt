@@ -4,7 +4,7 @@ use Rattle.std.specs.List.{slice_get}
 use Rattle.std.proofs.lemmas.List.{length-drop, length-take}
 use Rattle.std.proofs.lemmas.List.Sums.{count_by-le-length}
 use Rattle.std.proofs.lemmas.Option.{slice_get_past}
-use Rattle.cell_units.specs.declared.limits.TheConstants.{TEXT_LIMIT}
+use Rattle.cell_units.specs.declared.limits.TheConstants.{LAID_LIMIT}
 use Rattle.cell_units.specs.declared.place.Bias.{Bias}
 use Rattle.cell_units.specs.declared.place.Bias.TheVariants.{Right}
 use Rattle.cell_units.specs.Lawful.{AreInlays}
@@ -92,7 +92,7 @@ pub record IsFeedSum (text : List ℕ) (is : List Inlay) (lower upper : ℕ) : T
   pub feeds : count_by is_feed (shown_text (inlay_source text is)) ≡ row_of text (length text) + (upper - lower)
   pub small : count_by is_feed (shown_text (inlay_source text is)) < 2 ^ 28
 
-pub feed-sum : (text : List ℕ) (is : List Inlay) → AreInlays text is → length text ≤ TEXT_LIMIT
+pub feed-sum : (text : List ℕ) (is : List Inlay) → AreInlays text is → length text ≤ LAID_LIMIT
     → IsFeedSum text is (total (none nothing) (both together) (piece_sum together) (splices_from text 0 is)).lower.feeds (total (none nothing) (both together) (piece_sum together) (splices_from text 0 is)).upper.feeds
 feed-sum text is are short =
     let s = spread text is are in
@@ -112,7 +112,7 @@ pub record IsByteSum (text : List ℕ) (is : List Inlay) (lower upper : ℕ) : T
   pub bytes : length (shown_text (inlay_source text is)) ≡ upper + (length text - lower)
   pub small : length (shown_text (inlay_source text is)) < 2 ^ 28
 
-pub byte-sum : (text : List ℕ) (is : List Inlay) → AreInlays text is → length text ≤ TEXT_LIMIT
+pub byte-sum : (text : List ℕ) (is : List Inlay) → AreInlays text is → length text ≤ LAID_LIMIT
     → IsByteSum text is (total (none nothing) (both together) (piece_sum together) (splices_from text 0 is)).lower.bytes (total (none nothing) (both together) (piece_sum together) (splices_from text 0 is)).upper.bytes
 byte-sum text is are short =
     let n = length is in

@@ -3,7 +3,7 @@ use Rattle.std.proofs.Common.{◌≡◌, ℕ, ◌+◌, ◌-◌, ◌*◌, ◌≤�
 use Rattle.std.proofs.lemmas.Bool.Decides.{nat_tests}
 use Rattle.std.proofs.lemmas.List.{length-take}
 use Rattle.std.proofs.lemmas.List.Sums.{count_by-le-length}
-use Rattle.cell_units.specs.declared.limits.TheConstants.{INLAY_LIMIT, TEXT_LIMIT}
+use Rattle.cell_units.specs.declared.limits.TheConstants.{INLAY_LIMIT, LAID_LIMIT}
 use Rattle.cell_units.specs.Text.{clean, is_feed, row_of}
 use Rattle.cell_units.specs.Record.{Inlay, bias_rank, in_order, inlay_le}
 use Rattle.cell_units.specs.Lawful.{AreInlays, IsInlayOf}
@@ -74,7 +74,7 @@ module _ (text : List ℕ) where
       }
 
   -- all that the splices cover is a number of 32 bits
-  pub splices-fit : (is : List Inlay) → AreInlays text is → length text ≤ TEXT_LIMIT → BothFit AmountFits (total (none nothing) (both together) (piece_sum together) (splices_from text 0 is))
+  pub splices-fit : (is : List Inlay) → AreInlays text is → length text ≤ LAID_LIMIT → BothFit AmountFits (total (none nothing) (both together) (piece_sum together) (splices_from text 0 is))
   splices-fit is are short =
       let b = bounded 0 is (spread text is are) in
       let rows : row_of text (length text) ≤ length text = omega (arith, count_by-le-length is_feed (take (length text) text), length-take (length text) text) in

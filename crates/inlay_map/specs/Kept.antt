@@ -1,15 +1,15 @@
 -- What an inlay map and what it shows keep.
 use Rattle.std.specs.Prelude.{◌≡◌, ◌≤◌, [], length, Option, None}
-use Rattle.cell_units.specs.declared.limits.TheConstants.{TEXT_LIMIT}
+use Rattle.cell_units.specs.declared.limits.TheConstants.{LAID_LIMIT}
 use Rattle.cell_units.specs.Lawful.{AreInlays}
 use Rattle.cell_units.specs.Layers.{Source}
 use Rattle.cell_units.specs.Text.{IsText}
 use Rattle.shifted_lists.specs.LayerLeads.{LayerLeads}
 use Rattle.shifted_lists.specs.Leads.{Reach}
 
--- A text within its limit that has no carriage return, with inlays that fit it and without folds.
+-- A text within the limit of what is kept that has no carriage return, with inlays that fit it and without folds.
 pub record IsInlaid (s : Source) : Type 0 where
-  pub short : length s.text ≤ TEXT_LIMIT
+  pub short : length s.text ≤ LAID_LIMIT
   pub text : IsText s.text
   pub inlays : AreInlays s.text s.inlays
   pub folds : s.folds ≡ []

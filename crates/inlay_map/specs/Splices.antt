@@ -1,5 +1,6 @@
 -- Inlays as splices: before each its distance from the one before it, and in no bytes' place its text.
 use Rattle.std.specs.Prelude.{◌≡◌, ℕ, zero, suc, ◌+◌, ◌≤◌, List, [], ◌∷◌, ◌++◌, length, take, drop}
+use Rattle.cell_units.specs.declared.place.Bias.{Bias}
 use Rattle.cell_units.specs.Text.{clean}
 use Rattle.cell_units.specs.Layers.{Source}
 use Rattle.cell_units.specs.Record.{Inlay}
@@ -12,6 +13,9 @@ use Rattle.inlay_map.specs.Amounts.{amount_between, amount_of, nothing}
 -- the inlay that a mark stands for
 abbrev pub inlay_of : Mark (List ℕ) → Inlay
 inlay_of m = record { offset = m.offset; bias = m.bias; id = m.id; text = m.load }
+
+abbrev pub inlay_with : ℕ → Bias → ℕ → List ℕ → Inlay
+inlay_with offset bias id text = record { offset = offset; bias = bias; id = id; text = text }
 
 -- an inlay behind the offset `base`
 abbrev pub splice_of : List ℕ → ℕ → Inlay → Piece Amount NoLoad

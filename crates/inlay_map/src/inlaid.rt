@@ -1,5 +1,5 @@
 //! A text with inlays, and the splices that belong to them.
-ghost use Rattle.std.specs.Prelude.{◌≡◌, ◌==◌, ◌+◌, ◌-◌, ◌*◌, ◌<◌, ◌≤◌, ◌↔◌, IsTrue, Some, length, take, drop, slice_get, nat_le, IfOk, OnErr, OnOk};
+ghost use Rattle.std.specs.Prelude.{◌≡◌, ◌==◌, ◌+◌, ◌-◌, ◌*◌, ◌<◌, ◌≤◌, ◌↔◌, IsTrue, Some, length, take, drop, slice_get, nat_le, IfOk, MatchOption, OnErr, OnOk};
 ghost use Rattle.std.specs.List.{list_any, position, position_or_len};
 ghost use Rattle.cell_units.specs.Lawful.{HasRoom, IsInlayOf};
 ghost use Rattle.cell_units.specs.Layers.{inlay_source, plain_source, point_of};
@@ -18,11 +18,11 @@ ghost use Rattle.inlay_map.specs.Amounts.{amount_between, amount_of};
 ghost use Rattle.inlay_map.specs.Bounds.{Resplices, TakesInlaid, measuring, met, resplicing};
 ghost use Rattle.inlay_map.specs.Kept.{IsInlaid};
 ghost use Rattle.inlay_map.specs.Maps.{StandAfter, source_after};
-ghost use Rattle.inlay_map.specs.Splices.{AreSameButForGap, IsPut, before_at, inlay_of, splices_of, without_at};
+ghost use Rattle.inlay_map.specs.Splices.{AreSameButForGap, IsPut, before_at, inlay_of, inlay_with, splices_of, without_at};
 
 use crate::amount::{Amount, feeds_in};
 use crate::inlay_text::InlayText;
-use cell_units::{Layer, NoMemory, Point, Shift, Steps, Text};
+use cell_units::{Bias, Layer, NoMemory, Point, Shift, Steps, Text};
 use mark_tree::{Mark, MarkTree};
 use splice_tree::{Splice, SpliceTree};
 use std::alloc::Global;
@@ -31,10 +31,15 @@ use sum_core::{NoLoad, Summary};
 use text_rope::Rope;
 
 /// A text with inlays that fit it. Contracts see it as that source, which has no folds.
-#[derive(Drop)]
 pub(crate) struct Inlaid {
     pub(crate) rope: Rope,
     pub(crate) marks: MarkTree<InlayText>,
+}
+
+impl Drop for Inlaid {
+    fn drop(self) {
+        let Inlaid { rope: _, marks: _ } = self;
+    }
 }
 
 impl Model for Inlaid {
@@ -342,6 +347,17 @@ impl Inlaid {
         }
     }
 
+    /// The offset, bias, id and text of the inlay of an index, as it was given. `None` exactly where there is none.
+    pub(crate) fn get(&self, at: u32, steps: &mut Steps) -> Option<(u32, Bias, u32, &str)>
+        ensures inlay { MatchOption result (length self.now.inlays ≤ at) (λ i.
+            slice_get self.now.inlays at ≡ Some (inlay_with i.0 i.1 i.2 i.3.now)) }
+        ensures counted { steps.old ≤ steps.new }
+        ensures steps { TakesAtMost way (length self.now.inlays) steps.old steps.new }
+    {
+        let (offset, bias, id, text) = self.marks.get(at, steps)?;
+        Some((offset, bias, id, text.given()))
+    }
+
     /// What the inlay of an index shows.
     pub(crate) fn shown(&self, at: u32, steps: &mut Steps) -> &str
         requires { at < length self.now.inlays }
@@ -349,8 +365,20 @@ impl Inlaid {
             result.now ≡ clean i.text }
         ensures counted { steps.old ≤ steps.new }
     {
+        let (_, text) = self.shown_with_id(at, steps);
+        text
+    }
+
+    /// The id of the inlay of an index, and what it shows.
+    pub(crate) fn shown_with_id(&self, at: u32, steps: &mut Steps) -> (u32, &str)
+        requires { at < length self.now.inlays }
+        ensures id { (i : Inlay) → slice_get self.now.inlays at ≡ Some i → result.0 ≡ i.id }
+        ensures text { (i : Inlay) → slice_get self.now.inlays at ≡ Some i →
+            result.1.now ≡ clean i.text }
+        ensures counted { steps.old ≤ steps.new }
+    {
         match self.marks.get(at, steps) {
-            Some((_, _, _, text)) => text.shown(),
+            Some((_, _, id, text)) => (id, text.shown()),
             None => unreachable!(),
         }
     }

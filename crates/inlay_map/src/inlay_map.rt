@@ -20,11 +20,20 @@ use std::marker::Model;
 use text_rope::Rope;
 
 /// A text with inlays, as it is now and as it was last shown.
-#[derive(Drop)]
 pub struct InlayMap {
     current: InlaySnapshot,
     shown: InlaySnapshot,
     pending: Option<Shift>,
+}
+
+impl Drop for InlayMap {
+    fn drop(self) {
+        let InlayMap {
+            current: _,
+            shown: _,
+            pending: _,
+        } = self;
+    }
 }
 
 impl Model for InlayMap {

@@ -48,6 +48,13 @@ impl InlayText {
         })
     }
 
+    /// The text as it was given.
+    pub(crate) fn given(&self) -> &str
+        ensures { result.now ≡ self.now }
+    {
+        self.texts.given.as_str()
+    }
+
     /// The text as it is shown.
     pub(crate) fn shown(&self) -> &str
         ensures { result.now ≡ clean self.now }

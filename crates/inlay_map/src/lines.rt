@@ -183,11 +183,11 @@ impl InlaySnapshot {
                 end: stop,
             });
         }
-        let text = self.inlaid.shown(spot.index, steps);
+        let (id, text) = self.inlaid.shown_with_id(spot.index, steps);
         let from = (rest - spot.gap.bytes) as usize;
         let to = text.len().min(from + (end - place) as usize);
         Ok(Piece {
-            kind: PieceKind::Inlay,
+            kind: PieceKind::Inlay(id),
             text: Text::from_str(alloc, &text[from..to])?,
             start: offset,
             end: offset,

@@ -1,5 +1,5 @@
 //! What an inlay map shows at one moment.
-ghost use Rattle.std.specs.Prelude.{◌≡◌, ◌==◌, ◌+◌, ◌<◌, ◌≤◌, Some, length, slice_get, IfOk};
+ghost use Rattle.std.specs.Prelude.{◌≡◌, ◌==◌, ◌+◌, ◌<◌, ◌≤◌, Some, length, slice_get, IfOk, MatchOption};
 ghost use Rattle.std.specs.List.{position};
 ghost use Rattle.cell_units.specs.declared.place.Bias.TheVariants.{Left};
 ghost use Rattle.cell_units.specs.Lawful.{HasRoom, IsInlayOf};
@@ -13,7 +13,7 @@ ghost use Rattle.inlay_map.specs.Bounds.{SearchesOnce, TakesAmong, TakesInlaid, 
 ghost use Rattle.inlay_map.specs.InlaidShifts.{inlaid_shift, inlay_shift};
 ghost use Rattle.inlay_map.specs.Kept.{IsInlaid};
 ghost use Rattle.inlay_map.specs.Maps.{StandAfter, add_refusal, source_after};
-ghost use Rattle.inlay_map.specs.Splices.{inlay_of, without_at};
+ghost use Rattle.inlay_map.specs.Splices.{inlay_of, inlay_with, without_at};
 
 use crate::amount::{Amount, ByBytes};
 use crate::inlaid::Inlaid;
@@ -28,10 +28,18 @@ use sum_core::NoLoad;
 use text_rope::Rope;
 
 /// A text with inlays. Contracts see it as that source, which has no folds.
-#[derive(Drop)]
 pub struct InlaySnapshot {
     pub(crate) inlaid: Inlaid,
     pub(crate) splices: SpliceTree<Amount, NoLoad>,
+}
+
+impl Drop for InlaySnapshot {
+    fn drop(self) {
+        let InlaySnapshot {
+            inlaid: _,
+            splices: _,
+        } = self;
+    }
 }
 
 impl Model for InlaySnapshot {
@@ -74,10 +82,21 @@ impl InlaySnapshot {
     }
 
     /// The number of inlays.
-    pub(crate) fn count(&self) -> u32
+    pub fn count(&self) -> u32
         ensures { result ≡ length self.now.inlays }
     {
         self.inlaid.count()
+    }
+
+    /// The offset, bias, id and text of an inlay, as it was given, by its place among them, counted from 0. `None` exactly where
+    /// there is none.
+    pub fn get(&self, at: u32, steps: &mut Steps) -> Option<(u32, Bias, u32, &str)>
+        ensures inlay { MatchOption result (length self.now.inlays ≤ at) (λ i.
+            slice_get self.now.inlays at ≡ Some (inlay_with i.0 i.1 i.2 i.3.now)) }
+        ensures counted { steps.old ≤ steps.new }
+        ensures steps { TakesAtMost way (length self.now.inlays) steps.old steps.new }
+    {
+        self.inlaid.get(at, steps)
     }
 
     /// The index of the inlay of an id, if there is one.

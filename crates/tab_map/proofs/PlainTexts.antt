@@ -1,10 +1,10 @@
 -- The lines of a text by itself: how few and short they are, and what a replacement of the text owes to the map.
-use Rattle.std.proofs.Common.{◌≡◌, ℕ, ◌+◌, ◌-◌, ◌≤◌, List, [], ◌∷◌, ◌++◌, All, length, map, take, drop, Some, refl, sym, ap, ◌∙◌, subst, append_assoc, arith}
+use Rattle.std.proofs.Common.{◌≡◌, ℕ, ◌+◌, ◌-◌, ◌≤◌, List, [], ◌∷◌, ◌++◌, All, length, map, take, drop, Some, refl, sym, ap, ◌∙◌, subst, arith}
 use Rattle.std.specs.List.{count_by, sum_by}
-use Rattle.std.proofs.lemmas.List.{drop_at, length-append, length-take-le, take_at}
+use Rattle.std.proofs.lemmas.List.{length-take-le, take_at}
 use Rattle.std.proofs.lemmas.List.Elements.{All-cons, All-nil}
 use Rattle.std.proofs.lemmas.List.Sums.{sum_by-cons}
-use Rattle.cell_units.specs.declared.limits.TheConstants.{TEXT_LIMIT}
+use Rattle.cell_units.specs.declared.limits.TheConstants.{LAID_LIMIT}
 use Rattle.cell_units.specs.declared.piece.Piece.{Piece}
 use Rattle.cell_units.specs.declared.place.Shift.{Shift}
 use Rattle.cell_units.specs.BufferLines.{buffer_lines}
@@ -21,7 +21,7 @@ use Rattle.cell_line.specs.Elements.{bytes_in, elements_of}
 use Rattle.cell_line.specs.Lines.{FitsU32, LineFitsU32}
 use Rattle.cell_line.proofs.CellBounds.{length-elements_of, total_cells-le}
 use Rattle.shifted_lists.specs.Leads.{LeadsAt}
-use Rattle.tab_map.specs.TabLines.{LinesFollow, line_texts, lines_at}
+use Rattle.tab_map.specs.TabLines.{LiesWithin, LinesFollow, line_texts, lines_at}
 use Rattle.tab_map.proofs.TabLemmas.{leads-map}
 
 -- ---- few and short lines
@@ -60,7 +60,7 @@ plain-few text tab =
     ap (map (λ pieces. elements_of pieces tab)) (unfolded_lines text) in
     omega (arith, ap (sum_by wide) are, elements-few tab 0 (buffer_lines text), bytes_of_lines text)
 
-elements-fit : (tab start : ℕ) (lines : List (List ℕ)) → tab ≤ 16 → sum_by long lines ≤ TEXT_LIMIT + 1
+elements-fit : (tab start : ℕ) (lines : List (List ℕ)) → tab ≤ 16 → sum_by long lines ≤ LAID_LIMIT + 1
     → All LineFitsU32 (elements_from tab start lines)
 elements-fit tab start [] h few = All-nil LineFitsU32
 elements-fit tab start (line ∷ lines) h few =
@@ -78,7 +78,7 @@ count-le [] = omega arith
 count-le (es ∷ ls) = omega (arith, count-le ls, sum_by-cons wide es ls)
 
 -- a text's lines, elements and cells are u32
-pub plain-fits : (text : List ℕ) (tab : ℕ) → tab ≤ 16 → length text ≤ TEXT_LIMIT → FitsU32 (lines_at (plain_source text) tab)
+pub plain-fits : (text : List ℕ) (tab : ℕ) → tab ≤ 16 → length text ≤ LAID_LIMIT → FitsU32 (lines_at (plain_source text) tab)
 plain-fits text tab h small =
     let lines = lines_at (plain_source text) tab in
     let are : lines ≡ elements_from tab 0 (buffer_lines text) =
@@ -111,18 +111,12 @@ module _ (text put : List ℕ) (a b : ℕ) (order : a ≤ b) (within : b ≤ len
   abbrev made : List ℕ
   made = replaced_text text a b put
 
-  bytes-lead : LeadsAt text made a b (length put)
-  bytes-lead =
-      let front : length (take a text) ≡ a = length-take-le a text (omega (arith, order, within)) in
-      let start : length (take a text ++ put) ≡ a + length put = omega (arith, length-append (take a text) put, front) in
-      record {
-        within = within;
-        reaches = omega (arith, length-replaced_text text a b put (omega (arith, order, within)));
-        before = take_at (take a text) (put ++ drop b text) a front;
-        behind =
-            ap (λ (l : List ℕ). drop (a + length put) l) (sym (append_assoc (take a text) put (drop b text)))
-            ∙ drop_at (take a text ++ put) (drop b text) (a + length put) start;
-      }
+  bytes-lie : LiesWithin text made a b (length put)
+  bytes-lie = record {
+    within = within;
+    reaches = omega (arith, length-replaced_text text a b put (omega (arith, order, within)));
+    first = ap (count_by is_feed) (take_at (take a text) (put ++ drop b text) a (length-take-le a text (omega (arith, order, within))));
+  }
 
   lines-lead : LeadsAt (buffer_lines text) (buffer_lines made) (row_of text a) (row_of text b + 1) (count_by is_feed put + 1)
   lines-lead =
@@ -149,16 +143,16 @@ module _ (text put : List ℕ) (a b : ℕ) (order : a ≤ b) (within : b ≤ len
 -- what is owed, by the texts that both layers show
 abbrev Follow : Source → Source → ℕ → ℕ → ℕ → List ℕ → List ℕ → Type 0
 Follow old new a b n was is =
-    LeadsAt was is a b n
+    LiesWithin was is a b n
     × LeadsAt (line_texts old) (line_texts new) (row_of was a) (row_of was b + 1) (row_of is (a + n) + 1 - row_of was a)
 
--- a replacement of the text leads to the new one, and its lines follow
+-- a replacement of the text lies within it and the new one, and its lines follow
 pub plain-follow : (old new put : List ℕ) (s : Shift) → s.end ≤ length old → new ≡ replaced_text old s.start s.end put
     → s.count ≡ length put → LinesFollow (plain_source old) (plain_source new) (Some s)
 plain-follow old new put s within is count =
     let made = replaced_text old s.start s.end put in
     let direct : Follow (plain_source old) (plain_source made) s.start s.end (length put) old made =
-    (bytes-lead old put s.start s.end s.ordered within, texts-lead old put s.start s.end s.ordered within) in
+    (bytes-lie old put s.start s.end s.ordered within, texts-lead old put s.start s.end s.ordered within) in
     let counted : Follow (plain_source old) (plain_source made) s.start s.end s.count old made =
     subst (λ (n : ℕ). Follow (plain_source old) (plain_source made) s.start s.end n old made) (sym count) direct in
     let renamed : Follow (plain_source old) (plain_source new) s.start s.end s.count old new =

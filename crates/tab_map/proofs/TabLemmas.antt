@@ -1,6 +1,6 @@
 -- Lines at a tab size.
 use Rattle.std.proofs.Common.{◌≡◌, ℕ, ◌+◌, ◌-◌, ◌<◌, ◌≤◌, List, [], ◌∷◌, ◌++◌, length, map, take, Option, Some, None, refl, sym, ap, ◌∙◌, arith, subst, true}
-use Rattle.std.specs.Prelude.{unwrap_or, count_by, slice_get, slice_index_or, option_map}
+use Rattle.std.specs.Prelude.{unwrap_or, slice_get, slice_index_or, option_map}
 use Rattle.std.proofs.lemmas.List.{drop-map, take-map, drop_all, length-map}
 use Rattle.std.proofs.lemmas.Option.{get_or_from_slice_get, slice_get-map}
 use Rattle.unicode_segmentation.specs.Grapheme.{graphemes}
@@ -8,13 +8,13 @@ use Rattle.cell_units.specs.declared.piece.Piece.{Piece}
 use Rattle.cell_units.specs.declared.place.Shift.{Shift}
 use Rattle.cell_units.specs.Lawful.{IsWellFormed}
 use Rattle.cell_units.specs.Layers.{Source, shown_lines, shown_text}
-use Rattle.cell_units.specs.Text.{is_feed, row_of}
+use Rattle.cell_units.specs.Text.{row_of}
 use Rattle.cell_units.proofs.ReplacedRows.{row_of-le}
 use Rattle.cell_units.proofs.Sources.{row-lt}
 use Rattle.cell_line.specs.declared.element.Element.{Element}
 use Rattle.cell_line.specs.Elements.{clusters, elements_of, placed}
 use Rattle.shifted_lists.specs.Leads.{LeadsAt, LeadsBy}
-use Rattle.tab_map.specs.TabLines.{AreReplaced, IsShift, LinesFollow, first_met, line_texts, lines_at, new_reach, old_reach}
+use Rattle.tab_map.specs.TabLines.{AreReplaced, IsShift, LiesWithin, LinesFollow, first_met, line_texts, lines_at, new_reach, old_reach}
 
 -- ---- elements by texts
 
@@ -88,11 +88,9 @@ pub row_within : (s : Source) → IsWellFormed s → (place : ℕ) → row_of (s
 row_within s w place = row-lt s w place
 
 -- the first line that is met isn't behind the last one, before and after
-pub met_rises : (old new : List ℕ) (start end count : ℕ) → start ≤ end → LeadsAt old new start end count
+pub met_rises : (old new : List ℕ) (start end count : ℕ) → start ≤ end → LiesWithin old new start end count
     → (row_of old start ≤ row_of old end) × (row_of old start ≤ row_of new (start + count))
-met_rises old new start end count ordered h =
-    let same : row_of new start ≡ row_of old start = ap (count_by is_feed) h.before in
-    (row_of-le old start end ordered, omega (arith, same, row_of-le new start (start + count) (omega arith)))
+met_rises old new start end count ordered h = (row_of-le old start end ordered, omega (arith, h.first, row_of-le new start (start + count) (omega arith)))
 
 -- ---- one line
 

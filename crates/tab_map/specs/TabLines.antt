@@ -1,5 +1,5 @@
 -- The lines of a layer at a tab size, and what a map of them is seen as.
-use Rattle.std.specs.Prelude.{◌≡◌, ℕ, ◌+◌, ◌-◌, List, map, length, Option, Some, None, unwrap_or}
+use Rattle.std.specs.Prelude.{◌≡◌, ℕ, ◌+◌, ◌-◌, ◌≤◌, List, map, length, Option, Some, None, unwrap_or}
 use Rattle.cell_units.specs.declared.place.Shift.{Shift}
 use Rattle.cell_units.specs.Layers.{Source, shown_lines, shown_text}
 use Rattle.cell_units.specs.Text.{row_of}
@@ -38,12 +38,18 @@ old_reach old s = row_of (shown_text old) s.end + 1
 abbrev pub new_reach : Source → Shift → ℕ
 new_reach new s = row_of (shown_text new) (s.start + s.count) + 1
 
--- The replacement leads from the text of the old layer to that of the new one, and the lines that it doesn't meet have
--- pieces of the same texts in both.
+-- a replacement lies within two texts, and begins in lines of one number
+pub record LiesWithin (old new : List ℕ) (start end count : ℕ) : Type 0 where
+  pub within : end ≤ length old
+  pub reaches : start + count ≤ length new
+  pub first : row_of new start ≡ row_of old start
+
+-- The replacement lies within the texts of both layers and begins in lines of one number, and the lines that it doesn't meet
+-- have pieces of the same texts in both.
 abbrev pub LinesFollow : Source → Source → Option Shift → Type 0
 LinesFollow old new None = line_texts new ≡ line_texts old
 LinesFollow old new (Some s) =
-    LeadsAt (shown_text old) (shown_text new) s.start s.end s.count
+    LiesWithin (shown_text old) (shown_text new) s.start s.end s.count
     × LeadsAt (line_texts old) (line_texts new) (first_met old s) (old_reach old s) (new_reach new s - first_met old s)
 
 -- ---- the lines that are made anew

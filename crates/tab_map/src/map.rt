@@ -1,5 +1,5 @@
 //! The map from layers to lines of elements.
-ghost use Rattle.std.specs.Prelude.{◌≡◌, ◌+◌, ◌^◌, ◌<◌, ◌≤◌, None, Some, length, unwrap_or, IfOk, OnOk, OnErr};
+ghost use Rattle.std.specs.Prelude.{◌≡◌, ◌+◌, ◌^◌, ◌<◌, ◌≤◌, None, Some, length, unwrap_or, IfOk, IfErr, OnOk, OnErr};
 ghost use Rattle.cell_line.specs.Lines.{FitsU32};
 ghost use Rattle.cell_units.specs.Lawful.{IsTab};
 ghost use Rattle.cell_units.specs.Layers.{shown_text};
@@ -15,11 +15,20 @@ use std::marker::Model;
 /// What a snapshot is made of: a layer, and a tab size of 1 to 16 cells.
 ///
 /// It is seen as the layer of its last snapshot, the tab size, and, where that was set since, the tab size of that snapshot.
-#[derive(Drop)]
 pub struct TabMap<L: Layer> {
     layer: L,
     tab: u32,
     before: Option<u32>,
+}
+
+impl<L: Layer> Drop for TabMap<L> {
+    fn drop(self) {
+        let TabMap {
+            layer: _,
+            tab: _,
+            before: _,
+        } = self;
+    }
 }
 
 impl<L: Layer> Model for TabMap<L> {
@@ -78,6 +87,7 @@ impl<L: Layer> TabMap<L> {
             OnOk result (self.new ≡ record self.old { tab = tab; before = before }) }
         ensures accepted { OnOk result (IsTab tab) }
         ensures refused { OnErr result (¬ IsTab tab) }
+        ensures refusal { IfErr result (λ refusal. refusal ≡ Refusal.BadNumber) }
         ensures unchanged { OnErr result (self.new ≡ self.old) }
     {
         if tab == 0 || tab > TAB_LIMIT {

@@ -9,10 +9,15 @@ use std::alloc::Global;
 use std::marker::Model;
 
 /// The lines of a layer at a tab size. They are seen as the list of their elements.
-#[derive(Drop)]
 pub struct TabSnapshot<L: Layer> {
     pub(crate) layer: L,
     pub(crate) tab: u32,
+}
+
+impl<L: Layer> Drop for TabSnapshot<L> {
+    fn drop(self) {
+        let TabSnapshot { layer: _, tab: _ } = self;
+    }
 }
 
 impl<L: Layer> Model for TabSnapshot<L> {

@@ -34,5 +34,5 @@ pub chunks_of_bytes : (chunks : List (List ℕ)) (bytes : List ℕ) → IsRope c
 chunks_of_bytes chunks bytes rope e = omega (arith, full_few chunks rope.full, ap length e, clean-not_longer bytes)
 
 -- a rope has no more chunks than bytes
-pub rope_chunks : (chunks : List (List ℕ)) → IsRope chunks → length chunks ≤ 33554432
+pub rope_chunks : (chunks : List (List ℕ)) → IsRope chunks → length chunks ≤ 67108864
 rope_chunks chunks rope = omega (arith, no_more_chunks chunks rope.cut, rope.small)

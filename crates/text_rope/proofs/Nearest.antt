@@ -7,7 +7,7 @@ use Rattle.cell_units.proofs.BufferLines.{feeds-append}
 use Rattle.text_rope.specs.Chunks.{AreChunks}
 use Rattle.text_rope.specs.Finds.{IsBefore}
 use Rattle.cell_units.specs.Points.{IsFirstBoundary, IsLastBoundary}
-use Rattle.cell_units.specs.declared.limits.TheConstants.{TEXT_LIMIT}
+use Rattle.cell_units.specs.declared.limits.TheConstants.{LAID_LIMIT}
 use Rattle.text_rope.specs.Ropes.{IsRope}
 use Rattle.text_rope.specs.declared.chunk.TextSize.{TextSize}
 use Rattle.text_rope.proofs.Chunks.{feeds_within, total_feeds}
@@ -48,6 +48,6 @@ row_here chunks offset r front found e =
       feeds-append (concat (take r.chunks chunks)) (take (offset - r.bytes) (get_or chunks r.chunks [])),
     )
 
--- no row is past the limit of a text
-pub row_small : (chunks : List (List ℕ)) (offset : ℕ) → IsRope chunks → row_of (concat chunks) offset ≤ TEXT_LIMIT
+-- no row is past the limit of what is kept
+pub row_small : (chunks : List (List ℕ)) (offset : ℕ) → IsRope chunks → row_of (concat chunks) offset ≤ LAID_LIMIT
 row_small chunks offset rope = omega (arith, feeds_within (take offset (concat chunks)), length-take offset (concat chunks), rope.small)

@@ -10,7 +10,7 @@ use Rattle.cell_units.specs.Operation.{replaced_text}
 use Rattle.text_rope.specs.Chunks.{AreChunks, AreFull, IsChunk, least}
 use Rattle.text_rope.specs.Edits.{IsNeighbourBefore, IsNeighbourBehind, IsPartBefore, IsPartBehind, IsRange, IsRenewed}
 use Rattle.text_rope.specs.Finds.{IsBefore}
-use Rattle.cell_units.specs.declared.limits.TheConstants.{TEXT_LIMIT}
+use Rattle.cell_units.specs.declared.limits.TheConstants.{LAID_LIMIT}
 use Rattle.text_rope.specs.Ropes.{IsRope}
 use Rattle.text_rope.specs.declared.chunk.TextSize.{TextSize}
 use Rattle.text_rope.proofs.Fullness.{AreFilled, filled_full, full_few, renewed_full}
@@ -156,9 +156,9 @@ renewed_within chunks start end s r front back chunk rope range found from withi
     renewed_among chunks start end s r.chunks (r.chunks + 1) front back rope around (chunk ∷ []) chunk e (append-nil chunk) (All-cons IsChunk chunk [] cut (All-nil IsChunk)) filled
     (λ lt. let more : 1 < length chunks = omega (arith, lt, within) in (more, full more)) (λ lt. let more : 1 < length chunks = omega (arith, lt) in (more, full more))
 
--- and they make the chunks of a rope, where the new text is within the limit
+-- and they make the chunks of a rope, where the new text is within the limit of what is kept
 pub renewed_rope : (chunks : List (List ℕ)) (start end : ℕ) (s : List ℕ) (from to : ℕ) (made : List (List ℕ)) → IsRope chunks → IsRenewed chunks start end s from to made →
-    All (λ b. b ≢ carriage_return) s → length (replaced_text (concat chunks) start end s) ≤ TEXT_LIMIT → IsRope (take from chunks ++ made ++ drop to chunks)
+    All (λ b. b ≢ carriage_return) s → length (replaced_text (concat chunks) start end s) ≤ LAID_LIMIT → IsRope (take from chunks ++ made ++ drop to chunks)
 renewed_rope chunks start end s from to made rope new clean small =
     let text = concat chunks in
     let none : All (λ b. b ≢ carriage_return) (take start text ++ (s ++ drop end text)) =

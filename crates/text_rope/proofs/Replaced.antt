@@ -2,11 +2,10 @@
 use Rattle.std.proofs.Common.{◌≡◌, ℕ, ◌+◌, ◌*◌, ◌/◌, ◌^◌, ◌<◌, ◌≤◌, ◌++◌, List, length, take, drop, ap, sym, ◌∙◌, subst, arith}
 use Rattle.std.specs.List.{concat}
 use Rattle.cell_units.specs.Operation.{replaced_text}
-use Rattle.cell_units.specs.declared.limits.TheConstants.{TEXT_LIMIT}
 use Rattle.edit_patch.specs.declared.edit.Edit.{Edit}
 use Rattle.edit_patch.specs.Fits.{replacement}
 use Rattle.sum_tree.specs.Bounds as trees
-use Rattle.text_rope.specs.Edits.{IsRange, IsRenewed, IsReplaced}
+use Rattle.text_rope.specs.Edits.{IsRange, IsRenewed, IsReplacedWithin}
 use Rattle.text_rope.specs.Ropes.{HasHeight, IsRope}
 use Rattle.text_rope.proofs.Bounds.{replace_steps}
 use Rattle.text_rope.proofs.Fullness.{full_height}
@@ -16,9 +15,9 @@ abbrev pub with_made : List (List ℕ) → ℕ → ℕ → List (List ℕ) → L
 with_made chunks from to made = take from chunks ++ made ++ drop to chunks
 
 -- they are what the range is replaced by
-pub replaced_by : (chunks : List (List ℕ)) (text : List ℕ) (start end : ℕ) (s : List ℕ) (from to : ℕ) (made new : List (List ℕ)) (patch : List Edit) → concat chunks ≡ text → IsRange (concat chunks) start end →
-    length (replaced_text (concat chunks) start end s) ≤ TEXT_LIMIT → IsRenewed chunks start end s from to made → patch ≡ replacement start end (length s) → new ≡ with_made chunks from to made → IsReplaced text start end s (concat new) patch
-replaced_by chunks text start end s from to made new patch view range small renewed told e =
+pub replaced_by : (limit : ℕ) (chunks : List (List ℕ)) (text : List ℕ) (start end : ℕ) (s : List ℕ) (from to : ℕ) (made new : List (List ℕ)) (patch : List Edit) → concat chunks ≡ text → IsRange (concat chunks) start end →
+    length (replaced_text (concat chunks) start end s) ≤ limit → IsRenewed chunks start end s from to made → patch ≡ replacement start end (length s) → new ≡ with_made chunks from to made → IsReplacedWithin limit text start end s (concat new) patch
+replaced_by limit chunks text start end s from to made new patch view range small renewed told e =
     let bytes : concat new ≡ replaced_text (concat chunks) start end s = ap concat e ∙ renewed.text in
     record {
       range = subst (λ (t : List ℕ). IsRange t start end) view range;

@@ -15,20 +15,28 @@ use Rattle.cell_units.specs.declared.limits.TheConstants.{TEXT_LIMIT}
 abbrev pub IsRange : List ℕ → ℕ → ℕ → Type 0
 IsRange text start end = (start ≤ end) × IsBoundary text start × IsBoundary text end
 
--- the range was replaced by the clean text s, of which the patch tells
-pub record IsReplaced (old : List ℕ) (start end : ℕ) (s new : List ℕ) (patch : List Edit) : Type 0 where
+-- the range was replaced by the clean text s, of which the patch tells, and the new text is within the limit
+pub record IsReplacedWithin (limit : ℕ) (old : List ℕ) (start end : ℕ) (s new : List ℕ) (patch : List Edit) : Type 0 where
   pub range : IsRange old start end
-  pub small : length new ≤ TEXT_LIMIT
+  pub small : length new ≤ limit
   pub text : new ≡ replaced_text old start end s
   pub patch_is : patch ≡ replacement start end (length s)
 
--- The fault tells why the range isn't replaced by the clean text s. The range is judged first, and then the length, for
--- which there may be no memory.
+-- the same within the limit of a text
+abbrev pub IsReplaced : List ℕ → ℕ → ℕ → List ℕ → List ℕ → List Edit → Type 0
+IsReplaced = IsReplacedWithin TEXT_LIMIT
+
+-- The fault tells why the range isn't replaced by the clean text s, where the new text may have so many bytes. The range is
+-- judged first, and then the length, for which there may be no memory.
+abbrev pub IsFaultWithin : ℕ → List ℕ → ℕ → ℕ → List ℕ → Fault → Type 0
+IsFaultWithin limit text start end s (Refused BadRange) = ¬ IsRange text start end
+IsFaultWithin limit text start end s (Refused TooLong) = IsRange text start end × (limit < length (replaced_text text start end s))
+IsFaultWithin limit text start end s (Refused _) = ⊥
+IsFaultWithin limit text start end s NoMemory = IsRange text start end
+
+-- the same within the limit of a text
 abbrev pub IsReplaceFault : List ℕ → ℕ → ℕ → List ℕ → Fault → Type 0
-IsReplaceFault text start end s (Refused BadRange) = ¬ IsRange text start end
-IsReplaceFault text start end s (Refused TooLong) = IsRange text start end × (TEXT_LIMIT < length (replaced_text text start end s))
-IsReplaceFault text start end s (Refused _) = ⊥
-IsReplaceFault text start end s NoMemory = IsRange text start end
+IsReplaceFault = IsFaultWithin TEXT_LIMIT
 
 -- the text of the chunk before the place, and that chunk's place
 pub record IsNeighbourBefore (chunks : List (List ℕ)) (place at : ℕ) (text : List ℕ) : Type 0 where

@@ -4,20 +4,19 @@ ghost use Rattle.std.specs.Prelude.{◌≡◌, ◌+◌, ◌*◌, ◌≤◌, ◌<
 ghost use Rattle.std.specs.List.{concat};
 ghost use Rattle.cell_units.specs.Operation.{replaced_text};
 ghost use Rattle.cell_units.specs.Text.{IsBoundary, clean};
-ghost use Rattle.cell_units.specs.declared.limits.TheConstants.{TEXT_LIMIT};
+ghost use Rattle.cell_units.specs.declared.limits.TheConstants.{LAID_LIMIT};
 ghost use Rattle.edit_patch.specs.Fits.{replacement};
 ghost use Rattle.sum_tree.specs.Bounds.{way};
 ghost use Rattle.text_rope.specs.Bounds.{TakesOnText, ways};
 ghost use Rattle.text_rope.specs.Chunks.{IsChunk, IsNoChunk};
-ghost use Rattle.text_rope.specs.Edits.{IsNeighbourBefore, IsNeighbourBehind, IsPartBefore, IsPartBehind, IsRange, IsRenewed, IsReplaceFault};
+ghost use Rattle.text_rope.specs.Edits.{IsFaultWithin, IsNeighbourBefore, IsNeighbourBehind, IsPartBefore, IsPartBehind, IsRange, IsRenewed};
 ghost use Rattle.text_rope.specs.Finds.{IsBefore};
 ghost use Rattle.text_rope.specs.Ropes.{IsRope};
 
 use crate::chunk::{CHUNK_BYTES, Chunk, LEAST_BYTES, chunks_of};
 use crate::find::{Found, found_at, is_boundary, text_at};
-use cell_units::limits::TEXT_LIMIT;
-use cell_units::{Fault, NoMemory, Refusal, Steps, cleaned};
-use edit_patch::{Edit, Patch};
+use cell_units::{Fault, NoMemory, Refusal, Shift, Steps, cleaned};
+use edit_patch::Patch;
 use std::alloc::Global;
 use sum_tree::SumTree;
 
@@ -261,22 +260,24 @@ pub(crate) fn is_range(chunks: &SumTree<Chunk>, start: u32, end: u32, steps: &mu
 }
 
 /// The chunks that hold the text, with its line breaks cleaned, in the place of the range, and the patch that tells of that.
-/// `BadRange` where that is no range of the text, and else `TooLong` where the new text would be too long.
+/// `BadRange` where that is no range of the text, and else `TooLong` where the new text would be over the limit.
 pub(crate) fn renewed(
     alloc: Global,
     chunks: &SumTree<Chunk>,
     start: u32,
     end: u32,
     text: &str,
+    limit: usize,
     steps: &mut Steps,
 ) -> Result<(Renewal, Patch), Fault>
-    // The chunks of a rope.
-    requires { IsRope chunks.now }
+    // The chunks of a rope, and a limit of what one may hold.
+    requires rope { IsRope chunks.now }
+    requires limit { limit ≤ LAID_LIMIT }
 
     // It is done only for a range of the text, and where the new text is within the limit.
     ensures range { OnOk result (IsRange (concat chunks.now) start end) }
     ensures small { let made = replaced_text (concat chunks.now) start end (clean text.now) in
-        OnOk result (length made ≤ TEXT_LIMIT) }
+        OnOk result (length made ≤ limit) }
 
     // With the renewal the cleaned text is in the place of the range, and the patch tells of that.
     ensures renewed { let put = clean text.now in
@@ -287,7 +288,7 @@ pub(crate) fn renewed(
 
     // Why it is refused: the range is judged first, and then the length.
     ensures refused { let put = clean text.now in
-        IfErr result (IsReplaceFault (concat chunks.now) start end put) }
+        IfErr result (IsFaultWithin limit (concat chunks.now) start end put) }
 
     // The work, at most six ways down the tree.
     ensures counted { steps.old ≤ steps.new }
@@ -298,33 +299,12 @@ pub(crate) fn renewed(
     }
     let text = cleaned(alloc, text)?;
     let kept = (chunks.sum().bytes - (end - start)) as usize;
-    if text.len() > TEXT_LIMIT - kept {
+    let long = kept.saturating_add(text.len());
+    if long > limit {
         return Err(Fault::Refused(Refusal::TooLong));
     }
-    let patch = patch_of(alloc, start, end, text.len() as u32)?;
+    let shift = Shift::new(start, end, text.len() as u32);
+    let patch = Patch::of_shift(alloc, shift)?;
     let new = renewal_of(alloc, chunks, start, end, text.as_str(), steps)?;
     Ok((new, patch))
-}
-
-/// The patch that puts `count` bytes in the place of the range; no edit where nothing replaces nothing.
-pub(crate) fn patch_of(alloc: Global, start: u32, end: u32, count: u32) -> Result<Patch, Fault>
-    requires order { start ≤ end }
-    requires fits { start + count < 2 ^ 32 }
-    ensures ok { IfOk result (λ p. p ≡ replacement start end count) }
-    ensures err { IfErr result (λ e. e ≡ Fault.NoMemory) }
-{
-    let mut edits = Vec::new(alloc);
-    if start < end || count > 0 {
-        let edit = Edit {
-            old_start: start,
-            old_end: end,
-            new_start: start,
-            new_end: start + count,
-        };
-        edits.push(edit).map_err(NoMemory::from)?;
-    }
-    match Patch::of(edits) {
-        Ok(patch) => Ok(patch),
-        Err(refusal) => Err(Fault::Refused(refusal)),
-    }
 }

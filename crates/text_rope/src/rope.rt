@@ -8,7 +8,7 @@ ghost use Rattle.cell_units.specs.Record.{line_count};
 ghost use Rattle.cell_units.specs.Text.{IsBoundary, IsText, clean, row_of};
 ghost use Rattle.sum_tree.specs.Bounds.{way};
 ghost use Rattle.text_rope.specs.Bounds.{ChangesText, TakesOnText, reading_row, replacing, slicing, ways};
-ghost use Rattle.text_rope.specs.Edits.{IsRange, IsReplaceFault, IsReplaced};
+ghost use Rattle.text_rope.specs.Edits.{IsFaultWithin, IsRange, IsReplaceFault, IsReplaced, IsReplacedWithin};
 ghost use Rattle.cell_units.specs.Points.{offset_at};
 ghost use Rattle.cell_units.specs.Refusal.{IsAccepted, IsTextRefused};
 
@@ -16,7 +16,7 @@ use crate::chunk::{Chunk, chunks_of};
 use crate::edit::{is_range, renewed};
 use crate::find::{found_at, gather, is_boundary, near_boundary, row_at};
 use crate::rows::{point_at, range_of_row, start_of_row};
-use cell_units::limits::TEXT_LIMIT;
+use cell_units::limits::{LAID_LIMIT, TEXT_LIMIT};
 use cell_units::{Bias, Fault, NoMemory, Point, Steps, Text, TextFault, cleaned, read_text};
 use edit_patch::Patch;
 use std::alloc::Global;
@@ -27,9 +27,14 @@ use sum_tree::SumTree;
 ///
 /// The bounds on the steps of a call are given for each h such that the text has fewer than 120 * 6^(h + 1) bytes. The
 /// least such h is the greatest height of the rope's tree.
-#[derive(Drop)]
 pub struct Rope {
     chunks: SumTree<Chunk>,
+}
+
+impl Drop for Rope {
+    fn drop(self) {
+        let Rope { chunks: _ } = self;
+    }
 }
 
 impl Model for Rope {
@@ -67,10 +72,10 @@ impl Rope {
         })
     }
 
-    /// The number of bytes, which is at most 33,554,432. They are UTF-8 without carriage returns.
+    /// The number of bytes, which is at most 67,108,864. They are UTF-8 without carriage returns.
     pub fn len(&self) -> u32
         ensures value { result ≡ length self.now }
-        ensures within { result ≤ TEXT_LIMIT }
+        ensures within { result ≤ LAID_LIMIT }
         ensures text { IsText self.now }
     {
         self.chunks.sum().bytes
@@ -104,7 +109,7 @@ impl Rope {
             let made = replaced_text self.old start end put in
             ChangesText (replacing (length put)) self.old made steps.old steps.new }
     {
-        let (new, patch) = renewed(alloc, &self.chunks, start, end, text, steps)?;
+        let (new, patch) = renewed(alloc, &self.chunks, start, end, text, TEXT_LIMIT, steps)?;
         self.chunks
             .replace(alloc, new.from, new.to, new.chunks, steps)?;
         Ok(patch)
@@ -127,7 +132,30 @@ impl Rope {
             let made = replaced_text self.now start end put in
             ChangesText (replacing (length put)) self.now made steps.old steps.new }
     {
-        let (new, patch) = renewed(alloc, &self.chunks, start, end, text, steps)?;
+        self.replaced_within(alloc, start, end, text, TEXT_LIMIT, steps)
+    }
+
+    /// The same where `TooLong` is the refusal of more bytes than `limit`, which is at most 67,108,864: within a batch of
+    /// replacements a text may be longer than the one after all of it.
+    pub fn replaced_within(
+        &self,
+        alloc: Global,
+        start: u32,
+        end: u32,
+        text: &str,
+        limit: usize,
+        steps: &mut Steps,
+    ) -> Result<(Rope, Patch), Fault>
+        requires { limit ≤ LAID_LIMIT }
+        ensures cases { let put = clean text.now in
+            MatchResult result (λ made. IsReplacedWithin limit self.now start end put made.0 made.1)
+            (IsFaultWithin limit self.now start end put) }
+        ensures counted { steps.old ≤ steps.new }
+        ensures steps { let put = clean text.now in
+            let made = replaced_text self.now start end put in
+            ChangesText (replacing (length put)) self.now made steps.old steps.new }
+    {
+        let (new, patch) = renewed(alloc, &self.chunks, start, end, text, limit, steps)?;
         let mut chunks = self.chunks.share()?;
         chunks.replace(alloc, new.from, new.to, new.chunks, steps)?;
         Ok((Rope { chunks }, patch))

@@ -21,7 +21,7 @@ use Rattle.edit_patch.proofs.Inverse.{back, forth}
 use Rattle.wrap_map.specs.Landing.{cuts_of_run, is_landed, marks_landed}
 use Rattle.wrap_map.specs.Standing.{Standing, stood_of, stood_with}
 use Rattle.wrap_map.specs.Stood.{Stood, stood_at, unwrapped}
-use Rattle.wrap_map.specs.Waiting.{has_line}
+use Rattle.cell_line.specs.Waiting.{has_line}
 use Rattle.wrap_map.specs.inside.Landings.{Landings, closed_if_any, end_of, taken}
 use Rattle.wrap_map.proofs.Groups.{IsOpen, IsPlan, open-first, taken-open}
 use Rattle.wrap_map.proofs.NextRuns.{before_run, behind_run}

@@ -21,3 +21,5 @@ pub mod WorkedRows
 pub mod Clearings
 pub mod Rooms
 pub mod Rises
+pub mod Settled
+pub mod FewEdits

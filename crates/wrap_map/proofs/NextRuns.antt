@@ -7,7 +7,7 @@ use Rattle.std.proofs.lemmas.List.{get_or_default, length-map}
 use Rattle.std.proofs.lemmas.List.Folds.{list_any-from_Any, list_any_none}
 use Rattle.cell_line.specs.declared.lines.Run.{Run}
 use Rattle.wrap_map.specs.Stood.{IsOther, IsOtherIfAny, Stood, marks_in, stood_at, unwrapped}
-use Rattle.wrap_map.specs.Waiting.{AreApart, IsNext, has_line, waits}
+use Rattle.cell_line.specs.Waiting.{AreApart, IsNext, has_line, waits}
 use Rattle.wrap_map.specs.inside.Changes.{IsRunFrom}
 
 -- ---- which lines wait

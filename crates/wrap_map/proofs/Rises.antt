@@ -19,7 +19,7 @@ use Rattle.edit_patch.proofs.Correspondence.{corresponds}
 use Rattle.wrap_map.specs.Landing.{cuts_of_run, is_landed, standing_landed}
 use Rattle.wrap_map.specs.Standing.{IsStanding, Standing, stood_of}
 use Rattle.wrap_map.specs.Stood.{Stood, rows_in, stood_at, unwrapped}
-use Rattle.wrap_map.specs.Waiting.{has_line}
+use Rattle.cell_line.specs.Waiting.{has_line}
 use Rattle.wrap_map.specs.inside.Landings.{FitBetween}
 use Rattle.wrap_map.proofs.Carried.{came-same, landed-plan, landed-stood, length-wraps, wrap-is}
 use Rattle.wrap_map.proofs.Groups.{IsPlan}
@@ -67,7 +67,7 @@ cuts-more (w ∷ wraps) (suc m) (suc n) le =
     omega (arith, cuts-more wraps m n (omega arith), sum_by-cons length w (take m wraps), sum_by-cons length w (take n wraps))
 
 -- a line that landed came from one of the run's
-came-from : (since : List Edit) (run : Run) (i : ℕ) → is_landed since run i ≡ true
+pub came-from : (since : List Edit) (run : Run) (i : ℕ) → is_landed since run i ≡ true
     → (o : ℕ) × (origin_of since i ≡ Some o) × (run.first ≤ o) × (o < run.first + run.count)
 came-from since run i t =
     let Goal : Option ℕ → Type 0 = λ x. (o : ℕ) × (x ≡ Some o) × (run.first ≤ o) × (o < run.first + run.count) in

@@ -4,9 +4,9 @@ use Rattle.std.specs.Prelude.{◌==◌, ◌&&◌, ◌⊎◌, if◌then◌else◌
 use Rattle.std.proofs.lemmas.Bool.{and_from, and_left, and_right, cases_Bool, cases_lt, eq-eqb, eqb-true, ne_eqb}
 use Rattle.std.proofs.Math.ListN.{get_or-map}
 use Rattle.std.proofs.lemmas.List.{drop_all, drop_more, length-map}
-use Rattle.wrap_map.specs.Standing.{run_before, runs_from}
+use Rattle.cell_line.specs.MarkRuns.{run_before, runs_from}
 use Rattle.wrap_map.specs.Stood.{IsOther, IsOtherIfAny, Stood, marks_in, stood_at, unwrapped}
-use Rattle.wrap_map.specs.declared.marks.MarkRun.{MarkRun}
+use Rattle.cell_line.specs.declared.lines.MarkRun.{MarkRun}
 
 -- ---- a run begins
 

@@ -9,7 +9,7 @@ use Rattle.cell_units.specs.declared.place.Shift.{Shift}
 use Rattle.wrap_map.specs.Items.{items_of}
 use Rattle.wrap_map.specs.Standing.{all_at, shown_rows}
 use Rattle.wrap_map.specs.Stood.{Stood, stood_at, unwrapped}
-use Rattle.wrap_map.specs.Waiting.{IsNext, IsNextIfAny}
+use Rattle.cell_line.specs.Waiting.{IsNext, IsNextIfAny}
 use Rattle.wrap_map.specs.Worked.{ten, three_hundred}
 use Rattle.wrap_map.proofs.NextRuns.{past_end, settled, waiting}
 

@@ -1,7 +1,7 @@
 -- How many steps a call on a map takes at most, as costs of a height h for which its lines are fewer than 2 * 6 ^ (h + 1).
 use Rattle.std.specs.Prelude.{ℕ, ◌+◌, ◌*◌, List, length}
 use Rattle.sum_tree.specs.Bounds.{TakesAtMost, building}
-use Rattle.wrap_map.specs.Standing.{runs_from}
+use Rattle.cell_line.specs.MarkRuns.{runs_from}
 
 -- a tree of one stretch
 abbrev pub beginning : ℕ

@@ -11,7 +11,7 @@ use Rattle.edit_patch.specs.Came.{origin_of}
 use Rattle.edit_patch.specs.Fits.{Fits}
 use Rattle.edit_patch.specs.Patch.{IsPatch}
 use Rattle.wrap_map.specs.Standing.{Standing, Wrapped, shown_rows}
-use Rattle.wrap_map.specs.Waiting.{has_line}
+use Rattle.cell_line.specs.Waiting.{has_line}
 
 -- of each line of a run where it is cut at a width
 abbrev pub cuts_of_run : List (List Element) → Run → ℕ → List (List ℕ)

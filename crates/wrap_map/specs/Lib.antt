@@ -1,6 +1,5 @@
 pub mod Stood
 pub mod Standing
-pub mod Waiting
 pub mod Landing
 pub mod Items
 pub mod Bounds

@@ -8,7 +8,7 @@ use Rattle.cell_line.specs.Wrapping.{cuts_of}
 use Rattle.cell_units.specs.declared.place.Shift.{Shift}
 use Rattle.cell_units.specs.Lawful.{IsWidth}
 use Rattle.cell_units.specs.Rows.{all_rows, rows_before}
-use Rattle.wrap_map.specs.declared.marks.MarkRun.{MarkRun}
+use Rattle.cell_line.specs.declared.lines.MarkRun.{MarkRun}
 use Rattle.shifted_lists.specs.Leads.{LeadsBy}
 use Rattle.wrap_map.specs.Stood.{Stood, marks_in}
 
@@ -63,24 +63,6 @@ StandSo lines ls = IsStanding (standing_of lines ls) × (ls ≡ stood_of (standi
 -- all lines at one mark
 abbrev pub all_at : ℕ → List (List Element) → Standing
 all_at mark lines = record { lines = lines; marks = replicate (length lines) mark }
-
--- ---- runs of one mark
-
--- a line of this number and mark before runs: part of the first of them, where that is the next line's and of this mark
-abbrev pub run_before : ℕ → ℕ → List MarkRun → List MarkRun
-run_before line width [] = record { first = line; last = line; width = width } ∷ []
-run_before line width (run ∷ runs) =
-    if (run.first == line + 1) && (run.width == width)
-    then (record { first = line; last = run.last; width = width } ∷ runs)
-    else (record { first = line; last = line; width = width } ∷ run ∷ runs)
-
--- the maximal runs of neighbours of one mark other than 0, of lines of which the first has this number
-abbrev pub runs_from : ℕ → List ℕ → List MarkRun
-runs_from line [] = []
-runs_from line (width ∷ widths) =
-    if width == 0
-    then runs_from (line + 1) widths
-    else run_before line width (runs_from (line + 1) widths)
 
 -- ---- a replacement of lines
 

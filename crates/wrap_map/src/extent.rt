@@ -46,6 +46,21 @@ fn joined_ends(before: Option<Ends>, after: Option<Ends>) -> Option<Ends>
     }
 }
 
+impl Extent {
+    ghost use Rattle.std.specs.Prelude.{◌≡◌};
+    ghost use Rattle.wrap_map.specs.inside.Extents.{are_at};
+
+    /// Whether lines with this sum all stand at the width.
+    pub(crate) fn is_at(self, width: u32) -> bool
+        ensures { result ≡ are_at width self.switches self.ends }
+    {
+        match self.ends {
+            None => true,
+            Some(ends) => self.switches == 0 && ends.first == width,
+        }
+    }
+}
+
 impl Summary for Extent {
     ghost use Rattle.wrap_map.specs.inside.Extents.{no_extent, joined_extents, ExtentFits, extent_laws};
 

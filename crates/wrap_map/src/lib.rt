@@ -9,7 +9,6 @@ mod extent;
 mod gathering;
 mod landing;
 mod map;
-pub mod marks;
 mod replacing;
 mod snapshot;
 mod stretch;
@@ -17,6 +16,6 @@ mod stretches;
 mod waiting;
 pub mod worked;
 
+pub use cell_line::MarkRun;
 pub use map::WrapMap;
-pub use marks::MarkRun;
 pub use snapshot::WrapSnapshot;

@@ -1,5 +1,6 @@
 //! The map from lines to rows.
-ghost use Rattle.std.specs.Prelude.{◌≡◌, ◌+◌, ◌^◌, ◌<◌, ◌≤◌, [], length, map, IfErr, IfOk, IfSome, OnErr, OnOk};
+ghost use Rattle.std.specs.Prelude.{◌≡◌, ◌+◌, ◌^◌, ◌<◌, ◌≤◌, ◌==◌, [], length, map, IfErr, IfOk, IfSome, OnErr, OnOk};
+ghost use Rattle.std.specs.List.{list_all};
 ghost use Rattle.cell_line.specs.Lines.{FitsU32};
 ghost use Rattle.cell_units.specs.Lawful.{IsWidth};
 ghost use Rattle.cell_units.specs.Rows.{all_rows};
@@ -10,7 +11,7 @@ ghost use Rattle.shifted_lists.specs.Leads.{LeadsBy};
 ghost use Rattle.wrap_map.specs.Items.{items_of};
 ghost use Rattle.wrap_map.specs.Landing.{IsLanded, cuts_of_run, standing_landed};
 ghost use Rattle.wrap_map.specs.Standing.{HasRoom, IsSynced, all_at, shown_rows, standing_after};
-ghost use Rattle.wrap_map.specs.Waiting.{AreApart, IsNextIfAny};
+ghost use Rattle.cell_line.specs.Waiting.{AreApart, IsNextIfAny};
 
 use crate::landing::put_landed;
 use crate::replacing::replaced_if_any;
@@ -25,11 +26,20 @@ use std::alloc::Global;
 use std::marker::Model;
 
 /// Lines that stand wrapped, and the width that they are to stand at.
-#[derive(Drop)]
 pub struct WrapMap<N: Lines> {
     lines: N,
     stretches: Stretches,
     width: u32,
+}
+
+impl<N: Lines> Drop for WrapMap<N> {
+    fn drop(self) {
+        let WrapMap {
+            lines: _,
+            stretches: _,
+            width: _,
+        } = self;
+    }
 }
 
 impl<N: Lines> Model for WrapMap<N> {
@@ -164,11 +174,13 @@ impl<N: Lines> WrapMap<N> {
             let landed = standing_landed since.now run width self.old.standing in
             length (all_rows (shown_rows landed)) < 2 ^ 32 }
 
-        // At the present width the lines that the run still has stand at it; at another nothing changes.
+        // At the present width the lines that the run still has stand at it; at another nothing changes. The patch has no more edits
+        // than the run has lines.
         ensures landed { width ≡ self.old.width →
             IfOk result (IsLanded self.old since.now run self.new) }
         ensures other_width { (width ≡ self.old.width → ⊥) → IfOk result (λ patch. patch ≡ []) }
         ensures kept { (width ≡ self.old.width → ⊥) → self.new ≡ self.old }
+        ensures few { IfOk result (λ patch. length patch ≤ run.count) }
         ensures unchanged { OnErr result (self.new ≡ self.old) }
 
         // The work.
@@ -179,6 +191,8 @@ impl<N: Lines> WrapMap<N> {
         if width != self.width {
             return Ok(Patch::none(alloc));
         }
+        // What `since` keeps in its type is what its edits ensure.
+        let _edits = since.edits();
         let (stretches, patch) = put_landed(
             alloc,
             &self.lines,
@@ -192,6 +206,13 @@ impl<N: Lines> WrapMap<N> {
         )?;
         self.stretches = stretches;
         Ok(patch)
+    }
+
+    /// Whether every line stands at the width.
+    pub fn is_settled(&self) -> bool
+        ensures { result ≡ list_all (λ mark. mark == self.now.width) self.now.standing.marks }
+    {
+        self.stretches.are_at(self.width)
     }
 
     /// The lines as they stand. It takes no memory: `NoMemory` is one holder too many.

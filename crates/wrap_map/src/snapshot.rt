@@ -2,21 +2,29 @@
 ghost use Rattle.std.specs.Prelude.{◌≡◌, ◌+◌, ◌*◌, ◌^◌, ◌<◌, ◌≤◌, length, IfOk};
 ghost use Rattle.sum_tree.specs.Bounds.{TakesAtMost, way};
 ghost use Rattle.wrap_map.specs.Bounds.{ListsAtMost};
-ghost use Rattle.wrap_map.specs.Standing.{cuts_at, mark_at, runs_from, shown_rows};
+ghost use Rattle.wrap_map.specs.Standing.{cuts_at, mark_at, shown_rows};
+ghost use Rattle.cell_line.specs.MarkRuns.{runs_from};
 
-use crate::marks::MarkRun;
 use crate::stretches::Stretches;
-use cell_line::{Cuts, Lines};
+use cell_line::{Cuts, Lines, MarkRun};
 use cell_units::{NoMemory, Rows, Steps, Text};
 use std::alloc::Global;
 use std::marker::Model;
 
 /// Lines as they stand wrapped. Copies share what they have in common, and no later change of the map
 /// is seen.
-#[derive(Drop)]
 pub struct WrapSnapshot<N: Lines> {
     pub(crate) lines: N,
     pub(crate) stretches: Stretches,
+}
+
+impl<N: Lines> Drop for WrapSnapshot<N> {
+    fn drop(self) {
+        let WrapSnapshot {
+            lines: _,
+            stretches: _,
+        } = self;
+    }
 }
 
 impl<N: Lines> Model for WrapSnapshot<N> {

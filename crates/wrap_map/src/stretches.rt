@@ -1,8 +1,9 @@
 //! How each line stands, kept as one tree of stretches.
-ghost use Rattle.std.specs.Prelude.{◌≡◌, ◌+◌, ◌-◌, ◌*◌, ◌^◌, ◌<◌, ◌≤◌, ◌++◌, [], length, take, replicate, IfOk, OnOk, OnErr};
+ghost use Rattle.std.specs.Prelude.{◌≡◌, ◌+◌, ◌-◌, ◌*◌, ◌^◌, ◌<◌, ◌≤◌, ◌++◌, ◌==◌, [], length, take, replicate, IfOk, OnOk, OnErr};
+ghost use Rattle.std.specs.List.{list_all};
 ghost use Rattle.sum_tree.specs.Bounds.{TakesAtMost, way};
 ghost use Rattle.wrap_map.specs.Bounds.{ListsAtMost, beginning};
-ghost use Rattle.wrap_map.specs.Standing.{runs_from};
+ghost use Rattle.cell_line.specs.MarkRuns.{runs_from};
 ghost use Rattle.wrap_map.specs.Stood.{IsNextAt, IsOtherIfAny, marks_in, put_in, rows_in, runs_in, stood_at, unwrapped};
 ghost use Rattle.wrap_map.specs.inside.Bounds.{PutsAtMost, each_way, two_ways};
 ghost use Rattle.wrap_map.specs.inside.Changes.{AreRowsAt};
@@ -12,9 +13,8 @@ ghost use Rattle.wrap_map.specs.inside.Stretches.{AreStretches, extent_of, sprea
 
 use crate::extent::{ByLines, ByRows, BySwitches, Extent, switch_between};
 use crate::gathering::gather;
-use crate::marks::MarkRun;
 use crate::stretch::Stretch;
-use cell_line::Cuts;
+use cell_line::{Cuts, MarkRun};
 use cell_units::{Bias, NoMemory, Steps};
 use std::alloc::Global;
 use std::marker::Model;
@@ -23,11 +23,16 @@ use sum_core::Item;
 use sum_tree::SumTree;
 
 /// A list of lines, each as it stands. Copies share what they have in common.
-#[derive(Drop)]
 pub struct Stretches {
     tree: SumTree<Stretch>,
     /// An empty list, to be lent as the cuts of lines without cuts.
     none: Arc<Cuts>,
+}
+
+impl Drop for Stretches {
+    fn drop(self) {
+        let Stretches { tree: _, none: _ } = self;
+    }
 }
 
 impl Model for Stretches {
@@ -307,6 +312,13 @@ impl Stretches {
             found = self.tree.find::<BySwitches>(changes, Bias::Right, steps);
         }
         end
+    }
+
+    /// Whether all lines stand at the width.
+    pub fn are_at(&self, width: u32) -> bool
+        ensures { result ≡ list_all (λ mark. mark == width) (marks_in self.now) }
+    {
+        self.tree.sum().is_at(width)
     }
 
     /// The maximal runs of lines of one mark other than 0, in order.

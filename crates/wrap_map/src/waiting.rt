@@ -3,7 +3,7 @@ ghost use Rattle.std.specs.Prelude.{◌≡◌, ◌≢◌, ◌+◌, ◌*◌, ◌<
 ghost use Rattle.sum_tree.specs.Bounds.{TakesAtMost};
 ghost use Rattle.wrap_map.specs.Bounds.{finding};
 ghost use Rattle.wrap_map.specs.Stood.{marks_in, stood_at};
-ghost use Rattle.wrap_map.specs.Waiting.{AreApart, IsNextIfAny};
+ghost use Rattle.cell_line.specs.Waiting.{AreApart, IsNextIfAny};
 ghost use Rattle.wrap_map.specs.inside.Bounds.{looking};
 ghost use Rattle.wrap_map.specs.inside.Changes.{IsRunFrom};
 

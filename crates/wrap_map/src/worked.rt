@@ -5,8 +5,9 @@ ghost use Rattle.cell_units.specs.declared.place.Shift.{Shift};
 ghost use Rattle.cell_units.specs.Rows.{all_rows, line_rows, rows_before};
 ghost use Rattle.wrap_map.specs.Items.{items_of};
 ghost use Rattle.wrap_map.specs.Landing.{marks_landed};
-ghost use Rattle.wrap_map.specs.Standing.{Standing, all_at, marks_after, runs_from, shown_rows, standing_after};
-ghost use Rattle.wrap_map.specs.Waiting.{IsNext, IsNextIfAny};
+ghost use Rattle.wrap_map.specs.Standing.{Standing, all_at, marks_after, shown_rows, standing_after};
+ghost use Rattle.cell_line.specs.MarkRuns.{runs_from};
+ghost use Rattle.cell_line.specs.Waiting.{IsNext, IsNextIfAny};
 ghost use Rattle.wrap_map.specs.Worked.{ten, three_hundred};
 
 /// Ten lines of two words at width 5: all ten are the next run, and landed they have two rows each and none waits.

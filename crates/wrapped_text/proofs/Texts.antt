@@ -1,7 +1,7 @@
 -- The lines of a text, for the maps above it.
 use Rattle.std.proofs.Common.{◌≡◌, Result, Ok, Err, IfErr, IsErrAnd, ℕ, ◌+◌, ◌-◌, ◌≤◌, List, length, Option, Some, None, arith, ap, sym, subst, ◌∙◌}
 use Rattle.std.specs.Prelude.{unwrap_or}
-use Rattle.cell_units.specs.declared.limits.TheConstants.{TEXT_LIMIT}
+use Rattle.cell_units.specs.declared.limits.TheConstants.{LAID_LIMIT}
 use Rattle.cell_units.specs.declared.place.Shift.{Shift}
 use Rattle.cell_units.specs.Layers.{plain_source}
 use Rattle.cell_units.specs.Operation.{replaced_text}
@@ -19,7 +19,7 @@ use Rattle.wrapped_text.specs.Shown.{AreLinesMet, HaveRoom}
 use Rattle.cell_line.specs.declared.element.Element.{Element}
 
 -- the lines of a text have room
-pub text-room : (text : List ℕ) → length text ≤ TEXT_LIMIT → HaveRoom (lines_at (plain_source text) 4)
+pub text-room : (text : List ℕ) → length text ≤ LAID_LIMIT → HaveRoom (lines_at (plain_source text) 4)
 text-room text small marks =
     has-room (record { lines = lines_at (plain_source text) 4; marks = marks }) (plain-fits text 4 (omega arith) small) (omega (arith, plain-few text 4, small))
 

@@ -3,7 +3,7 @@ ghost use Rattle.std.specs.Prelude.{◌≡◌, ◌+◌, ◌≤◌, [], length, m
 ghost use Rattle.cell_line.specs.Lines.{FitsU32};
 ghost use Rattle.cell_units.specs.Lawful.{IsWidth};
 ghost use Rattle.wrap_map.specs.Landing.{cuts_of_run};
-ghost use Rattle.wrap_map.specs.Waiting.{IsNextIfAny};
+ghost use Rattle.cell_line.specs.Waiting.{IsNextIfAny};
 ghost use Rattle.wrapped_text.specs.Shown.{HaveRoom, IsWrapped};
 
 use cell_line::{Cuts, Lines, Run};

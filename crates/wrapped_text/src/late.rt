@@ -7,7 +7,7 @@ ghost use Rattle.edit_patch.specs.Fits.{Fits};
 ghost use Rattle.text_rope.specs.Edits.{IsRange, IsReplaceFault};
 ghost use Rattle.wrap_map.specs.Landing.{IsLanded, cuts_of_run};
 ghost use Rattle.wrap_map.specs.Standing.{IsSynced};
-ghost use Rattle.wrap_map.specs.Waiting.{IsNextIfAny};
+ghost use Rattle.cell_line.specs.Waiting.{IsNextIfAny};
 
 use crate::since::followed;
 use crate::text::{Change, WrappedText};
@@ -20,7 +20,6 @@ use text_rope::Rope;
 
 /// A text, the run of lines that was taken last, with its cuts, and where the lines of now came from since. At first that is a
 /// run of no lines.
-#[derive(Drop)]
 pub struct LateText {
     pub text: WrappedText,
     /// The lines of the moment at which the run was taken.
@@ -34,6 +33,19 @@ pub struct LateText {
     ghost within: { run.first + run.count ≤ length taken },
     ghost cut: { map (λ cuts. cuts.items) wraps.items ≡ cuts_of_run taken run width },
     ghost fits: { Fits since taken text.lines },
+}
+
+impl Drop for LateText {
+    fn drop(self) {
+        let LateText {
+            text: _,
+            taken: _,
+            run: _,
+            width: _,
+            wraps: _,
+            since: _,
+        } = self;
+    }
 }
 
 impl LateText {

@@ -6,7 +6,7 @@ ghost use Rattle.wrapped_text.specs.Shown.{patch_of};
 
 use cell_line::Lines;
 use cell_units::{NoMemory, Shift};
-use edit_patch::{Edit, Patch};
+use edit_patch::Patch;
 use std::alloc::Global;
 
 /// The patch of a replacement, if there was one.
@@ -14,18 +14,10 @@ pub fn patch_of(alloc: Global, lines: Option<Shift>) -> Result<Patch, NoMemory>
     requires { IfSome lines (λ s. s.start + s.count < 2 ^ 32) }
     ensures { IfOk result (λ patch. patch ≡ patch_of lines) }
 {
-    let mut edits = Vec::new(alloc);
-    if let Some(s) = lines
-        && (s.start < s.end || s.count > 0)
-    {
-        edits.push(Edit {
-            old_start: s.start,
-            old_end: s.end,
-            new_start: s.start,
-            new_end: s.start + s.count,
-        })?;
+    match lines {
+        None => Ok(Patch::none(alloc)),
+        Some(shift) => Patch::of_shift(alloc, shift),
     }
-    Patch::of(edits).map_err(|_| NoMemory)
 }
 
 /// The patch from the first lines to those of now, by that to the ones before and what was replaced of them.

@@ -12,7 +12,7 @@ ghost use Rattle.tab_map.specs.TabLines.{AreMet, LinesFollow, lines_at};
 ghost use Rattle.text_rope.specs.Edits.{IsRange, IsReplaceFault};
 ghost use Rattle.wrap_map.specs.Landing.{IsLanded, cuts_of_run};
 ghost use Rattle.wrap_map.specs.Standing.{IsSynced};
-ghost use Rattle.wrap_map.specs.Waiting.{IsNextIfAny};
+ghost use Rattle.cell_line.specs.Waiting.{IsNextIfAny};
 ghost use Rattle.wrapped_text.specs.Shown.{AreLinesMet, HaveRoom, IsWrapped, MayStand, lines_of, tabs_of, unwrapped_at};
 
 use crate::callers::{wrap_next, wraps};
@@ -39,7 +39,6 @@ pub struct Change {
 }
 
 /// A text under a tab map and a wrap map, with its lines as the wrap map has them.
-#[derive(Drop)]
 pub struct WrappedText {
     pub rope: Rope,
     pub tabs: TabMap<Rope>,
@@ -53,6 +52,18 @@ pub struct WrappedText {
     ghost mapped: { map.standing.lines ≡ lines },
     ghost one_width: { map.width ≡ width },
     ghost lawful: { MayStand width },
+}
+
+impl Drop for WrappedText {
+    fn drop(self) {
+        let WrappedText {
+            rope: _,
+            tabs: _,
+            lines: _,
+            map: _,
+            width: _,
+        } = self;
+    }
 }
 
 /// A tab map of a text, and the lines that it shows.

@@ -9,11 +9,6 @@ use Rattle.block_map.specs.Maps.{BlockState, Kept, row_at_line}
 abbrev pub is_kept : ℕ → List Kept → Bool
 is_kept id ks = list_any (λ k. k.id == id) ks
 
--- the blocks of a side
-abbrev pub on_side : Side → BlockState → List Kept
-on_side Above s = s.above
-on_side Below s = s.below
-
 -- a block that was shown stood at a line
 abbrev pub WasAtLine : List (List (List ℕ)) → Side → Kept → Type 0
 WasAtLine lines side k =

@@ -1,5 +1,5 @@
 -- What is summed over the stretches of a map.
-use Rattle.std.specs.Prelude.{◌≡◌, ℕ, ◌+◌, ◌<◌, ◌^◌, ◌==◌, if◌then◌else◌, Option, Some, None, refl}
+use Rattle.std.specs.Prelude.{◌≡◌, ℕ, ◌+◌, ◌<◌, ◌^◌, ◌==◌, ◌&&◌, Bool, true, if◌then◌else◌, Option, Some, None, refl}
 use Rattle.std.proofs.Common.{arith}
 use Rattle.sum_core.specs.Sums.{SummaryLaws}
 use Rattle.sum_core.specs.Measures.{CountLaws, MeasureLaws}
@@ -28,6 +28,12 @@ joined_extents a b =
       switches = a.switches + b.switches + switch_between a.ends b.ends;
       ends = joined_ends a.ends b.ends;
     }
+
+-- lines with so many changes of the mark, and these ends, all stand at the width: there are none, or the first one does and the mark
+-- never changes
+abbrev pub are_at : ℕ → ℕ → Option Ends → Bool
+are_at width switches None = true
+are_at width switches (Some e) = (switches == 0) && (e.first == width)
 
 pub record ExtentFits (s : Extent) : Type 0 where
   pub lines : s.lines < 2 ^ 32

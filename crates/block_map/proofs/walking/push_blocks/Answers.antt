@@ -3,7 +3,7 @@ use Rattle.std.specs.List.{slice_get}
 use Rattle.std.proofs.lemmas.List.{map_push}
 use Rattle.plain_rows.specs.Rows.{Row}
 use Rattle.block_map.specs.Between.{block_row}
-use Rattle.block_map.specs.ShownRows.{shown_rows}
+use Rattle.plain_rows.specs.ShownRows.{shown_rows}
 use Rattle.block_map.specs.Stops.{texts_at}
 use Rattle.block_map.proofs.RowsInZones.{steps-more}
 use Rattle.block_map.proofs.ShownTexts.{push-row}

@@ -20,9 +20,9 @@ returns-clause-stands g c =
     let source = g.P.Layer.source c.args.layer.now in
     let lines = g.R.Rows.shown c.args.rows in
     let state = c.args.blocks.now in
-    on_ok_weaker c.follow-2.result
+    on_ok_weaker c.follow.result
     (λ left. subst (λ (s : BlockState). StandsOn source lines s) (sym left)
     (stands-synced source source lines lines None state c.requires.stands
     (followed-same source lines state c.buffer_len-len.ensures.well_formed c.lines-lines.ensures.rows c.requires.equal c.requires.few c.requires.stands).anchors_above
     (followed-same source lines state c.buffer_len-len.ensures.well_formed c.lines-lines.ensures.rows c.requires.equal c.requires.few c.requires.stands).anchors_below))
-    c.follow-2.ensures.ok
+    c.follow.ensures.ok

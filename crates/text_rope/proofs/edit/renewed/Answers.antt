@@ -27,9 +27,6 @@ overflow_sub-kept-2 c =
     let within = range (goal.at.overflow_sub-kept-2 c).After-cleaned in
     omega (arith, ap (λ (s : TextSize). s.bytes) c.sum.ensures ∙ total_bytes c.args.chunks.now, within.0, within.2.0)
 
-pub overflow_sub-kept-3 : goal.overflow_sub-kept-3
-overflow_sub-kept-3 c = omega (arith, ap (λ (s : TextSize). s.bytes) c.sum.ensures ∙ total_bytes c.args.chunks.now, c.requires.small)
-
 -- how long the new text is
 long : (c : After-len) → IsRange (concat c.args.chunks.now) c.args.start c.args.end → length (replaced_text (concat c.args.chunks.now) c.args.start c.args.end (clean c.args.text.now)) ≡ c.sum.result.bytes - (c.args.end - c.args.start) + c.len.result
 long c within =
@@ -41,15 +38,15 @@ long c within =
       ap (λ (t : List ℕ). length t) c.in_ok-text.ensures,
     )
 
-pub returns-then-len-kept-clause-refused : goal.returns-then-len-kept-clause-refused
-returns-then-len-kept-clause-refused c =
-    let within = range (goal.at.returns-then-len-kept-clause-refused c).After-cleaned in
-    (within, omega (arith, long (goal.at.returns-then-len-kept-clause-refused c).After-len within, c.if-len-kept.true))
+pub returns-then-long-limit-clause-refused : goal.returns-then-long-limit-clause-refused
+returns-then-long-limit-clause-refused c =
+    let within = range (goal.at.returns-then-long-limit-clause-refused c).After-cleaned in
+    (within, omega (arith, long (goal.at.returns-then-long-limit-clause-refused c).After-len within, c.if-long-limit.true, c.saturating_add-long.ensures))
 
 pub returns-clause-small : goal.returns-clause-small
 returns-clause-small c =
     let within = range (goal.at.returns-clause-small c).After-cleaned in
-    omega (arith, long (goal.at.returns-clause-small c).After-len within, c.if-len-kept.false, c.requires.small, ap (λ (s : TextSize). s.bytes) c.sum.ensures ∙ total_bytes c.args.chunks.now)
+    omega (arith, long (goal.at.returns-clause-small c).After-len within, c.if-long-limit.false, c.saturating_add-long.ensures, c.requires.limit)
 
 pub returns-clause-renewed : goal.returns-clause-renewed
 returns-clause-renewed c =
@@ -59,4 +56,4 @@ returns-clause-renewed c =
 pub returns-clause-patch : goal.returns-clause-patch
 returns-clause-patch c =
     let count : c.len-2.result ≡ length (clean c.args.text.now) = omega (arith, c.len-2.ensures, ap (λ (t : List ℕ). length t) c.in_ok-text.ensures) in
-    c.in_ok-patch.ensures.ok ∙ ap (λ (n : ℕ). replacement c.args.start c.args.end n) count
+    c.in_ok-patch.ensures ∙ (λ i. replacement (c.new-shift.ensures.start i) (c.new-shift.ensures.end i) ((c.new-shift.ensures.count ∙ count) i))

@@ -2,7 +2,7 @@ use Rattle.std.proofs.Common.{◌≡◌, ℕ, ◌+◌, ◌*◌, ◌<◌, ◌∙�
 use Rattle.std.proofs.lemmas.List.{get_or_default}
 use Rattle.cell_line.specs.declared.lines.Run.{Run}
 use Rattle.wrap_map.specs.Stood.{marks_in}
-use Rattle.wrap_map.specs.Waiting.{IsNextIfAny}
+use Rattle.cell_line.specs.Waiting.{IsNextIfAny}
 use Rattle.wrap_map.proofs.NextRuns.{IsPassed, next-before, next-behind, none_waits, passed-on}
 use Rattle.wrap_map.proofs.StepSums.{one-more}
 use Rattle.wrap_map.proofs.waiting.next_run.Goals as goal

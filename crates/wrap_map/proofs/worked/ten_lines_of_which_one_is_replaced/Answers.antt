@@ -1,7 +1,7 @@
 use Rattle.std.proofs.Common.{◌≡◌, [], ◌∷◌, List, refl}
-use Rattle.wrap_map.specs.declared.marks.MarkRun.{MarkRun}
+use Rattle.cell_line.specs.declared.lines.MarkRun.{MarkRun}
 use Rattle.wrap_map.specs.Items.{items_of}
-use Rattle.wrap_map.specs.Standing.{runs_from}
+use Rattle.cell_line.specs.MarkRuns.{runs_from}
 use Rattle.wrap_map.specs.Worked.{ten}
 use Rattle.wrap_map.proofs.WorkedRows as rows
 use Rattle.wrap_map.proofs.worked.ten_lines_of_which_one_is_replaced.Goals as goal

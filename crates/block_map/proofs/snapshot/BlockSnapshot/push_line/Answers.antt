@@ -1,7 +1,7 @@
 use Rattle.std.proofs.Common.{◌≡◌, ◌∙◌, ℕ, ◌+◌, ◌-◌, List, ◌++◌, length, take, drop, ap, sym, arith}
 use Rattle.plain_rows.specs.Rows.{Row}
 use Rattle.block_map.specs.Between.{Between, rows_between}
-use Rattle.block_map.specs.ShownRows.{shown_rows}
+use Rattle.plain_rows.specs.ShownRows.{shown_rows}
 use Rattle.block_map.proofs.RowsInZones.{line-pushed}
 use Rattle.block_map.proofs.snapshot.BlockSnapshot.push_line.Goals as goal
 

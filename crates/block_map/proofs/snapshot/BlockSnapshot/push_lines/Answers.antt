@@ -1,7 +1,7 @@
 use Rattle.std.proofs.Common.{◌≡◌, ◌∙◌, ℕ, ◌+◌, ◌-◌, ◌<◌, List, ◌++◌, drop, take, ap, sym, arith, append_assoc}
 use Rattle.plain_rows.specs.Rows.{Row}
 use Rattle.block_map.specs.Between.{rows_between}
-use Rattle.block_map.specs.ShownRows.{shown_rows}
+use Rattle.plain_rows.specs.ShownRows.{shown_rows}
 use Rattle.block_map.proofs.RowRuns.{clear-end, clear-zone}
 use Rattle.block_map.proofs.Windows.{window-join}
 use Rattle.block_map.proofs.snapshot.BlockSnapshot.push_lines.Goals as goal

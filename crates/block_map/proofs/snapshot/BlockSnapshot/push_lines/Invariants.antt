@@ -1,6 +1,6 @@
 use Rattle.std.proofs.Common.{◌≡◌, ◌-◌, ◌≤◌, ◌++◌, take, drop}
 use Rattle.block_map.specs.Between.{rows_between}
-use Rattle.block_map.specs.ShownRows.{shown_rows}
+use Rattle.plain_rows.specs.ShownRows.{shown_rows}
 use Rattle.block_map.proofs.snapshot.BlockSnapshot.push_lines.Given as goal
 
 -- The rows up to the next one stand there.

@@ -1,7 +1,7 @@
 use Rattle.std.proofs.Common.{◌≡◌, ◌∙◌, ℕ, suc, ◌+◌, ◌-◌, ◌≤◌, List, ◌++◌, drop, length, take, ap, arith}
 use Rattle.plain_rows.specs.Rows.{Row}
 use Rattle.block_map.specs.Between.{rows_between}
-use Rattle.block_map.specs.ShownRows.{shown_rows}
+use Rattle.plain_rows.specs.ShownRows.{shown_rows}
 use Rattle.block_map.specs.Stops.{texts_at}
 use Rattle.block_map.proofs.RowRuns.{above-window, below-window, on-err}
 use Rattle.block_map.proofs.RowsInZones.{in-zone}

@@ -2,9 +2,9 @@ use Rattle.std.proofs.Common.{◌≡◌, ◌∙◌, ◌+◌, ◌-◌, suc, Some,
 use Rattle.std.specs.List.{slice_get}
 use Rattle.std.proofs.lemmas.Result.{IfOk-weaker}
 use Rattle.cell_units.specs.declared.place.Bias.TheVariants.{Left}
-use Rattle.block_map.specs.declared.shown.Shown.{Shown}
+use Rattle.plain_rows.specs.declared.shown.Shown.{Shown}
 use Rattle.block_map.specs.Between.{Between, block_row}
-use Rattle.block_map.specs.ShownRows.{row_of_shown}
+use Rattle.plain_rows.specs.ShownRows.{row_of_shown}
 use Rattle.block_map.specs.Stops.{rows_upto, texts_at}
 use Rattle.block_map.specs.inside.Zones.{text_row, zone}
 use Rattle.block_map.proofs.RowsInZones.{above-part, below-part, text-part}

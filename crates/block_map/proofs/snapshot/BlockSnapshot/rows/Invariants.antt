@@ -1,7 +1,7 @@
 use Rattle.std.proofs.Common.{◌≡◌, ℕ, ◌+◌, ◌-◌, ◌*◌, ◌≤◌, take, drop}
 use Rattle.block_map.specs.Between.{rows_between}
 use Rattle.block_map.specs.Bounds.{IsHeight}
-use Rattle.block_map.specs.ShownRows.{shown_rows}
+use Rattle.plain_rows.specs.ShownRows.{shown_rows}
 use Rattle.block_map.proofs.snapshot.BlockSnapshot.rows.Given as goal
 
 -- The rows up to the next one stand there.

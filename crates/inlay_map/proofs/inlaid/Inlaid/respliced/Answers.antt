@@ -1,6 +1,6 @@
 use Rattle.std.proofs.Common.{◌≡◌, ◌+◌, ◌-◌, ◌*◌, ◌^◌, ◌<◌, ◌≤◌, ◌∙◌, ℕ, List, ap, sym, subst, length, take, drop, arith}
 use Rattle.std.specs.List.{slice_get}
-use Rattle.cell_units.specs.declared.limits.TheConstants.{TEXT_LIMIT}
+use Rattle.cell_units.specs.declared.limits.TheConstants.{LAID_LIMIT}
 use Rattle.sum_core.specs.Sums.{total}
 use Rattle.sum_core.specs.declared.load.NoLoad.{NoLoad}
 use Rattle.splice_tree.specs.Sides.{none, both, BothFit}
@@ -30,7 +30,7 @@ pub replace-requires-clause-gap_fits : goal.replace-requires-clause-gap_fits
 replace-requires-clause-gap_fits c p e =
     let s = c.args.self.now in
     let gap = c.gap_at-gap.result in
-    let short : length s.text ≤ TEXT_LIMIT = omega (arith, c.len-len.ensures.value, c.len-len.ensures.lawful.short) in
+    let short : length s.text ≤ LAID_LIMIT = omega (arith, c.len-len.ensures.value, c.len-len.ensures.lawful.short) in
     gap-fits s.text short s.inlays c.args.old.now c.args.run.end (c.args.run.start + c.args.run.count) gap (spread s.text s.inlays c.len-len.ensures.lawful.inlays)
     (c.requires.rest gap ∙ c.gap_at-gap.ensures.gap) p (ap (λ (l : List (Piece Amount NoLoad)). slice_get l c.args.run.end) (sym c.in_ok-splices.ensures) ∙ e)
 
@@ -40,7 +40,7 @@ replace-requires-clause-fits c =
     let gap = c.gap_at-gap.result in
     let run = c.args.run in
     let new = splices_from s.text 0 s.inlays in
-    let short : length s.text ≤ TEXT_LIMIT = omega (arith, c.len-len.ensures.value, c.len-len.ensures.lawful.short) in
+    let short : length s.text ≤ LAID_LIMIT = omega (arith, c.len-len.ensures.value, c.len-len.ensures.lawful.short) in
     let size : run.start + run.count - run.start ≡ run.count = omega arith in
     let fresh = c.in_ok-fresh.ensures.ok ∙ ap (λ n. take n (drop run.start new)) size in
     let whole =

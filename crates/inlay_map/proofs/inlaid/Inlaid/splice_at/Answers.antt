@@ -1,5 +1,5 @@
 use Rattle.std.proofs.Common.{◌≤◌, ap, sym, ◌∙◌, length, Some, arith}
-use Rattle.cell_units.specs.declared.limits.TheConstants.{TEXT_LIMIT}
+use Rattle.cell_units.specs.declared.limits.TheConstants.{LAID_LIMIT}
 use Rattle.cell_units.specs.Layers.{Source}
 use Rattle.inlay_map.proofs.FoundInlays.{found-in, splice-fits, splice-found}
 use Rattle.inlay_map.proofs.Measured.{own-end}
@@ -28,7 +28,7 @@ amount_shown-requires c =
 pub new-requires-clause-upper : goal.new-requires-clause-upper
 new-requires-clause-upper c =
     let s = c.args.self.now in
-    let short : length s.text ≤ TEXT_LIMIT = omega (arith, c.len-len.ensures.value, c.len-len.ensures.lawful.short) in
+    let short : length s.text ≤ LAID_LIMIT = omega (arith, c.len-len.ensures.value, c.len-len.ensures.lawful.short) in
     let found = found-in s c.self.inside.marks c.args.at _ c.len-len.ensures.lawful.inlays (ap (λ (v : Source). v.inlays) c.self.view_is) c.in-Some.ensures.mark in
     splice-fits s c.args.at _ c.args.before.bytes c.amount_behind.result c.amount_shown.result c.len-len.ensures.lawful.inlays short found (own-end s.text _ c.args.before c.requires.before).0 c.amount_behind.ensures.amount c.amount_shown.ensures
 

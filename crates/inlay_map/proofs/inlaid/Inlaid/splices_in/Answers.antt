@@ -1,5 +1,5 @@
 use Rattle.std.proofs.Common.{◌≡◌, ◌+◌, ◌-◌, ◌*◌, ◌≤◌, ◌∙◌, ℕ, ap, length, subst, sym, arith}
-use Rattle.cell_units.specs.declared.limits.TheConstants.{TEXT_LIMIT}
+use Rattle.cell_units.specs.declared.limits.TheConstants.{LAID_LIMIT}
 use Rattle.inlay_map.specs.declared.amount.Amount.{Amount}
 use Rattle.inlay_map.specs.Amounts.{AmountFits, together}
 use Rattle.inlay_map.specs.Bounds.{measuring}
@@ -13,14 +13,14 @@ use Rattle.inlay_map.proofs.inlaid.Inlaid.splices_in.Goals as goal
 pub plus-reached-requires : goal.plus-reached-requires
 plus-reached-requires c =
     let s = c.args.self.now in
-    let short : length s.text ≤ TEXT_LIMIT = omega (arith, c.len-len.ensures.value, c.len-len.ensures.lawful.short) in
+    let short : length s.text ≤ LAID_LIMIT = omega (arith, c.len-len.ensures.value, c.len-len.ensures.lawful.short) in
     let next = next-before s c.loop-at.at c.loop-at.reached c.splice_at-splice.result (spread s.text s.inlays c.len-len.ensures.lawful.inlays) short c.loop-at.invariant.1 c.splice_at-splice.ensures.splice in
     subst (λ (a : Amount). AmountFits (together c.loop-at.reached a)) (sym c.gap.ensures) next.0
 
 pub loop-at-preserved : goal.loop-at-preserved
 loop-at-preserved c =
     let s = c.args.self.now in
-    let short : length s.text ≤ TEXT_LIMIT = omega (arith, c.len-len.ensures.value, c.len-len.ensures.lawful.short) in
+    let short : length s.text ≤ LAID_LIMIT = omega (arith, c.len-len.ensures.value, c.len-len.ensures.lawful.short) in
     let next = next-before s c.loop-at.at c.loop-at.reached c.splice_at-splice.result (spread s.text s.inlays c.len-len.ensures.lawful.inlays) short c.loop-at.invariant.1 c.splice_at-splice.ensures.splice in
     let at = c.loop-at.at in
     let size : at - c.args.from + 1 ≡ at + 1 - c.args.from = omega (arith, c.loop-at.auto.at) in (

@@ -6,7 +6,7 @@ use Rattle.cell_units.specs.Text.{IsBoundary, clean}
 use Rattle.inlay_map.specs.Amounts.{bytes_of}
 use Rattle.inlay_map.proofs.PiecesFound.{inlay-next, stop-boundary, text-next, to-boundary}
 use Rattle.inlay_map.proofs.ShownBoundaries.{inlay-boundary, text-boundary}
-use Rattle.inlay_map.proofs.SoughtSpots.{AreNumbers, IsThere, from-right, numbers, reach-right, text-there, there-bytes}
+use Rattle.inlay_map.proofs.SoughtSpots.{AreNumbers, IsThere, from-right, id-there, numbers, reach-right, text-there, there-bytes}
 use Rattle.inlay_map.proofs.snapshot.InlaySnapshot.piece_at.Goals as goal
 use Rattle.inlay_map.proofs.snapshot.InlaySnapshot.piece_at.Goals.{After-find-spot}
 
@@ -63,16 +63,16 @@ slice-requires-clause-end c =
     subst (λ (s : Source). IsBoundary s.text c.min-stop.result) (sym c.self.view_is)
     (stop-boundary v e.folds e.inlays e.short e.text c.args.place c.args.end c.min-stop.result c.find-spot.result (spot a) (from a) c.if-rest-spot.true c.requires.order c.requires.end (omega (arith, c.min-stop.ensures)))
 
-pub shown-text-requires : goal.shown-text-requires
-shown-text-requires c =
-    let a = (goal.at.shown-text-requires c).After-find-spot in
+pub shown_with_id-id-requires : goal.shown_with_id-id-requires
+shown_with_id-id-requires c =
+    let a = (goal.at.shown_with_id-id-requires c).After-find-spot in
     omega (arith, (there a c.if-rest-spot.false).inside, ap (λ (s : Source). length s.inlays) c.self.view_is)
 
 pub range-requires-clause-start_le_end : goal.range-requires-clause-start_le_end
 range-requires-clause-start_le_end c =
     let a = (goal.at.range-requires-clause-start_le_end c).After-find-spot in
     let t = there a c.if-rest-spot.false in
-    let is = text-there c.args.self.now c.self.inside.inlaid c.find-spot.result t c.shown-text.result.now c.self.view_is c.shown-text.ensures.text in
+    let is = text-there c.args.self.now c.self.inside.inlaid c.find-spot.result t c.shown_with_id-id.result.1.now c.self.view_is c.shown_with_id-id.ensures.text in
     let long = ap (λ (l : List ℕ). length l) is in
     let r = reach a c.if-rest-spot.false in
     omega (arith, long, r)
@@ -84,7 +84,7 @@ range-requires-clause-start_boundary c =
     let v = c.args.self.now in
     let e = c.text_len-len.ensures.lawful in
     let t = there a past in
-    let is = text-there v c.self.inside.inlaid c.find-spot.result t c.shown-text.result.now c.self.view_is c.shown-text.ensures.text in
+    let is = text-there v c.self.inside.inlaid c.find-spot.result t c.shown_with_id-id.result.1.now c.self.view_is c.shown_with_id-id.ensures.text in
     let r = rest a - c.find-spot.result.gap.bytes in
     let reaches : r ≤ length (clean t.inlay.text) = omega (arith, reach a past) in
     let here : c.args.place ≡ c.find-spot.result.before.upper.bytes + c.find-spot.result.gap.bytes + r = omega (arith, from a, past) in
@@ -98,7 +98,7 @@ range-requires-clause-end_boundary c =
     let v = c.args.self.now in
     let e = c.text_len-len.ensures.lawful in
     let t = there a past in
-    let is = text-there v c.self.inside.inlaid c.find-spot.result t c.shown-text.result.now c.self.view_is c.shown-text.ensures.text in
+    let is = text-there v c.self.inside.inlaid c.find-spot.result t c.shown_with_id-id.result.1.now c.self.view_is c.shown_with_id-id.ensures.text in
     let long = ap (λ (l : List ℕ). length l) is in
     subst (λ (l : List ℕ). IsCharBoundary l c.min-to.result) (sym is)
     (to-boundary v e.folds e.inlays e.short e.text c.args.place c.args.end c.min-to.result c.find-spot.result t (spot a) (from a) past (reach a past) c.requires.order c.requires.end (omega (arith, long, c.min-to.ensures)))
@@ -119,8 +119,9 @@ returns-clause-next c =
     let v = c.args.self.now in
     let e = c.text_len-len.ensures.lawful in
     let t = there a past in
-    let is = text-there v c.self.inside.inlaid c.find-spot.result t c.shown-text.result.now c.self.view_is c.shown-text.ensures.text in
+    let is = text-there v c.self.inside.inlaid c.find-spot.result t c.shown_with_id-id.result.1.now c.self.view_is c.shown_with_id-id.ensures.text in
     let long = ap (λ (l : List ℕ). length l) is in
     let r = rest a - c.find-spot.result.gap.bytes in
     let bytes = c.in_ok-from_str.ensures ∙ c.range.ensures.value ∙ ap (λ (l : List ℕ). take (c.min-to.result - r) (drop r l)) is in
-    inlay-next v e.folds e.inlays e.short e.text c.args.place c.args.end c.min-to.result c.find-spot.result _ t (spot a) (from a) past (reach a past) c.requires.order c.requires.end (omega (arith, long, c.min-to.ensures)) bytes
+    let own = id-there v c.self.inside.inlaid c.find-spot.result t c.shown_with_id-id.result.0 c.self.view_is c.shown_with_id-id.ensures.id in
+    inlay-next v e.folds e.inlays e.short e.text c.args.place c.args.end c.min-to.result c.shown_with_id-id.result.0 c.find-spot.result _ t own (spot a) (from a) past (reach a past) c.requires.order c.requires.end (omega (arith, long, c.min-to.ensures)) bytes

@@ -1,5 +1,6 @@
-use Rattle.std.proofs.Common.{List, ℕ, sym, subst}
+use Rattle.std.proofs.Common.{◌≤◌, List, ℕ, length, sym, subst, arith}
 use Rattle.cell_units.specs.Text.{clean}
+use Rattle.cell_units.specs.declared.limits.TheConstants.{TEXT_LIMIT}
 use Rattle.cell_units.proofs.TextLaws.{clean-no_return}
 use Rattle.text_rope.specs.Ropes.{IsRope}
 use Rattle.text_rope.proofs.Limits.{rope_few, rope_fits}
@@ -15,7 +16,7 @@ new_chunks c = with_made c.self.inside.chunks c.in_ok-new.new.from c.in_ok-new.n
 made : (c : In_ok-new) → IsRope (new_chunks c)
 made c =
     renewed_rope c.self.inside.chunks c.args.start c.args.end (clean c.args.text.now) c.in_ok-new.new.from c.in_ok-new.new.to c.in_ok-new.new.chunks.items c.self.invariant c.in_ok-new.ensures.renewed
-    (clean-no_return c.args.text.now) c.in_ok-new.ensures.small
+    (clean-no_return c.args.text.now) (omega (arith, c.in_ok-new.ensures.small))
 
 pub replace-requires-clause-fits : goal.replace-requires-clause-fits
 replace-requires-clause-fits c = let here = (goal.at.replace-requires-clause-fits c).In_ok-new in rope_fits (new_chunks here) (made here)
@@ -29,7 +30,7 @@ invariant_of-self-2 c = subst IsRope (sym c.in_ok-replace.ensures.ok) (made (goa
 pub returns-clause-cases : goal.returns-clause-cases
 returns-clause-cases c =
     let new = c.in_ok-new.new in
-    replaced_by c.self.inside.chunks c.args.self.now c.args.start c.args.end (clean c.args.text.now) new.from new.to new.chunks.items c.replace.new.self c.in_ok-new.patch c.self.view_is c.in_ok-new.ensures.range
+    replaced_by TEXT_LIMIT c.self.inside.chunks c.args.self.now c.args.start c.args.end (clean c.args.text.now) new.from new.to new.chunks.items c.replace.new.self c.in_ok-new.patch c.self.view_is c.in_ok-new.ensures.range
     c.in_ok-new.ensures.small c.in_ok-new.ensures.renewed c.in_ok-new.ensures.patch c.in_ok-replace.ensures.ok
 
 pub returns-in_err-replace-clause-steps : goal.returns-in_err-replace-clause-steps

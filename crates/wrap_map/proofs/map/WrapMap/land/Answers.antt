@@ -1,9 +1,11 @@
 use Rattle.std.proofs.Common.{sym, subst, refl, arith}
 use Rattle.cell_units.specs.Lawful.{IsWidth}
+use Rattle.edit_patch.specs.Patch.{IsPatch}
 use Rattle.wrap_map.specs.Landing.{standing_landed}
 use Rattle.wrap_map.specs.Standing.{Standing, standing_of}
 use Rattle.wrap_map.proofs.Calls.{kept-as, land-landed, standing-landed, view-long}
 use Rattle.wrap_map.proofs.Clearings.{fits-now, rows-now}
+use Rattle.wrap_map.proofs.FewEdits.{few-edits}
 use Rattle.wrap_map.proofs.map.WrapMap.land.Goals as goal
 
 pub put_landed-requires-clause-late : goal.put_landed-requires-clause-late
@@ -56,3 +58,10 @@ returns-clause-landed g c width-is =
     let s : Standing = standing_of (g.N.Lines.elements_by_line m.lines) m.stretches in
     land-landed c.args.self.now s m.width c.args.since.now c.args.run c.args.width c.in_ok-stretches.stretches c.in_ok-stretches.patch
     c.self.view_is c.self.invariant.0.0 width-is c.in_ok-stretches.ensures.put
+
+pub returns-clause-few : goal.returns-clause-few
+returns-clause-few g c =
+    let m = c.self.inside in
+    let s : Standing = standing_of (g.N.Lines.elements_by_line m.lines) m.stretches in
+    few-edits s c.args.since.now c.args.run c.args.width c.in_ok-stretches.patch c.self.invariant.0.0.one_each
+    (subst IsPatch c.edits-edits.ensures.value c.edits-edits.ensures.normal) c.in_ok-stretches.ensures.put.rows

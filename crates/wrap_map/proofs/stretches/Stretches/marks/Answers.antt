@@ -2,7 +2,7 @@ use Rattle.std.proofs.Common.{◌≡◌, ℕ, ◌+◌, ◌-◌, ◌*◌, ◌≤�
 use Rattle.std.proofs.lemmas.List.{append-nil, length_push}
 use Rattle.sum_tree.specs.Bounds.{way}
 use Rattle.wrap_map.specs.Stood.{IsOtherIfAny, marks_in}
-use Rattle.wrap_map.specs.declared.marks.MarkRun.{MarkRun}
+use Rattle.cell_line.specs.declared.lines.MarkRun.{MarkRun}
 use Rattle.wrap_map.proofs.Runs.{IsTurn, no-turn, rest_of, turn}
 use Rattle.wrap_map.proofs.Ticks.{one-turn}
 use Rattle.wrap_map.proofs.stretches.Stretches.marks.Goals as goal

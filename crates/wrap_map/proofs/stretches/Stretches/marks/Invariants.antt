@@ -1,6 +1,6 @@
 use Rattle.std.proofs.Common.{◌≡◌, ◌-◌, ◌*◌, ◌≤◌, ◌++◌, length}
 use Rattle.sum_tree.specs.Bounds.{TakesAtMost, way}
-use Rattle.wrap_map.specs.Standing.{runs_from}
+use Rattle.cell_line.specs.MarkRuns.{runs_from}
 use Rattle.wrap_map.specs.Stood.{marks_in}
 use Rattle.wrap_map.proofs.Runs.{rest_of}
 use Rattle.wrap_map.proofs.stretches.Stretches.marks.Given as goal
