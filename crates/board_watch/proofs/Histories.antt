@@ -5,7 +5,7 @@ use Rattle.std.proofs.lemmas.List.{append-nil}
 use Rattle.std.proofs.lemmas.List.Elements.{All-cons, All-nil, Contains-append_left, Contains-push}
 use Rattle.std.proofs.lemmas.List.Sums.{sum_by-append, sum_by-cons}
 use mathlib.Core.List.{IsPrefix}
-use Rattle.display_map.specs.declared.version.Version.{Version}
+use Rattle.display_map.specs.Versions.{Version}
 use Rattle.display_map.specs.Events.{Event, Published}
 use Rattle.display_map.specs.Replay.{is_published, versions_of}
 use Rattle.version_board.specs.Rows.{BeginsWith, IsPublished, IsRow, IsRowTo, AreFollowing}

@@ -2,7 +2,7 @@
 use Rattle.std.specs.Prelude.{ℕ, ◌≡◌, ◌+◌, ◌<◌, ◌≤◌, Bool, true, false, All, Contains, List, [], ◌∷◌, ◌++◌, length}
 use mathlib.Core.List.{IsPrefix}
 use Rattle.plain_rows.specs.Rows.{rows_of}
-use Rattle.display_map.specs.declared.version.Version.{Version}
+use Rattle.display_map.specs.Versions.{Version}
 use Rattle.display_map.specs.Replay.{History, present_of, versions_of}
 use Rattle.version_board.specs.Known.{Known}
 use Rattle.version_board.specs.Rows.{IsPublished}

@@ -21,12 +21,21 @@ use wrap_workers::Gate;
 const TEAM_MOST: usize = 8;
 
 /// One that looks at a board. It is seen as what it knows of the row of versions, and what it saw.
-#[derive(Drop)]
 pub struct Watcher {
     reader: Reader,
     seen: Vec<Seen>,
     // Whether there was no memory to keep what it saw.
     is_short: bool,
+}
+
+impl Drop for Watcher {
+    fn drop(self) {
+        let Watcher {
+            reader: _,
+            seen: _,
+            is_short: _,
+        } = self;
+    }
 }
 
 impl Model for Watcher {

@@ -10,9 +10,9 @@ use Rattle.display_map.specs.Events.{event_limit}
 use Rattle.display_map.specs.Events.{Event}
 use Rattle.display_map.specs.Events.{Sent, Landed, Published}
 use Rattle.display_map.specs.Replay.{History, state_of, appended}
-use Rattle.display_owner.specs.declared.halt.Halt.{Halt}
-use Rattle.display_owner.specs.declared.halt.Halt.TheVariants as halts
-use Rattle.display_owner.specs.Beside.{Step, Sends, Lands, IsSending, IsOut, MayTake, MayTakeAll, behind, behind_all, HasGone, IsHalted}
+use Rattle.live_display.specs.declared.halt.Halt.{Halt}
+use Rattle.live_display.specs.declared.halt.Halt.TheVariants as halts
+use Rattle.live_display.specs.Beside.{Step, Sends, Lands, IsSending, IsOut, MayTake, MayTakeAll, behind, behind_all, HasGone, IsHalted}
 use Rattle.display_cli.specs.declared.stop.Stop.{Stop}
 use Rattle.display_cli.specs.declared.stop.Stop.TheVariants as stops
 use Rattle.display_cli.specs.declared.tally.Tally.{Tally}

@@ -7,10 +7,10 @@ use Rattle.display_map.specs.Events.{Event, Published}
 use Rattle.cell_units.specs.declared.limits.TheConstants.{TEXT_LIMIT}
 use Rattle.cell_units.specs.Refusal.{IsAccepted}
 use Rattle.display_map.specs.Replay.{History, appended}
-use Rattle.display_owner.specs.Owned.{IsUnopened}
+use Rattle.live_display.specs.Owned.{IsUnopened}
 use Rattle.board_watch.specs.declared.seen.Seen.{Seen}
 use Rattle.std.proofs.lemmas.List.{append-nil}
-use Rattle.command_words.specs.declared.plan.Plan.{Plan}
+use Rattle.command_line.specs.declared.plan.Plan.{Plan}
 use Rattle.display_cli.specs.declared.outside.Part.TheVariants as parts
 use Rattle.display_cli.specs.declared.outside.Failed.{Failed}
 use Rattle.display_cli.specs.declared.stop.Stop.{Stop}

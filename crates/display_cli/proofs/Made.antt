@@ -6,9 +6,9 @@ use Rattle.std.proofs.lemmas.List.Elements.{All-nil}
 use Rattle.cell_units.specs.declared.limits.TheConstants.{TEXT_LIMIT}
 use Rattle.board_watch.specs.Watching.{AreRising}
 use Rattle.display_map.specs.Replay.{History, present_of}
-use Rattle.display_owner.specs.declared.owner.Owner.{Owner}
-use Rattle.command_words.specs.declared.plan.Plan.{Plan}
-use Rattle.made_input.specs.Made.{made_of}
+use Rattle.live_display.specs.declared.owner.Owner.{Owner}
+use Rattle.command_line.specs.declared.plan.Plan.{Plan}
+use Rattle.generated_input.specs.Made.{made_of}
 use Rattle.display_cli.specs.declared.beside.Left.{Left}
 use Rattle.display_cli.specs.declared.ended.Note.{Note}
 use Rattle.display_cli.specs.declared.ended.Note.TheVariants.{Fine, Usage, ReadText, ReadScript, Write, TextNotUtf8, TextTooLong, ScriptTooLong, JournalFull, Memory}

@@ -10,7 +10,7 @@ use Rattle.display_map.specs.Replay.{State, state_of, waits, is_settled, job_num
 use Rattle.edit_script.specs.Commands.{Command}
 use Rattle.edit_script.specs.Verdict.{Accepted, ops_of}
 use Rattle.display_cli.specs.Entries.{Entry}
-use Rattle.display_owner.specs.Beside.{outstanding}
+use Rattle.live_display.specs.Beside.{outstanding}
 use Rattle.display_cli.specs.Legal.{needs_settled, Opens, TakesNextLine, IsChanging, IsChanged, DoesChanges, PublishesLandings, IsSend, Sends, LandsOnce, AnswersSettled, KeepsBusy, IsDone, Ends, IsLegalSoFar, history_of, next_entry, next_verdict, is_landed, is_end}
 use Rattle.display_cli.specs.inside.Going.{IsFree}
 use Rattle.display_cli.proofs.Snoc.{AtEach-snoc, last-snoc, any-snoc}

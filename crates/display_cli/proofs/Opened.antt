@@ -7,12 +7,12 @@ use Rattle.logbook.specs.Pages.{Book}
 use Rattle.display_map.specs.Events.{Event}
 use Rattle.display_map.specs.Replay.{History}
 use Rattle.version_board.specs.Known.{Known}
-use Rattle.display_owner.specs.declared.owner.Owner.{Owner}
-use Rattle.display_owner.specs.declared.opening.Opened.{Opened}
-use Rattle.display_owner.specs.Owned.{HasOpened, IsSameTeam}
+use Rattle.live_display.specs.declared.owner.Owner.{Owner}
+use Rattle.live_display.specs.declared.opening.Opened.{Opened}
+use Rattle.live_display.specs.Owned.{HasOpened, IsSameTeam}
 use Rattle.board_watch.specs.declared.seen.Seen.{Seen}
 use Rattle.board_watch.specs.Watching.{Watching}
-use Rattle.command_words.specs.declared.plan.Plan.{Plan}
+use Rattle.command_line.specs.declared.plan.Plan.{Plan}
 use Rattle.display_cli.specs.declared.ended.Note.{Note}
 use Rattle.display_cli.specs.declared.stop.Stop.{Stop}
 use Rattle.display_cli.specs.declared.tally.Tally.{Tally}

@@ -11,7 +11,7 @@ use Rattle.display_map.specs.Events.{Event}
 use Rattle.display_map.specs.Events.{Published}
 use Rattle.display_map.specs.Events.{event_limit}
 use Rattle.display_map.specs.Replay.{History, state_of, present_of, is_settled, appended}
-use Rattle.display_owner.specs.Beside.{outstanding}
+use Rattle.live_display.specs.Beside.{outstanding}
 use Rattle.edit_script.specs.declared.asked.Form.{Form}
 use Rattle.edit_script.specs.Verdict.{is_blank}
 use Rattle.display_cli.specs.declared.stop.Stop.{Stop}

@@ -6,9 +6,9 @@ use Rattle.cell_units.specs.Record.{Record}
 use Rattle.display_map.specs.Events.{Event}
 use Rattle.display_map.specs.Events.{Sent, Landed, Published}
 use Rattle.display_map.specs.Replay.{History, State, SentJob, replayed, state_of, present_of, landed_on, job_numbered, versions_of, is_published, appended}
-use Rattle.display_owner.specs.declared.owner.Owner.{Owner}
-use Rattle.display_owner.specs.Beside.{Step, Sends, Lands, events_of, behind, behind_all, HasGone}
-use Rattle.display_owner.specs.Owned.{IsOwned}
+use Rattle.live_display.specs.declared.owner.Owner.{Owner}
+use Rattle.live_display.specs.Beside.{Step, Sends, Lands, events_of, behind, behind_all, HasGone}
+use Rattle.live_display.specs.Owned.{IsOwned}
 use Rattle.display_cli.specs.inside.Going.{IsReady}
 use Rattle.display_cli.proofs.Sends.{state-append}
 

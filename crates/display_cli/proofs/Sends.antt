@@ -13,9 +13,9 @@ use Rattle.cell_line.specs.declared.lines.Run.{Run}
 use Rattle.wrap_workers.specs.Jobs.{JobParts}
 use Rattle.display_map.specs.Events.{Event}
 use Rattle.display_map.specs.Replay.{State, History, begun, happens, replayed, state_of, present_of, appended, waits, run_from, first_waiting, next_run, is_settled}
-use Rattle.display_owner.specs.declared.owner.Owner.{Owner}
-use Rattle.display_owner.specs.Beside.{IsSending, outstanding}
-use Rattle.display_owner.specs.Owned.{AreOut}
+use Rattle.live_display.specs.declared.owner.Owner.{Owner}
+use Rattle.live_display.specs.Beside.{IsSending, outstanding}
+use Rattle.live_display.specs.Owned.{AreOut}
 use Rattle.edit_script.specs.Verdict.{Verdict}
 use Rattle.display_cli.specs.Legal.{IsSend, needs_settled}
 use Rattle.display_cli.specs.inside.Going.{IsAbreast, MayHandle}

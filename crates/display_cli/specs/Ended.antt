@@ -9,11 +9,11 @@ use Rattle.cell_units.specs.declared.limits.TheConstants.{TEXT_LIMIT}
 use Rattle.cell_units.specs.Refusal.{IsAccepted}
 use Rattle.display_map.specs.Events.{event_limit}
 use Rattle.display_map.specs.Replay.{present_of}
-use Rattle.display_owner.specs.declared.owner.TheConstants.{EVENTS_AHEAD}
+use Rattle.live_display.specs.declared.owner.TheConstants.{EVENTS_AHEAD}
 use Rattle.board_watch.specs.declared.seen.Seen.{Seen}
 use Rattle.board_watch.specs.Watching.{AreRising, IsWatched}
-use Rattle.command_words.specs.declared.plan.Plan.{Plan}
-use Rattle.made_input.specs.Made.{TextAndScript, made_of}
+use Rattle.command_line.specs.declared.plan.Plan.{Plan}
+use Rattle.generated_input.specs.Made.{TextAndScript, made_of}
 use Rattle.display_cli.specs.declared.ended.Ended.{Ended}
 use Rattle.display_cli.specs.declared.ended.Note.{Note}
 use Rattle.display_cli.specs.declared.ended.Note.TheVariants.{Fine, Usage, ReadText, ReadScript, Write, TextNotUtf8, TextTooLong, ScriptTooLong, JournalFull, Memory}

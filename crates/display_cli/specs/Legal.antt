@@ -7,7 +7,7 @@ use Rattle.cell_units.specs.Operation.{Operation}
 use Rattle.display_map.specs.Events.{Event}
 use Rattle.display_map.specs.Events.{Line, Did, Sent, Landed, Published}
 use Rattle.display_map.specs.Replay.{History, State, state_of, present_of, waits, is_settled, job_numbered}
-use Rattle.display_owner.specs.Beside.{outstanding}
+use Rattle.live_display.specs.Beside.{outstanding}
 use Rattle.edit_script.specs.Commands.{Command}
 use Rattle.edit_script.specs.Verdict.{Verdict, Refused, Accepted, ops_of, wants_settled}
 use Rattle.display_cli.specs.Entries.{Entry, judged}

@@ -2,15 +2,15 @@
 ghost use Rattle.std.specs.Prelude.{◌≡◌, ◌+◌, ◌<◌, ◌≤◌, true, length, OnOk, IfErr, IfSome};
 ghost use Rattle.display_map.specs.Events.{event_limit};
 ghost use Rattle.display_map.specs.Replay.{is_settled, present_of};
-ghost use Rattle.display_owner.specs.declared.owner.TheConstants.{EVENTS_AHEAD};
-ghost use Rattle.display_owner.specs.Beside.{HasGone, IsHalted};
-ghost use Rattle.display_owner.specs.Owned.{IsBusy, IsOwned, IsSameTeam};
+ghost use Rattle.live_display.specs.declared.owner.TheConstants.{EVENTS_AHEAD};
+ghost use Rattle.live_display.specs.Beside.{HasGone, IsHalted};
+ghost use Rattle.live_display.specs.Owned.{IsBusy, IsOwned, IsSameTeam};
 ghost use Rattle.display_cli.specs.declared.stop.Stop.TheVariants as stops;
 ghost use Rattle.display_cli.specs.inside.Going.{IsReady, IsAbreast, GoesOn, Ends};
 
 use crate::stop::Stop;
 use display_map::Display;
-use display_owner::{EVENTS_AHEAD, Halt, Owner};
+use live_display::{EVENTS_AHEAD, Halt, Owner};
 use std::sync::Wait;
 use wrap_workers::Gate;
 

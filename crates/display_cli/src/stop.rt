@@ -1,7 +1,7 @@
 //! Why a run stops.
 use crate::outside::Failed;
 use cell_units::NoMemory;
-use display_owner::Halt;
+use live_display::Halt;
 
 /// Why a run stops before its script's end.
 #[derive(Clone, Copy, Debug, PartialEq, Eq)]

@@ -1,7 +1,7 @@
 //! The top calls: the run of a script, and the program that says how its run ended.
 ghost use Rattle.std.specs.Prelude.{◌≡◌, ◌≢◌, ◌≤◌, ◌↔◌, ℕ, true, ◌<◌, [], length, map, None, Some, IfOk, IfErr, IfSome, OnOk, vec_len};
 ghost use Rattle.display_map.specs.Events.{event_limit};
-ghost use Rattle.command_words.specs.Words.{IsWithinLimits, plan_of};
+ghost use Rattle.command_line.specs.Words.{IsWithinLimits, plan_of};
 ghost use Rattle.display_cli.specs.declared.ended.Note.TheVariants as notes;
 ghost use Rattle.display_cli.specs.declared.outside.Part.TheVariants as parts;
 ghost use Rattle.display_cli.specs.Outside.{HasRisen, InputState};
@@ -25,10 +25,10 @@ use crate::watch::write_watched;
 use board_watch::{Watched, Watcher, end_all, give_up_all, watchers};
 use cell_units::limits::TEXT_LIMIT;
 use cell_units::{NoMemory, Steps, TextFault};
-use command_words::{Plan, read_words};
+use command_line::{Plan, read_words};
 use display_map::{Display, Journal};
-use display_owner::{Opened, open};
-use made_input::made;
+use generated_input::made;
+use live_display::{Opened, open};
 use std::alloc::Global;
 use std::sync::Wait;
 use std::thread::Threads;

@@ -13,7 +13,7 @@ use Rattle.display_map.specs.Events.{Event, Did}
 use Rattle.display_map.specs.Identity.{stamps_in}
 use Rattle.display_map.specs.LawfulStates.{EventFits, EventsFit}
 use Rattle.display_sheet.specs.LineSplices.{IsLineSplice}
-use Rattle.display_map.specs.Outs.{AreOut, OutParts, carried_out, waiting_in}
+use Rattle.display_map.specs.Outs.{AreOut, OutParts, carried_out}
 use Rattle.display_map.specs.Replay.{History, SentJob, State, appended, begun, is_published, present_of, state_of, versions_of, with_landed}
 use Rattle.display_sheet.specs.Sheets.{IsOperated}
 use Rattle.display_sheet.specs.Shown.{unstamped}
@@ -21,10 +21,10 @@ use Rattle.display_sheet.specs.declared.sheet.LineSplice.{LineSplice}
 use Rattle.display_map.proofs.FittingBatches.{EventsFit-append}
 use Rattle.display_sheet.proofs.ElementLines.{elements_long}
 use Rattle.display_map.proofs.LawfulReplays.{lawful-replayed}
-use Rattle.display_map.proofs.Lowered.{flags-of}
 use Rattle.display_map.proofs.Places.{AreOut-carried}
 use Rattle.display_sheet.proofs.Sheets.{allowed-other, widths}
 use Rattle.display_map.proofs.Replays.{state_of-one_more, still_given}
+use Rattle.display_map.proofs.Rising.{carried-in_order}
 use Rattle.display_map.proofs.Stamps.{AreStamps, AreStamps-replaced, stamps, stamps-replaced}
 
 -- the events of a history and one more
@@ -32,7 +32,7 @@ pub fits-more : (h : History) (e : Event) → EventsFit (begun h.opening) h.even
 fits-more h e fits one = EventsFit-append (begun h.opening) h.events (e ∷ []) fits (one, tt)
 
 -- an operation
-module _ (h : History) (sheet : Record) (flags : List Bool) (outs : List OutParts) (versions jobs first : ℕ) (k : KeepsDisplay h sheet flags outs versions jobs first)
+module _ (h : History) (sheet : Record) (outs : List OutParts) (versions jobs first : ℕ) (k : KeepsDisplay h sheet outs versions jobs first)
     (operation : Operation) (allowed : IsAllowed operation sheet) (sheet' : Record) (splice : LineSplice) (done : IsOperated operation sheet sheet' splice) where
   abbrev s : State
   s = state_of h
@@ -101,18 +101,17 @@ module _ (h : History) (sheet : Record) (flags : List Bool) (outs : List OutPart
       (subst (λ (l : List ℕ). AreOut l (unlanded s.jobs) outs') (sym (stamps-replaced r.marks r.next_stamp f g n))
       (AreOut-carried (stamps r.marks) r.next_stamp f g n apart line_splice.order within (unlanded s.jobs) outs (All-filter (λ (job : SentJob). not job.landed) (λ (job : SentJob). All (λ x. x < r.next_stamp) job.stamps) s.jobs k.stamped.given) k.outs_are))
 
-  pub kept-did : KeepsDisplay (appended h (Did operation ∷ [])) sheet' (waiting_in sheet' outs') outs' versions jobs 0
+  pub kept-did : KeepsDisplay (appended h (Did operation ∷ [])) sheet' outs' versions jobs 0
   kept-did = record {
     opening = k.opening;
     fits = fits-more h (Did operation) k.fits allowed_here;
     sheet_is = sheet_after;
-    flags_are = flags-of (state_of (appended h (Did operation ∷ []))) outs' stamped_after.once outs_after ∙ ap (λ (q : Record). waiting_in q outs') sheet_after;
     stamped = stamped_after;
     outs_are = outs_after;
+    in_order = carried-in_order f g n line_splice.order outs k.in_order;
     versions_are = counted;
     jobs_are = ap (λ (t : State). length t.jobs) after_is ∙ k.jobs_are;
     jobs_few = omega (arith, k.jobs_few, length-append h.events (Did operation ∷ []));
-    first_within = omega arith;
     none_before = λ j lt. absurd (omega (arith, lt));
   }
 

@@ -1,5 +1,5 @@
 -- What is kept over a change that isn't refused, and why one is.
-use Rattle.std.proofs.Common.{◌≡◌, ◌⊎◌, ℕ, ◌<◌, ◌≤◌, true, false, Bool, List, [], ◌∷◌, ◌++◌, length, map, inl, inr, refl, sym, ap, subst, ◌∙◌, arith}
+use Rattle.std.proofs.Common.{◌≡◌, ◌⊎◌, ℕ, ◌<◌, ◌≤◌, true, false, List, [], ◌∷◌, ◌++◌, length, map, inl, inr, refl, sym, ap, subst, ◌∙◌, arith}
 use Rattle.std.specs.Prelude.{Some, None, Result, Ok, Err, IfErr}
 use Rattle.std.specs.Result.{IsErrAnd}
 use Rattle.std.proofs.lemmas.Bool.{cases_lt, true≢false}
@@ -12,7 +12,6 @@ use Rattle.display_sheet.specs.LineStep.{line_step}
 use Rattle.display_sheet.specs.declared.change.Op.{Op}
 use Rattle.display_sheet.specs.declared.change.Op.TheVariants.{Block, Fold, Inlay, Replace, Tab, Unblock, Unfold, Uninlay, Width}
 use Rattle.display_sheet.specs.declared.change.Splice.{Splice}
-use Rattle.display_map.specs.declared.work.Work.{Work}
 use Rattle.display_map.specs.Displays.{KeepsDisplay, KeepsShortDisplay}
 use Rattle.display_map.specs.Events.{Event, Did}
 use Rattle.display_map.specs.Outs.{OutParts}
@@ -46,7 +45,7 @@ text-operated r (Unblock id) h = refl
 text-operated r (Tab size) h = refl
 text-operated r (Width cells) h = refl
 
-module _ (h : History) (sheet : Record) (flags : List Bool) (outs : List OutParts) (versions jobs first : ℕ) (k : KeepsShortDisplay h sheet flags outs versions jobs first) where
+module _ (h : History) (sheet : Record) (outs : List OutParts) (versions jobs first : ℕ) (k : KeepsShortDisplay h sheet outs versions jobs first) where
   abbrev r : Record
   r = present_of h
 
@@ -55,25 +54,25 @@ module _ (h : History) (sheet : Record) (flags : List Bool) (outs : List OutPart
 
   -- the jobs as they are lent
   pub is-kept : (lent : List OutParts) → lent ≡ outs → IsKept sheet lent
-  is-kept lent is = (h, versions, jobs, subst (λ (os : List OutParts). KeepsWork h sheet os versions jobs) (sym is) (kept-work h sheet flags outs versions jobs first k.kept))
+  is-kept lent is = (h, versions, jobs, subst (λ (os : List OutParts). KeepsWork h sheet os versions jobs) (sym is) (kept-work h sheet outs versions jobs first k.kept))
 
-  work-of : (ops : List Operation) (lent : List OutParts) (work : Work) → lent ≡ outs → IsWork ops sheet lent work →
-      KeepsDisplay (appended h (map Did ops)) work.sheet work.waits.items work.outs.items versions jobs 0
-  work-of ops lent work is does = (subst (λ (os : List OutParts). IsWork ops sheet os work) is does) h versions jobs (kept-work h sheet flags outs versions jobs first k.kept)
+  work-of : (ops : List Operation) (lent : List OutParts) (sheet' : Record) (outs' : List OutParts) → lent ≡ outs → IsWork ops sheet lent sheet' outs' →
+      KeepsDisplay (appended h (map Did ops)) sheet' outs' versions jobs 0
+  work-of ops lent sheet' outs' is does = (subst (λ (os : List OutParts). IsWork ops sheet os sheet' outs') is does) h versions jobs (kept-work h sheet outs versions jobs first k.kept)
 
   -- one operation
-  pub kept-operated : (op : Op) (lent : List OutParts) (work : Work) (events : List Event) → is_replacement op ≡ false → lent ≡ outs →
-      IsWork (operation_of op ∷ []) sheet lent work → events ≡ h.events ++ Did (operation_of op) ∷ [] →
-      KeepsShortDisplay (record { opening = h.opening; events = events }) work.sheet work.waits.items work.outs.items versions jobs 0
-  kept-operated op lent work events other is does pushed =
-      let k' = work-of (operation_of op ∷ []) lent work is does in
-      let text : work.sheet.text ≡ sheet.text =
+  pub kept-operated : (op : Op) (lent : List OutParts) (sheet' : Record) (outs' : List OutParts) (events : List Event) → is_replacement op ≡ false → lent ≡ outs →
+      IsWork (operation_of op ∷ []) sheet lent sheet' outs' → events ≡ h.events ++ Did (operation_of op) ∷ [] →
+      KeepsShortDisplay (record { opening = h.opening; events = events }) sheet' outs' versions jobs 0
+  kept-operated op lent sheet' outs' events other is does pushed =
+      let k' = work-of (operation_of op ∷ []) lent sheet' outs' is does in
+      let text : sheet'.text ≡ sheet.text =
       sym (ap (λ (q : Record). q.text) k'.sheet_is)
       ∙ ap (λ (s : State). s.present.text) (state_of-one_more h (Did (operation_of op)))
       ∙ text-stepped r (operation_of op)
       ∙ text-operated r op other
       ∙ same in
-      subst (λ (es : List Event). KeepsShortDisplay (record { opening = h.opening; events = es }) work.sheet work.waits.items work.outs.items versions jobs 0) (sym pushed)
+      subst (λ (es : List Event). KeepsShortDisplay (record { opening = h.opening; events = es }) sheet' outs' versions jobs 0) (sym pushed)
       (record { kept = k'; short = omega (arith, ap length text, k.short) })
 
   module _ (splices : List Splice) (ok : are_ranges sheet.text 0 splices ≡ true) where
@@ -94,16 +93,17 @@ module _ (h : History) (sheet : Record) (flags : List Bool) (outs : List OutPart
     ]
 
     -- a batch
-    pub kept-edited : (lent : List OutParts) (work : Work) (events : List Event) → lent ≡ outs → length (spliced_text sheet.text 0 splices) ≤ TEXT_LIMIT →
-        IsWork (batch splices) sheet lent work → events ≡ h.events ++ did_events splices →
-        KeepsShortDisplay (record { opening = h.opening; events = events }) work.sheet work.waits.items work.outs.items versions jobs 0
-    kept-edited lent work events is short does pushed =
-        let k' = work-of (batch splices) lent work is does in
-        let text : work.sheet.text ≡ spliced_text sheet.text 0 splices =
+    pub kept-edited : (lent : List OutParts) (sheet' : Record) (outs' : List OutParts) (events : List Event) → lent ≡ outs →
+        length (spliced_text sheet.text 0 splices) ≤ TEXT_LIMIT →
+        IsWork (batch splices) sheet lent sheet' outs' → events ≡ h.events ++ did_events splices →
+        KeepsShortDisplay (record { opening = h.opening; events = events }) sheet' outs' versions jobs 0
+    kept-edited lent sheet' outs' events is short does pushed =
+        let k' = work-of (batch splices) lent sheet' outs' is does in
+        let text : sheet'.text ≡ spliced_text sheet.text 0 splices =
         sym (ap (λ (q : Record). q.text) k'.sheet_is)
         ∙ ap (λ (s : State). s.present.text) (state_of-appended h (map Did (batch splices)) ∙ replayed-batch (state_of h) splices)
         ∙ texts (state_of h) splices
         ∙ backwards-text r.text 0 splices (are_ordered r.text 0 splices (omega arith) ok')
         ∙ ap (λ (t : List ℕ). spliced_text t 0 splices) same in
-        subst (λ (es : List Event). KeepsShortDisplay (record { opening = h.opening; events = es }) work.sheet work.waits.items work.outs.items versions jobs 0) (sym pushed)
+        subst (λ (es : List Event). KeepsShortDisplay (record { opening = h.opening; events = es }) sheet' outs' versions jobs 0) (sym pushed)
         (record { kept = k'; short = omega (arith, ap length text, short) })

@@ -1,6 +1,7 @@
 -- The operations of an edit that is accepted fit, one after another.
 use Rattle.std.proofs.Common.{◌≡◌, ℕ, ◌≤◌, leb, ◌&&◌, cond, not, Bool, true, false, List, [], ◌∷◌, ◌++◌, length, map, take, refl, sym, ap, ◌∙◌, subst, arith, length-append}
 use Rattle.std.specs.Prelude.{Option, Some, None}
+use Rattle.std.specs.List.{All}
 use Rattle.std.specs.Str.{IsUtf8}
 use Rattle.std.proofs.lemmas.Bool.{and_parts}
 use Rattle.std.proofs.lemmas.List.{length-take-le, map-append, take-append-le, take-take}
@@ -17,7 +18,7 @@ use Rattle.display_map.specs.Events.{Event, Did}
 use Rattle.display_sheet.specs.Changes.{is_operation, batch, are_ranges, edit_refusal}
 use Rattle.display_sheet.specs.LineStep.{line_step}
 use Rattle.display_map.specs.Replay.{State, happens, replayed}
-use Rattle.display_map.specs.LawfulStates.{EventsFit, InsertUtf8}
+use Rattle.display_map.specs.LawfulStates.{EventsFit}
 use Rattle.display_map.specs.Splicing.{spliced_text}
 use Rattle.display_map.proofs.Batches.{AreOrdered, are_ordered, backwards, backwards-text, batch-cons, does, ordered-le, replayed-batch}
 use Rattle.display_map.proofs.Replays.{replayed-cons, replayed-none}
@@ -83,7 +84,7 @@ ranges_of r true e = refl
 ranges_of r false e = absurd (cc e)
 
 -- the operations of an edit that is not refused are allowed
-pub fitting_edit : (s : State) (splices : List Splice) → IsText s.present.text → InsertUtf8 splices → edit_refusal s.present splices ≡ None → EventsFit s (map Did (batch splices))
+pub fitting_edit : (s : State) (splices : List Splice) → IsText s.present.text → All (λ x. IsUtf8 x.text) splices → edit_refusal s.present splices ≡ None → EventsFit s (map Did (batch splices))
 fitting_edit s splices is utf8 e =
     let text = s.present.text in
     let ok = ranges_of _ (are_ranges text 0 splices) e in

@@ -3,14 +3,15 @@ use Rattle.std.proofs.Common.{◌≡◌, ℕ, ◌+◌, ◌<◌, ◌≤◌, eqb, 
 use Rattle.std.specs.Prelude.{Option, Some}
 use Rattle.std.specs.List.{All, filter, range_with_len}
 use Rattle.std.proofs.lemmas.List.{length-map}
-use Rattle.std.proofs.lemmas.List.Elements.{All-map, All-weaker}
+use Rattle.std.proofs.lemmas.List.Elements.{All-filter, All-map, All-weaker}
 use Rattle.std.proofs.lemmas.List.Sums.{sum_by-append}
 use Rattle.cell_units.specs.Record.{Mark, Record}
 use Rattle.plain_rows.specs.Plain.{marks_of}
-use Rattle.display_map.specs.Displays.{IsStamped, KeepsDisplay, unlanded}
+use Rattle.kept_sheet.specs.Kept.{IsRising, standing}
+use Rattle.display_map.specs.Displays.{IsStamped, KeepsDisplay, NoneWaits, unlanded}
 use Rattle.display_map.specs.Events.{Event, Landed}
 use Rattle.display_map.specs.Identity.{stamps_in}
-use Rattle.display_map.specs.Outs.{AreAt, AreOut, OutParts}
+use Rattle.display_map.specs.Outs.{AreAt, AreOut, OutParts, waiting_in}
 use Rattle.display_sheet.specs.Landing.{landed_at}
 use Rattle.display_map.specs.Replay.{History, SentJob, State, appended, happens, is_published, job_numbered, landed_if, landed_on, state_of, versions_of, waits, with_landed, wrapped_at}
 use Rattle.display_sheet.specs.Shown.{unstamped}
@@ -18,9 +19,11 @@ use Rattle.display_map.proofs.Displays.{AreOut-without, fits-more, unlanded-land
 use Rattle.display_map.proofs.Jobs.{job_numbered-at, landed_marks, landed_on-is, landed_stamps, slice_get_some}
 use Rattle.display_map.proofs.LandedPlaces.{widths-landed}
 use Rattle.display_map.proofs.Landings.{landed_state, landed_state-is, waits_landed}
+use Rattle.display_map.proofs.Lowered.{flags-of}
 use Rattle.display_map.proofs.Replays.{same_numbers, same_stamps, state_of-one_more}
 use Rattle.display_sheet.proofs.Sheets.{widths}
 use Rattle.display_map.proofs.Stamps.{stamps, times}
+use Rattle.display_map.proofs.Works.{flags-are}
 
 length-landed : (r : Record) (o : Option SentJob) → length (landed_marks r o) ≡ length r.marks
 length-landed r o = sym (length-map (landed_marks r o) (λ m. m.stamp)) ∙ ap length (landed_stamps r o) ∙ length-map r.marks (λ m. m.stamp)
@@ -33,7 +36,7 @@ widths-after r job places once at = go (eqb job.width r.width) where
   go true = widths-landed job.width job.stamps places r.marks once at
   go false = refl
 
-module _ (h : History) (sheet : Record) (flags : List Bool) (outs : List OutParts) (versions jobs first : ℕ) (k : KeepsDisplay h sheet flags outs versions jobs first)
+module _ (h : History) (sheet : Record) (outs : List OutParts) (versions jobs first : ℕ) (k : KeepsDisplay h sheet outs versions jobs first)
     (number place : ℕ) (d : SentJob) (number_is : number ≡ place + 1) (there : place < length (state_of h).jobs) (out : (get_or (state_of h).jobs place d).landed ≡ false) where
   abbrev s : State
   s = state_of h
@@ -64,8 +67,12 @@ module _ (h : History) (sheet : Record) (flags : List Bool) (outs : List OutPart
       ∙ ap (λ (n : ℕ). happens s (Landed n)) number_is
       ∙ landed_state-is s place d k.stamped.numbered there
 
-  flags' : map (waits s') marks' ≡ flags
-  flags' = ap (λ (t : State). map (waits t) t.present.marks) by_place ∙ waits_landed s place d there out ∙ k.flags_are
+  -- no other lines wait than before
+  flags' : map (waits s') marks' ≡ waiting_in sheet outs
+  flags' =
+      ap (λ (t : State). map (waits t) t.present.marks) by_place
+      ∙ waits_landed s place d there out
+      ∙ flags-are h sheet outs versions jobs first k
 
   same : stamps marks' ≡ stamps r.marks
   same = landed_stamps r (Some job)
@@ -73,33 +80,51 @@ module _ (h : History) (sheet : Record) (flags : List Bool) (outs : List OutPart
   counted : versions_of (h.events ++ Landed number ∷ []) ≡ versions
   counted = omega (arith, sum_by-append (λ (e : Event). cond (is_published e) 1 0) h.events (Landed number ∷ []), k.versions_are)
 
-  pub kept-landed : KeepsDisplay (appended h (Landed number ∷ [])) (record sheet { marks = marks_of (widths marks') }) flags
-      (filter (λ o. not (eqb o.number number)) outs) versions jobs first
+  abbrev outs' : List OutParts
+  outs' = filter (λ o. not (eqb o.number number)) outs
+
+  abbrev sheet' : Record
+  sheet' = record sheet { marks = marks_of (widths marks') }
+
+  sheet_after : unstamped (state_of (appended h (Landed number ∷ []))).present ≡ sheet'
+  sheet_after =
+      ap (λ (t : State). unstamped t.present) after_is
+      ∙ (λ i. record r { marks = marks_of (widths marks'); next_stamp = length-landed r (Some job) i })
+      ∙ ap (λ (q : Record). record q { marks = marks_of (widths marks') }) k.sheet_is
+
+  stamped' : IsStamped s'
+  stamped' = record {
+    once = subst (λ (l : List ℕ). (v : ℕ) → times v l ≤ 1) (sym same) k.stamped.once;
+    below = subst (All (λ x. x < r.next_stamp)) (sym same) k.stamped.below;
+    given =
+        let P : SentJob → Type 0 = λ (j : SentJob). All (λ x. x < r.next_stamp) j.stamps in
+        All-map P (landed_if number) s.jobs
+        (All-weaker P (λ (j : SentJob). P (landed_if number j)) (λ j h. subst (All (λ x. x < r.next_stamp)) (sym (same_stamps number j)) h) s.jobs k.stamped.given);
+    numbered = same_numbers number s.jobs ∙ k.stamped.numbered ∙ ap (range_with_len 1) (sym (length-map s.jobs (landed_if number)));
+  }
+
+  still_out : AreOut (stamps marks') (unlanded s'.jobs) outs'
+  still_out =
+      subst (λ (l : List ℕ). AreOut l (unlanded (with_landed number s.jobs)) outs') (sym same)
+      (subst (λ (l : List SentJob). AreOut (stamps r.marks) l outs') (sym (unlanded-landed number s.jobs))
+      (AreOut-without (stamps r.marks) number (unlanded s.jobs) outs k.outs_are))
+
+  waiting_after : waiting_in sheet' outs' ≡ waiting_in sheet outs
+  waiting_after =
+      ap (λ (q : Record). waiting_in q outs') (sym sheet_after ∙ ap (λ (t : State). unstamped t.present) after_is)
+      ∙ sym (flags-of s' outs' stamped'.once still_out)
+      ∙ flags'
+
+  pub kept-landed : KeepsDisplay (appended h (Landed number ∷ [])) sheet' outs' versions jobs first
   kept-landed = record {
     opening = k.opening;
     fits = fits-more h (Landed number) k.fits tt;
-    sheet_is =
-        ap (λ (t : State). unstamped t.present) after_is
-        ∙ (λ i. record r { marks = marks_of (widths marks'); next_stamp = length-landed r (Some job) i })
-        ∙ ap (λ (q : Record). record q { marks = marks_of (widths marks') }) k.sheet_is;
-    flags_are = ap (λ (t : State). map (waits t) t.present.marks) after_is ∙ flags';
-    stamped = subst IsStamped (sym after_is) (record {
-      once = subst (λ (l : List ℕ). (v : ℕ) → times v l ≤ 1) (sym same) k.stamped.once;
-      below = subst (All (λ x. x < r.next_stamp)) (sym same) k.stamped.below;
-      given =
-          let P : SentJob → Type 0 = λ (j : SentJob). All (λ x. x < r.next_stamp) j.stamps in
-          All-map P (landed_if number) s.jobs
-          (All-weaker P (λ (j : SentJob). P (landed_if number j)) (λ j h. subst (All (λ x. x < r.next_stamp)) (sym (same_stamps number j)) h) s.jobs k.stamped.given);
-      numbered = same_numbers number s.jobs ∙ k.stamped.numbered ∙ ap (range_with_len 1) (sym (length-map s.jobs (landed_if number)));
-    });
-    outs_are =
-        subst (λ (t : State). AreOut (stamps_in t.present) (unlanded t.jobs) (filter (λ o. not (eqb o.number number)) outs)) (sym after_is)
-        (subst (λ (l : List ℕ). AreOut l (unlanded (with_landed number s.jobs)) (filter (λ o. not (eqb o.number number)) outs)) (sym same)
-        (subst (λ (l : List SentJob). AreOut (stamps r.marks) l (filter (λ o. not (eqb o.number number)) outs)) (sym (unlanded-landed number s.jobs))
-        (AreOut-without (stamps r.marks) number (unlanded s.jobs) outs k.outs_are)));
+    sheet_is = sheet_after;
+    stamped = subst IsStamped (sym after_is) stamped';
+    outs_are = subst (λ (t : State). AreOut (stamps_in t.present) (unlanded t.jobs) outs') (sym after_is) still_out;
+    in_order = All-filter (λ (o : OutParts). not (eqb o.number number)) (λ (o : OutParts). IsRising 0 (standing o.lines)) outs k.in_order;
     versions_are = counted;
     jobs_are = ap (λ (t : State). length t.jobs) after_is ∙ length-map s.jobs (landed_if number) ∙ k.jobs_are;
     jobs_few = omega (arith, k.jobs_few, length-append h.events (Landed number ∷ []));
-    first_within = k.first_within;
-    none_before = k.none_before;
+    none_before = subst (λ (flags : List Bool). NoneWaits flags first) (sym waiting_after) k.none_before;
   }

@@ -1,29 +1,29 @@
 -- A job that lands: its cuts are those of the lines that it finds, and what is kept then.
-use Rattle.std.proofs.Common.{◌≡◌, ℕ, ◌+◌, ◌-◌, ◌≤◌, eqb, not, cond, Bool, true, false, List, [], ◌∷◌, ◌++◌, length, map, take, drop, get_or, refl, sym, ap, subst, ◌∙◌, arith}
+use Rattle.std.proofs.Common.{◌≡◌, ℕ, ◌+◌, ◌-◌, ◌≤◌, eqb, not, cond, Bool, true, false, List, [], ◌∷◌, ◌++◌, length, take, drop, get_or, refl, sym, ap, subst, ◌∙◌, arith}
 use Rattle.std.specs.Prelude.{Option, Some, None}
 use Rattle.std.specs.List.{find, filter}
 use Rattle.std.proofs.lemmas.Bool.{true≢false}
 use Rattle.std.proofs.lemmas.List.{length-map, take_at}
 use Rattle.cell_units.specs.declared.limits.TheConstants.{TEXT_LIMIT}
-use Rattle.cell_units.specs.Lawful.{IsWidth}
 use Rattle.cell_units.specs.Record.{Mark, Record}
 use Rattle.cell_line.specs.declared.element.Element.{Element}
-use Rattle.cell_line.specs.Wrapping.{cuts_of}
 use Rattle.plain_rows.specs.Plain.{marks_of}
 use Rattle.plain_rows.specs.Rows.{line_elements}
 use Rattle.wrap_workers.specs.Jobs.{IsRunIn, JobParts, wraps_of}
-use Rattle.display_sheet.specs.Landing.{AreCutsAt, landed_at, with_landed_lines}
+use Rattle.display_sheet.specs.Landing.{landed_at, with_landed_lines}
 use Rattle.display_sheet.specs.Shown.{unstamped}
 use Rattle.display_sheet.proofs.ElementLines.{elements_long}
+use Rattle.display_sheet.proofs.Refused.{All-find}
 use Rattle.display_sheet.proofs.Sheets.{length-marks_of, widths, widths-marks_of}
+use Rattle.kept_sheet.specs.Kept.{AreLinesAt, IsRising, cuts_in, lines_in, standing}
 use Rattle.display_map.specs.Displays.{KeepsDisplay, KeepsShortDisplay, unlanded}
 use Rattle.display_map.specs.Events.{Event, Landed}
 use Rattle.display_map.specs.Outs.{AreAt, AreOut, IsOut, OutParts}
 use Rattle.display_map.specs.Replay.{History, SentJob, State, appended, job_numbered, state_of}
 use Rattle.display_map.specs.Sending.{IsOutstanding}
-use Rattle.display_map.specs.Works.{CutsFit, with_landed}
+use Rattle.display_map.specs.Works.{LinesFit, with_landed}
 use Rattle.display_map.proofs.Jobs.{job_numbered-at, landed_marks, slice_get_some}
-use Rattle.display_map.proofs.LandedCuts.{AreFrom, cuts-at, run-from}
+use Rattle.display_map.proofs.LandedCuts.{AreFrom, lines-at, run-from}
 use Rattle.display_map.proofs.LandedDisplays.{kept-landed, widths-after}
 use Rattle.display_map.proofs.Outstanding.{IsStillOut, no_job, still_out}
 use Rattle.display_map.proofs.Stamps.{stamps}
@@ -76,7 +76,7 @@ found-out S number (j ∷ jobs) (o ∷ outs) job are e = go (λ e. found-out S n
         is = rest.is;
       }
 
-module _ (h : History) (sheet : Record) (flags : List Bool) (outs : List OutParts) (versions jobs first : ℕ) (k : KeepsDisplay h sheet flags outs versions jobs first)
+module _ (h : History) (sheet : Record) (outs : List OutParts) (versions jobs first : ℕ) (k : KeepsDisplay h sheet outs versions jobs first)
     (job : JobParts (List (List Element))) (outstanding : IsOutstanding h job) where
   abbrev s : State
   s = state_of h
@@ -105,30 +105,30 @@ module _ (h : History) (sheet : Record) (flags : List Bool) (outs : List OutPart
   from-run : IsRunIn (length job.lines) job.run → AreFrom o.stamps_then job.lines (take job.run.count (drop job.run.first o.stamps_then)) (take job.run.count (drop job.run.first job.lines))
   from-run within = run-from o.stamps_then job.lines job.run.first job.run.count o.long (omega (arith, within.2, o.long))
 
-  cuts-here : IsRunIn (length job.lines) job.run → AreCutsAt (line_elements r) job.width f.out.lines (map (λ e. cuts_of e job.width) (take job.run.count (drop job.run.first job.lines)))
-  cuts-here within =
-      cuts-at o.stamps_then job.lines (stamps r.marks) (line_elements r) o.same
-      (length-map r.marks (λ m. m.stamp) ∙ (kept-lawful h sheet flags outs versions jobs first k).marked ∙ sym (elements_long r)) job.width
+  lines-here : IsRunIn (length job.lines) job.run → AreLinesAt (line_elements r) f.out.lines (take job.run.count (drop job.run.first job.lines))
+  lines-here within =
+      lines-at o.stamps_then job.lines (stamps r.marks) (line_elements r) o.same
+      (length-map r.marks (λ m. m.stamp) ∙ (kept-lawful h sheet outs versions jobs first k).marked ∙ sym (elements_long r))
       (take job.run.count (drop job.run.first o.stamps_then)) (take job.run.count (drop job.run.first job.lines)) f.out.lines (from-run within) at-places
 
   out-width : f.out.width ≡ job.width
   out-width = f.is.width ∙ o.width_is
 
-  -- the cuts of the job fit the lines that it finds
-  pub cuts-fit : (cuts : List (List ℕ)) → cuts ≡ wraps_of job.lines job.run job.width → IsRunIn (length job.lines) job.run → IsWidth job.width →
-      CutsFit sheet (find (λ out. eqb out.number job.number) outs) cuts
-  cuts-fit cuts is within width =
-      subst (λ (o : Option OutParts). CutsFit sheet o cuts) (sym f.found)
+  -- the lines of the job are those that stand at the places that are kept of it, and its cuts are theirs
+  pub lines-fit : (cuts : List (List ℕ)) → cuts ≡ wraps_of job.lines job.run job.width → IsRunIn (length job.lines) job.run →
+      LinesFit sheet (find (λ out. eqb out.number job.number) outs) job.lines job.run cuts
+  lines-fit cuts is within =
+      subst (λ (o : Option OutParts). LinesFit sheet o job.lines job.run cuts) (sym f.found)
       (λ same. (
-        subst IsWidth (sym out-width) width,
-        subst (λ (r : Record). AreCutsAt (line_elements r) f.out.width f.out.lines cuts) k.sheet_is
-            (subst (λ (w : ℕ). AreCutsAt (line_elements r) w f.out.lines cuts) (sym out-width)
-            (subst (λ (cs : List (List ℕ)). AreCutsAt (line_elements r) job.width f.out.lines cs) (sym these) (cuts-here within))),
+        subst (λ (es : List (List Element)). AreLinesAt (line_elements sheet) f.out.lines es) (sym these)
+            (subst (λ (r : Record). AreLinesAt (line_elements r) f.out.lines (take job.run.count (drop job.run.first job.lines))) k.sheet_is (lines-here within)),
+        All-find (λ (o : OutParts). IsRising 0 (standing o.lines)) (λ (o : OutParts). eqb o.number job.number) outs f.out k.in_order f.found,
+        is ∙ ap (cuts_in job.lines job.run) (sym out-width ∙ same),
       )) where
-        these : cuts ≡ map (λ e. cuts_of e job.width) (take job.run.count (drop job.run.first job.lines))
+        these : lines_in job.lines job.run ≡ take job.run.count (drop job.run.first job.lines)
         these =
             let count : job.run.first + job.run.count - job.run.first ≡ job.run.count = omega arith in
-            is ∙ ap (λ (n : ℕ). map (λ e. cuts_of e job.width) (take n (drop job.run.first job.lines))) count
+            ap (λ (n : ℕ). take n (drop job.run.first job.lines)) count
 
   marks-after : marks_of (widths (landed_marks r (Some sent))) ≡ marks_of (cond (eqb sent.width r.width) (landed_at sent.width f.out.lines (widths r.marks)) (widths r.marks))
   marks-after = ap marks_of (widths-after r sent f.out.lines k.stamped.once f.is.lines)
@@ -150,11 +150,11 @@ module _ (h : History) (sheet : Record) (flags : List Bool) (outs : List OutPart
       ∙ (λ i. with_landed (k.sheet_is i) (Some f.out))
       ∙ ap (with_landed sheet) (sym f.found)
 
-  pub kept-landing : KeepsDisplay (appended h (Landed job.number ∷ [])) (with_landed sheet (find (λ out. eqb out.number job.number) outs)) flags
+  pub kept-landing : KeepsDisplay (appended h (Landed job.number ∷ [])) (with_landed sheet (find (λ out. eqb out.number job.number) outs))
       (filter (λ out. not (eqb out.number job.number)) outs) versions jobs first
   kept-landing =
-      subst (λ (q : Record). KeepsDisplay (appended h (Landed job.number ∷ [])) q flags (filter (λ out. not (eqb out.number job.number)) outs) versions jobs first) sheet-after
-      (kept-landed h sheet flags outs versions jobs first k job.number o.place no_job o.number_is o.there o.unlanded)
+      subst (λ (q : Record). KeepsDisplay (appended h (Landed job.number ∷ [])) q (filter (λ out. not (eqb out.number job.number)) outs) versions jobs first) sheet-after
+      (kept-landed h sheet outs versions jobs first k job.number o.place no_job o.number_is o.there o.unlanded)
 
   pub text-landed : (with_landed sheet (find (λ out. eqb out.number job.number) outs)).text ≡ sheet.text
   text-landed = ap (λ (q : Record). q.text) (sym sheet-after)
@@ -162,19 +162,19 @@ module _ (h : History) (sheet : Record) (flags : List Bool) (outs : List OutPart
   pub landing-kept : (events : List Event) (sheet' : Record) (outs' : List OutParts) → length sheet.text ≤ TEXT_LIMIT →
       events ≡ h.events ++ Landed job.number ∷ [] → sheet' ≡ with_landed sheet (find (λ out. eqb out.number job.number) outs) →
       outs' ≡ filter (λ out. not (eqb out.number job.number)) outs →
-      KeepsShortDisplay (record { opening = h.opening; events = events }) sheet' flags outs' versions jobs first
+      KeepsShortDisplay (record { opening = h.opening; events = events }) sheet' outs' versions jobs first
   landing-kept events sheet' outs' short pushed landed removed =
-      subst (λ (es : List Event). KeepsShortDisplay (record { opening = h.opening; events = es }) sheet' flags outs' versions jobs first) (sym pushed)
-      (subst (λ (os : List OutParts). KeepsShortDisplay (appended h (Landed job.number ∷ [])) sheet' flags os versions jobs first) (sym removed)
-      (subst (λ (q : Record). KeepsShortDisplay (appended h (Landed job.number ∷ [])) q flags (filter (λ out. not (eqb out.number job.number)) outs) versions jobs first) (sym landed)
+      subst (λ (es : List Event). KeepsShortDisplay (record { opening = h.opening; events = es }) sheet' outs' versions jobs first) (sym pushed)
+      (subst (λ (os : List OutParts). KeepsShortDisplay (appended h (Landed job.number ∷ [])) sheet' os versions jobs first) (sym removed)
+      (subst (λ (q : Record). KeepsShortDisplay (appended h (Landed job.number ∷ [])) q (filter (λ out. not (eqb out.number job.number)) outs) versions jobs first) (sym landed)
       (record { kept = kept-landing; short = omega (arith, short, ap length text-landed) })))
 
 -- what was appended is taken back
-pub taken-back : (h : History) (sheet : Record) (flags : List Bool) (outs : List OutParts) (versions jobs first : ℕ) → KeepsShortDisplay h sheet flags outs versions jobs first →
+pub taken-back : (h : History) (sheet : Record) (outs : List OutParts) (versions jobs first : ℕ) → KeepsShortDisplay h sheet outs versions jobs first →
     (events more after : List Event) (sheet' : Record) (outs' : List OutParts) (n : ℕ) → events ≡ take n after → after ≡ h.events ++ more → n ≡ length h.events → sheet' ≡ sheet → outs' ≡ outs →
-    KeepsShortDisplay (record { opening = h.opening; events = events }) sheet' flags outs' versions jobs first
-taken-back h sheet flags outs versions jobs first k events more after sheet' outs' n cut pushed long same same_outs =
+    KeepsShortDisplay (record { opening = h.opening; events = events }) sheet' outs' versions jobs first
+taken-back h sheet outs versions jobs first k events more after sheet' outs' n cut pushed long same same_outs =
     let back : events ≡ h.events = cut ∙ (λ i. take (long i) (pushed i)) ∙ take_at h.events more (length h.events) refl in
-    subst (λ (es : List Event). KeepsShortDisplay (record { opening = h.opening; events = es }) sheet' flags outs' versions jobs first) (sym back)
-    (subst (λ (q : Record). KeepsShortDisplay h q flags outs' versions jobs first) (sym same)
-    (subst (λ (os : List OutParts). KeepsShortDisplay h sheet flags os versions jobs first) (sym same_outs) k))
+    subst (λ (es : List Event). KeepsShortDisplay (record { opening = h.opening; events = es }) sheet' outs' versions jobs first) (sym back)
+    (subst (λ (q : Record). KeepsShortDisplay h q outs' versions jobs first) (sym same)
+    (subst (λ (os : List OutParts). KeepsShortDisplay h sheet os versions jobs first) (sym same_outs) k))

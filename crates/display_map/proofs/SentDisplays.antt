@@ -9,13 +9,17 @@ use Rattle.cell_units.specs.Record.{Record}
 use Rattle.display_map.specs.Displays.{IsStamped, KeepsDisplay, NoneWaits, unlanded}
 use Rattle.display_map.specs.Events.{Event, Line, Sent, Published}
 use Rattle.display_map.specs.Identity.{stamps_in}
-use Rattle.display_map.specs.Outs.{AreAt, AreOut, IsOut, OutParts, some_places}
+use Rattle.kept_sheet.specs.Kept.{IsRising, standing}
+use Rattle.display_map.specs.Outs.{AreAt, AreOut, IsOut, OutParts, some_places, waiting_in}
 use Rattle.display_map.specs.Replay.{History, SentJob, State, appended, happens, is_published, stamps_of, state_of, waits}
 use Rattle.display_sheet.specs.Shown.{unstamped}
 use Rattle.display_map.proofs.Displays.{fits-more}
+use Rattle.display_map.proofs.Lowered.{flags-of}
 use Rattle.display_map.proofs.Replays.{range_more, state_of-one_more}
+use Rattle.display_map.proofs.Rising.{run-rises}
 use Rattle.display_map.proofs.Runs.{waits_run}
 use Rattle.display_map.proofs.Stamps.{stamps, stamps_of-is}
+use Rattle.display_map.proofs.Works.{flags-are}
 
 -- the lines of a run stand where they are
 pub places-of_run : (S : List ℕ) (first count : ℕ) → first + count ≤ length S → AreAt S (take count (drop first S)) (some_places first count)
@@ -56,15 +60,22 @@ none-after first count flags le none k lt =
           ∙ get_or-replicate count (k - first) false false (omega (arith, lt, from))
     ]
 
-module _ (h : History) (sheet : Record) (flags : List Bool) (outs : List OutParts) (versions jobs from : ℕ) (k : KeepsDisplay h sheet flags outs versions jobs from) where
+module _ (h : History) (sheet : Record) (outs : List OutParts) (versions jobs from : ℕ) (k : KeepsDisplay h sheet outs versions jobs from) where
   abbrev s : State
   s = state_of h
 
   abbrev r : Record
   r = s.present
 
+  -- which lines wait
+  abbrev flags : List Bool
+  flags = waiting_in sheet outs
+
+  flags_are : map (waits s) r.marks ≡ flags
+  flags_are = flags-are h sheet outs versions jobs from k
+
   marked : length r.marks ≡ length flags
-  marked = sym (length-map r.marks (waits s)) ∙ ap length k.flags_are
+  marked = sym (length-map r.marks (waits s)) ∙ ap length flags_are
 
   -- a job is sent
   module _ (number first count : ℕ) (next : number ≡ jobs + 1) (within : first + count ≤ length flags) (none : NoneWaits flags first) where
@@ -86,9 +97,9 @@ module _ (h : History) (sheet : Record) (flags : List Bool) (outs : List OutPart
     flags' : map (waits (happens s e)) r.marks ≡ taken_down first count flags
     flags' =
         waits_run s number first count k.stamped.once
-        ∙ (λ i. (sym (take-map (waits s) first r.marks) ∙ ap (take first) k.flags_are) i
+        ∙ (λ i. (sym (take-map (waits s) first r.marks) ∙ ap (take first) flags_are) i
         ++ (replicate (length-take-le count (drop first r.marks) (omega (arith, length-drop first r.marks, within, marked)) i) false
-        ++ (sym (drop-map (waits s) (first + count) r.marks) ∙ ap (drop (first + count)) k.flags_are) i))
+        ++ (sym (drop-map (waits s) (first + count) r.marks) ∙ ap (drop (first + count)) flags_are) i))
 
     numbered : map (λ j. j.number) (s.jobs ++ job ∷ []) ≡ range_with_len 1 (length (s.jobs ++ job ∷ []))
     numbered =
@@ -97,12 +108,26 @@ module _ (h : History) (sheet : Record) (flags : List Bool) (outs : List OutPart
         ∙ range_more 1 (length s.jobs)
         ∙ ap (range_with_len 1) (sym (length_push s.jobs job))
 
-    pub kept-sent : KeepsDisplay (appended h (e ∷ [])) sheet (taken_down first count flags) (outs ++ record { number = number; width = r.width; lines = some_places first count } ∷ []) versions (jobs + 1) (first + count)
+    abbrev outs' : List OutParts
+    outs' = outs ++ record { number = number; width = r.width; lines = some_places first count } ∷ []
+
+    still_out : AreOut (stamps r.marks) (unlanded (s.jobs ++ job ∷ [])) outs'
+    still_out =
+        subst (λ (l : List SentJob). AreOut (stamps r.marks) l outs') (sym (unlanded-push s.jobs job refl))
+        (AreOut-push (stamps r.marks) (unlanded s.jobs) outs job (record { number = number; width = r.width; lines = some_places first count }) k.outs_are
+        (record { number = refl; width = refl; lines = subst (λ (l : List ℕ). AreAt (stamps r.marks) l (some_places first count)) own (places-of_run (stamps r.marks) first count long) }))
+
+    waiting_after : waiting_in sheet outs' ≡ taken_down first count flags
+    waiting_after =
+        ap (λ (q : Record). waiting_in q outs') (sym k.sheet_is)
+        ∙ sym (flags-of (happens s e) outs' k.stamped.once still_out)
+        ∙ flags'
+
+    pub kept-sent : KeepsDisplay (appended h (e ∷ [])) sheet outs' versions (jobs + 1) (first + count)
     kept-sent = record {
       opening = k.opening;
       fits = fits-more h e k.fits tt;
       sheet_is = ap (λ (t : State). unstamped t.present) is ∙ k.sheet_is;
-      flags_are = ap (λ (t : State). map (waits t) t.present.marks) is ∙ flags';
       stamped = subst IsStamped (sym is) (record {
         once = k.stamped.once;
         below = k.stamped.below;
@@ -111,58 +136,46 @@ module _ (h : History) (sheet : Record) (flags : List Bool) (outs : List OutPart
             (subst (All (λ x. x < r.next_stamp)) own (All-take (λ (x : ℕ). x < r.next_stamp) count (drop first (stamps r.marks)) (All-drop (λ (x : ℕ). x < r.next_stamp) first (stamps r.marks) k.stamped.below)));
         numbered = numbered;
       });
-      outs_are =
-          subst (λ (t : State). AreOut (stamps_in t.present) (unlanded t.jobs) (outs ++ record { number = number; width = r.width; lines = some_places first count } ∷ [])) (sym is)
-          (subst (λ (l : List SentJob). AreOut (stamps r.marks) l (outs ++ record { number = number; width = r.width; lines = some_places first count } ∷ [])) (sym (unlanded-push s.jobs job refl))
-          (AreOut-push (stamps r.marks) (unlanded s.jobs) outs job (record { number = number; width = r.width; lines = some_places first count }) k.outs_are
-          (record { number = refl; width = refl; lines = subst (λ (l : List ℕ). AreAt (stamps r.marks) l (some_places first count)) own (places-of_run (stamps r.marks) first count long) })));
+      outs_are = subst (λ (t : State). AreOut (stamps_in t.present) (unlanded t.jobs) outs') (sym is) still_out;
+      in_order =
+          All-push (λ (out : OutParts). IsRising 0 (standing out.lines)) outs (record { number = number; width = r.width; lines = some_places first count }) k.in_order
+          (run-rises 0 first count (omega arith));
       versions_are = omega (arith, sum_by-append (λ (x : Event). cond (is_published x) 1 0) h.events (e ∷ []), k.versions_are);
       jobs_are = ap (λ (t : State). length t.jobs) is ∙ length_push s.jobs job ∙ ap (λ (n : ℕ). n + 1) k.jobs_are;
       jobs_few = omega (arith, k.jobs_few, length-append h.events (e ∷ []));
-      first_within = omega (
-        arith,
-        within,
-        length-append (take first flags) (replicate count false ++ drop (first + count) flags),
-        length-append (replicate count false) (drop (first + count) flags),
-        length-replicate count false,
-        length-take-le first flags (omega (arith, within)),
-        length-drop (first + count) flags,
-      );
-      none_before = none-after first count flags within none;
+      none_before = subst (λ (after : List Bool). NoneWaits after (first + count)) (sym waiting_after) (none-after first count flags within none);
     }
 
   -- a line is noted
-  pub kept-line : (number : ℕ) → KeepsDisplay (appended h (Line number ∷ [])) sheet flags outs versions jobs from
+  pub kept-line : (number : ℕ) → KeepsDisplay (appended h (Line number ∷ [])) sheet outs versions jobs from
   kept-line number =
       let is : state_of (appended h (Line number ∷ [])) ≡ s = state_of-one_more h (Line number) in
       record {
         opening = k.opening;
         fits = fits-more h (Line number) k.fits tt;
         sheet_is = ap (λ (t : State). unstamped t.present) is ∙ k.sheet_is;
-        flags_are = ap (λ (t : State). map (waits t) t.present.marks) is ∙ k.flags_are;
         stamped = subst IsStamped (sym is) k.stamped;
         outs_are = subst (λ (t : State). AreOut (stamps_in t.present) (unlanded t.jobs) outs) (sym is) k.outs_are;
+        in_order = k.in_order;
         versions_are = omega (arith, sum_by-append (λ (x : Event). cond (is_published x) 1 0) h.events (Line number ∷ []), k.versions_are);
         jobs_are = ap (λ (t : State). length t.jobs) is ∙ k.jobs_are;
         jobs_few = omega (arith, k.jobs_few, length-append h.events (Line number ∷ []));
-        first_within = k.first_within;
         none_before = k.none_before;
       }
 
   -- a version is published
-  pub kept-published : (last : Bool) → KeepsDisplay (appended h (Published last ∷ [])) sheet flags outs (versions + 1) jobs from
+  pub kept-published : (last : Bool) → KeepsDisplay (appended h (Published last ∷ [])) sheet outs (versions + 1) jobs from
   kept-published last =
       let is : state_of (appended h (Published last ∷ [])) ≡ s = state_of-one_more h (Published last) in
       record {
         opening = k.opening;
         fits = fits-more h (Published last) k.fits tt;
         sheet_is = ap (λ (t : State). unstamped t.present) is ∙ k.sheet_is;
-        flags_are = ap (λ (t : State). map (waits t) t.present.marks) is ∙ k.flags_are;
         stamped = subst IsStamped (sym is) k.stamped;
         outs_are = subst (λ (t : State). AreOut (stamps_in t.present) (unlanded t.jobs) outs) (sym is) k.outs_are;
+        in_order = k.in_order;
         versions_are = omega (arith, sum_by-append (λ (x : Event). cond (is_published x) 1 0) h.events (Published last ∷ []), k.versions_are);
         jobs_are = ap (λ (t : State). length t.jobs) is ∙ k.jobs_are;
         jobs_few = omega (arith, k.jobs_few, length-append h.events (Published last ∷ []));
-        first_within = k.first_within;
         none_before = k.none_before;
       }

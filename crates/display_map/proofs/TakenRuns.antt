@@ -1,5 +1,5 @@
 -- The run that is sent next, by the flags of the lines.
-use Rattle.std.proofs.Common.{◌≡◌, ℕ, ◌+◌, ◌<◌, ◌≤◌, not, suc, min, cond, Bool, true, false, List, [], ◌∷◌, ◌++◌, length, map, take, drop, replicate, refl, sym, ap, subst, ◌∙◌, arith, length-drop}
+use Rattle.std.proofs.Common.{◌≡◌, ℕ, ◌+◌, ◌<◌, ◌≤◌, not, suc, min, cond, Bool, true, false, List, [], ◌∷◌, ◌++◌, length, map, drop, refl, sym, ap, subst, ◌∙◌, arith, length-drop}
 use Rattle.std.specs.Prelude.{Some, None}
 use Rattle.std.specs.List.{prefix_len}
 use Rattle.std.proofs.lemmas.List.{length-map}
@@ -14,13 +14,13 @@ use Rattle.wrap_workers.specs.Jobs.{IsLawful, IsRunIn, JobParts}
 use Rattle.display_sheet.proofs.ElementLines.{elements_long}
 use Rattle.display_map.specs.Displays.{IsNextRun, KeepsShortDisplay, first_flag}
 use Rattle.display_map.specs.Events.{Event, Sent}
-use Rattle.display_map.specs.Outs.{OutParts, some_places}
+use Rattle.display_map.specs.Outs.{OutParts, some_places, waiting_in}
 use Rattle.display_map.specs.Replay.{History, State, appended, next_run, state_of, waits}
 use Rattle.display_map.specs.Sending.{IsSent}
 use Rattle.display_map.proofs.HeldSizes.{fits-lines}
 use Rattle.display_map.proofs.Jobs.{next_run-none, next_run-some, same_prefix}
-use Rattle.display_map.proofs.SentDisplays.{kept-sent, taken_down}
-use Rattle.display_map.proofs.Works.{kept-lawful}
+use Rattle.display_map.proofs.SentDisplays.{kept-sent}
+use Rattle.display_map.proofs.Works.{flags-are, kept-lawful}
 
 -- the next run has a line, and lies in the lines
 some_waits : (flags : List Bool) (first : ℕ) → first ≡ first_flag flags → first < length flags → 1 ≤ prefix_len (λ w. w) (drop first flags)
@@ -42,20 +42,27 @@ run-within flags run h =
     let left = length-drop run.first flags in
     (omega (arith, h.2, some), omega (arith, h.2), omega (arith, h.1, h.2, most, left))
 
-module _ (h : History) (sheet : Record) (flags : List Bool) (outs : List OutParts) (versions jobs first : ℕ) (k : KeepsShortDisplay h sheet flags outs versions jobs first) where
+module _ (h : History) (sheet : Record) (outs : List OutParts) (versions jobs first : ℕ) (k : KeepsShortDisplay h sheet outs versions jobs first) where
   abbrev s : State
   s = state_of h
 
   abbrev r : Record
   r = s.present
 
+  -- which lines wait
+  abbrev flags : List Bool
+  flags = waiting_in sheet outs
+
+  flags_are : map (waits s) r.marks ≡ flags
+  flags_are = flags-are h sheet outs versions jobs first k.kept
+
   long : length r.marks ≡ length flags
-  long = sym (length-map r.marks (waits s)) ∙ ap length k.kept.flags_are
+  long = sym (length-map r.marks (waits s)) ∙ ap length flags_are
 
   same_first : prefix_len (λ m. not (waits s m)) r.marks ≡ first_flag flags
   same_first =
       same_prefix (λ (m : Mark). not (waits s m)) not r.marks flags 0
-      (not-map r.marks ∙ ap (map not) k.kept.flags_are) where
+      (not-map r.marks ∙ ap (map not) flags_are) where
         not-map : (marks : List Mark) → map (λ m. not (waits s m)) marks ≡ map not (map (waits s) marks)
         not-map [] = refl
         not-map (m ∷ marks) = ap (λ (l : List Bool). not (waits s m) ∷ l) (not-map marks)
@@ -66,18 +73,18 @@ module _ (h : History) (sheet : Record) (flags : List Bool) (outs : List OutPart
   -- few enough for u32
   pub few-flags : length flags ≤ 134348801
   few-flags =
-      let lawful = kept-lawful h sheet flags outs versions jobs first k.kept in
+      let lawful = kept-lawful h sheet outs versions jobs first k.kept in
       omega (arith, long, few-lines r lawful (omega (arith, k.short, ap (λ (q : Record). length q.text) k.kept.sheet_is)))
 
   lines-long : length (line_elements r) ≡ length flags
-  lines-long = elements_long r ∙ sym (kept-lawful h sheet flags outs versions jobs first k.kept).marked ∙ long
+  lines-long = elements_long r ∙ sym (kept-lawful h sheet outs versions jobs first k.kept).marked ∙ long
 
   module _ (run : Run) (next : IsNextRun flags (Some run)) where
     pub some-run : next_run s ≡ Some run
     some-run =
         next_run-some s run.first (same_first ∙ sym next.0) (omega (arith, long, next.1))
         ∙ ap (λ (n : ℕ). Some (record { first = run.first; count = min RUN_LIMIT n }))
-        (same_prefix (waits s) (λ (w : Bool). w) r.marks flags run.first (k.kept.flags_are ∙ sym (map-same flags)))
+        (same_prefix (waits s) (λ (w : Bool). w) r.marks flags run.first (flags_are ∙ sym (map-same flags)))
         ∙ ap (λ (n : ℕ). Some (record { first = run.first; count = n })) (sym next.2) where
           map-same : (flags : List Bool) → map (λ w. w) flags ≡ flags
           map-same [] = refl
@@ -85,7 +92,7 @@ module _ (h : History) (sheet : Record) (flags : List Bool) (outs : List OutPart
 
     pub lawful-run : (lines : List (List Element)) (width : ℕ) → lines ≡ line_elements sheet → width ≡ sheet.width → IsLawful lines run width
     lawful-run lines width same is =
-        let lawful = kept-lawful h sheet flags outs versions jobs first k.kept in
+        let lawful = kept-lawful h sheet outs versions jobs first k.kept in
         let short : length r.text ≤ 67108864 = omega (arith, k.short, ap (λ (q : Record). length q.text) k.kept.sheet_is) in
         let within = run-within flags run next in
         subst (λ (es : List (List Element)). IsLawful es run width) (ap line_elements k.kept.sheet_is ∙ sym same)
@@ -102,19 +109,17 @@ module _ (h : History) (sheet : Record) (flags : List Bool) (outs : List OutPart
       event_is = event ∙ (λ i. appended h (Sent (sym number i) (sym same i).first (sym same i).count ∷ []));
     }
 
-    pub kept-taken : (flags' : List Bool) (events : List Event) (outs' : List OutParts) (width : ℕ) → width ≡ sheet.width →
+    pub kept-taken : (events : List Event) (outs' : List OutParts) (width : ℕ) → width ≡ sheet.width →
         events ≡ h.events ++ Sent (jobs + 1) run.first run.count ∷ [] →
-        flags' ≡ take run.first flags ++ (replicate run.count false ++ drop (run.first + run.count) flags) →
         outs' ≡ outs ++ record { number = jobs + 1; width = width; lines = some_places run.first run.count } ∷ [] →
-        KeepsShortDisplay (record { opening = h.opening; events = events }) sheet flags' outs' versions (jobs + 1) (run.first + run.count)
-    kept-taken flags' events outs' width is pushed taken added =
+        KeepsShortDisplay (record { opening = h.opening; events = events }) sheet outs' versions (jobs + 1) (run.first + run.count)
+    kept-taken events outs' width is pushed added =
         let same : width ≡ r.width = is ∙ ap (λ (q : Record). q.width) (sym k.kept.sheet_is) in
         let within = run-within flags run next in
-        subst (λ (es : List Event). KeepsShortDisplay (record { opening = h.opening; events = es }) sheet flags' outs' versions (jobs + 1) (run.first + run.count)) (sym pushed)
-        (subst (λ (fs : List Bool). KeepsShortDisplay (appended h (Sent (jobs + 1) run.first run.count ∷ [])) sheet fs outs' versions (jobs + 1) (run.first + run.count)) (sym taken)
-        (subst (λ (os : List OutParts). KeepsShortDisplay (appended h (Sent (jobs + 1) run.first run.count ∷ [])) sheet (taken_down run.first run.count flags) os versions (jobs + 1) (run.first + run.count))
+        subst (λ (es : List Event). KeepsShortDisplay (record { opening = h.opening; events = es }) sheet outs' versions (jobs + 1) (run.first + run.count)) (sym pushed)
+        (subst (λ (os : List OutParts). KeepsShortDisplay (appended h (Sent (jobs + 1) run.first run.count ∷ [])) sheet os versions (jobs + 1) (run.first + run.count))
         (sym (added ∙ (λ i. outs ++ record { number = jobs + 1; width = same i; lines = some_places run.first run.count } ∷ [])))
         (record {
-          kept = kept-sent h sheet flags outs versions jobs first k.kept (jobs + 1) run.first run.count refl within.2 next.3;
+          kept = kept-sent h sheet outs versions jobs first k.kept (jobs + 1) run.first run.count refl within.2 next.3;
           short = k.short;
-        })))
+        }))

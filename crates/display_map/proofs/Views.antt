@@ -1,9 +1,12 @@
 -- What a view reads off its sheet it reads off the record of its history: none of it depends on stamps.
-use Rattle.std.proofs.Common.{◌≡◌, ℕ, sym, ap, ◌∙◌}
-use Rattle.cell_units.specs.Record.{Record}
+use Rattle.std.proofs.Common.{◌≡◌, ℕ, eqb, ◌&&◌, Bool, List, [], ◌∷◌, map, refl, sym, ap, ◌∙◌}
+use Rattle.std.specs.List.{list_all}
+use Rattle.cell_units.specs.Record.{Mark, Record}
+use Rattle.display_sheet.proofs.Sheets.{widths-marks_of}
+use Rattle.kept_sheet.specs.Kept.{all_at_width}
 use Rattle.display_sheet.specs.Shown.{unstamped}
 use Rattle.display_map.specs.Displays.{KeepsView}
-use Rattle.display_map.specs.Replay.{History, present_of}
+use Rattle.display_map.specs.Replay.{History, is_settled, present_of}
 
 module _ {h : History} {sheet : Record} {versions : ℕ} (keeps : KeepsView h sheet versions) {now : History} (is : h ≡ now) where
   -- what is the same without stamps
@@ -15,3 +18,15 @@ module _ {h : History} {sheet : Record} {versions : ℕ} (keeps : KeepsView h sh
 
   pub sheet-read : sheet ≡ unstamped (present_of now)
   sheet-read = sym keeps.sheet_is ∙ ap (λ (h : History). unstamped (present_of h)) is
+
+all-marks : (width : ℕ) (marks : List Mark) → list_all (λ m. eqb m.width width) marks ≡ list_all (λ w. eqb w width) (map (λ m. m.width) marks)
+all-marks width [] = refl
+all-marks width (m ∷ marks) = ap (λ (b : Bool). eqb m.width width && b) (all-marks width marks)
+
+-- whether all lines stand at the width doesn't depend on stamps
+pub settled-by : (r sheet : Record) → unstamped r ≡ sheet → all_at_width sheet ≡ is_settled r
+unfolding is_settled
+settled-by r sheet is =
+    ap all_at_width (sym is)
+    ∙ ap (list_all (λ w. eqb w r.width)) (widths-marks_of (map (λ m. m.width) r.marks))
+    ∙ sym (all-marks r.width r.marks)

@@ -3,16 +3,15 @@ use Rattle.std.proofs.Common.{◌≡◌, ℕ, ◌-◌, ◌<◌, ◌≤◌, ◌&&
 use Rattle.std.specs.Str.{IsUtf8}
 use Rattle.std.proofs.lemmas.Bool.{and_parts}
 use Rattle.std.proofs.lemmas.List.{length-take-le}
-use Rattle.cell_units.specs.declared.limits.TheConstants.{TEXT_LIMIT}
+use Rattle.cell_units.specs.declared.limits.TheConstants.{LAID_LIMIT, TEXT_LIMIT}
 use Rattle.cell_units.specs.Lawful.{IsAllowed}
 use Rattle.cell_units.specs.Operation.{replaced_text}
 use Rattle.cell_units.specs.Record.{Record}
 use Rattle.cell_units.specs.Text.{IsBoundary, clean, is_boundary}
-use Rattle.plain_rows.specs.declared.limits.TheConstants.{LAID_LIMIT}
 use Rattle.display_sheet.specs.Changes.{are_ranges, batch, is_operation, replacement}
 use Rattle.display_sheet.specs.declared.change.Splice.{Splice}
 use Rattle.display_map.specs.Events.{Event, Did}
-use Rattle.display_map.specs.Outs.{OutParts, waiting_in}
+use Rattle.display_map.specs.Outs.{OutParts}
 use Rattle.display_map.specs.Replay.{History, State, appended, present_of, replayed, state_of}
 use Rattle.display_map.specs.Splicing.{did_events, spliced_text}
 use Rattle.display_map.specs.Works.{KeepsWork}
@@ -75,7 +74,7 @@ module _ (h : History) (sheet : Record) (outs : List OutParts) (versions jobs : 
   ordered = are_ordered text later.from (x ∷ rest) later.within later.ranges
 
   boundaries : AreAtBoundaries text (x ∷ rest)
-  boundaries = at_boundaries text later.from (x ∷ rest) (kept-lawful h sheet (waiting_in sheet outs) outs versions jobs 0 k).entries.source.text.0 later.ranges
+  boundaries = at_boundaries text later.from (x ∷ rest) (kept-lawful h sheet outs versions jobs 0 k).entries.source.text.0 later.ranges
 
   now-text : (replayed (state_of h) (map Did (batch rest))).present.text ≡ now.text
   now-text = ap (λ (s : State). s.present.text) (sym (state_of-appended h (map Did (batch rest)))) ∙ ap (λ (q : Record). q.text) k'.sheet_is

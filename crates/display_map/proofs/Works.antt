@@ -1,5 +1,5 @@
 -- What a change makes of a record and of the jobs that are out.
-use Rattle.std.proofs.Common.{◌≡◌, ℕ, ◌+◌, ◌-◌, ◌≤◌, Bool, List, [], ◌∷◌, length, map, sym, ap, subst, ◌∙◌, arith}
+use Rattle.std.proofs.Common.{◌≡◌, ℕ, ◌+◌, ◌-◌, ◌≤◌, List, [], ◌∷◌, length, map, sym, ap, subst, ◌∙◌, arith}
 use Rattle.std.specs.Prelude.{Option, Some, None}
 use Rattle.std.specs.List.{All}
 use Rattle.std.proofs.lemmas.List.{length-map}
@@ -17,7 +17,7 @@ use Rattle.display_sheet.proofs.Sheets.{length-marks_of}
 use Rattle.display_map.specs.Displays.{KeepsDisplay, unlanded}
 use Rattle.display_map.specs.Identity.{stamps_in}
 use Rattle.display_map.specs.Outs.{AreAt, AreBelow, AreOut, OutParts, waiting_in}
-use Rattle.display_map.specs.Replay.{History, SentJob, present_of, state_of}
+use Rattle.display_map.specs.Replay.{History, SentJob, present_of, state_of, waits}
 use Rattle.display_map.specs.Works.{KeepsWork}
 use Rattle.display_map.proofs.LawfulReplays.{lawful-replayed}
 use Rattle.display_map.proofs.Lowered.{flags-of}
@@ -40,7 +40,7 @@ jobs-below stamps (job ∷ jobs) [] out = absurd out
 jobs-below stamps (job ∷ jobs) (o ∷ outs) out =
     All-cons (IsBelow (length stamps)) o outs (places-below stamps job.stamps o.lines out.0.lines) (jobs-below stamps jobs outs out.1)
 
-module _ (h : History) (sheet : Record) (flags : List Bool) (outs : List OutParts) (versions jobs first : ℕ) (k : KeepsDisplay h sheet flags outs versions jobs first) where
+module _ (h : History) (sheet : Record) (outs : List OutParts) (versions jobs first : ℕ) (k : KeepsDisplay h sheet outs versions jobs first) where
   abbrev r : Record
   r = present_of h
 
@@ -61,32 +61,23 @@ module _ (h : History) (sheet : Record) (flags : List Bool) (outs : List OutPart
       subst (λ (n : ℕ). All (λ (out : OutParts). AreBelow n out.lines) outs) (length-map r.marks (λ m. m.stamp) ∙ marks-kept)
       (jobs-below (stamps_in r) (unlanded (state_of h).jobs) outs k.outs_are)
 
-  -- which lines wait follows from the rest
-  pub flags-follow : flags ≡ waiting_in sheet outs
-  flags-follow = sym k.flags_are ∙ flags-of (state_of h) outs k.stamped.once k.outs_are ∙ ap (λ (q : Record). waiting_in q outs) k.sheet_is
+  -- which lines wait
+  pub flags-are : map (waits (state_of h)) r.marks ≡ waiting_in sheet outs
+  flags-are = flags-of (state_of h) outs k.stamped.once k.outs_are ∙ ap (λ (q : Record). waiting_in q outs) k.sheet_is
 
   pub kept-work : KeepsWork h sheet outs versions jobs
   kept-work = record {
     opening = k.opening;
     fits = k.fits;
     sheet_is = k.sheet_is;
-    flags_are = k.flags_are ∙ flags-follow;
     stamped = k.stamped;
     outs_are = k.outs_are;
+    in_order = k.in_order;
     versions_are = k.versions_are;
     jobs_are = k.jobs_are;
     jobs_few = k.jobs_few;
-    first_within = omega arith;
     none_before = λ j lt. absurd (omega (arith, lt));
   }
-
--- equal parts are kept as well
-pub kept-same : (h : History) (sheet sheet' : Record) (flags : List Bool) (outs outs' : List OutParts) (versions jobs : ℕ) →
-    sheet ≡ sheet' → outs ≡ outs' → flags ≡ waiting_in sheet outs → KeepsWork h sheet' outs' versions jobs → KeepsDisplay h sheet flags outs versions jobs 0
-kept-same h sheet sheet' flags outs outs' versions jobs same same_outs waits k =
-    subst (λ (fs : List Bool). KeepsDisplay h sheet fs outs versions jobs 0) (sym waits)
-    (subst (λ (q : Record). KeepsWork h q outs versions jobs) (sym same)
-    (subst (λ (os : List OutParts). KeepsWork h sheet' os versions jobs) (sym same_outs) k))
 
 -- ---- where an operation carries lines
 

@@ -6,9 +6,9 @@ use Rattle.cell_line.specs.declared.lines.Run.{Run}
 use Rattle.cell_units.specs.Text.{IsText}
 use Rattle.cell_units.specs.Record.{Record}
 use Rattle.display_map.specs.Identity.{stamps_in}
-use Rattle.display_map.specs.LawfulStates.{EventsFit}
-use Rattle.display_map.specs.Outs.{AreOut, OutParts}
-use Rattle.display_map.specs.Replay.{History, SentJob, State, begun, present_of, state_of, versions_of, waits}
+use Rattle.display_map.specs.LawfulStates.{EventsFit, IsLawfulHistory}
+use Rattle.display_map.specs.Outs.{AreOut, OutParts, StandInOrder, waiting_in}
+use Rattle.display_map.specs.Replay.{History, SentJob, State, begun, present_of, state_of, versions_of}
 use Rattle.display_sheet.specs.Shown.{unstamped}
 
 -- the stamps of the lines are apart and below the next one, as are those of the jobs, which are numbered from 1 on
@@ -39,28 +39,27 @@ IsNextRun flags (Some run) =
     × (run.count ≡ min RUN_LIMIT (prefix_len (λ w. w) (drop run.first flags)))
     × NoneWaits flags run.first
 
--- the record that the history replays to, which lines wait, where the lines of the jobs that are out stand, how many
--- versions were published and jobs sent, and before which line none waits
-pub record KeepsDisplay (h : History) (sheet : Record) (flags : List Bool) (outs : List OutParts) (versions jobs first : ℕ) : Type 0 where
+-- the record that the history replays to, where the lines of the jobs that are out stand, how many versions were published
+-- and jobs sent, and before which line none waits
+pub record KeepsDisplay (h : History) (sheet : Record) (outs : List OutParts) (versions jobs first : ℕ) : Type 0 where
   pub opening : IsText h.opening
   pub fits : EventsFit (begun h.opening) h.events
   pub sheet_is : unstamped (present_of h) ≡ sheet
-  pub flags_are : map (waits (state_of h)) (present_of h).marks ≡ flags
   pub stamped : IsStamped (state_of h)
   pub outs_are : AreOut (stamps_in (present_of h)) (unlanded (state_of h).jobs) outs
+  pub in_order : StandInOrder outs
   pub versions_are : versions_of h.events ≡ versions
   pub jobs_are : length (state_of h).jobs ≡ jobs
   pub jobs_few : jobs ≤ length h.events
-  pub first_within : first ≤ length flags
-  pub none_before : NoneWaits flags first
+  pub none_before : NoneWaits (waiting_in sheet outs) first
 
 -- so, and the text isn't longer than a text may be: between the operations of one batch it may be longer
-pub record KeepsShortDisplay (h : History) (sheet : Record) (flags : List Bool) (outs : List OutParts) (versions jobs first : ℕ) : Type 0 where
-  pub kept : KeepsDisplay h sheet flags outs versions jobs first
+pub record KeepsShortDisplay (h : History) (sheet : Record) (outs : List OutParts) (versions jobs first : ℕ) : Type 0 where
+  pub kept : KeepsDisplay h sheet outs versions jobs first
   pub short : length sheet.text ≤ TEXT_LIMIT
 
--- what a view keeps of its history: the record, and how many versions were published
+-- what a view keeps of its history, which is lawful: the record, and how many versions were published
 pub record KeepsView (h : History) (sheet : Record) (versions : ℕ) : Type 0 where
+  pub history : IsLawfulHistory h
   pub sheet_is : unstamped (present_of h) ≡ sheet
   pub versions_are : versions_of h.events ≡ versions
-  pub short : length sheet.text ≤ TEXT_LIMIT

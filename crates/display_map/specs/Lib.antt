@@ -4,8 +4,10 @@ pub mod Identity
 pub mod Journals
 pub mod LawfulStates
 pub mod LinePatches
+pub mod OutRuns
 pub mod Outs
 pub mod Replay
 pub mod Sending
 pub mod Splicing
+pub mod Versions
 pub mod Works

@@ -1,7 +1,8 @@
 -- Where the lines of a job that is out stand now.
 use Rattle.std.specs.Prelude.{ℕ, ◌≡◌, ◌+◌, ◌-◌, ◌<◌, ◌==◌, nat_lt, if◌then◌else◌, not, Bool, false, List, [], ◌∷◌, length, map, count_by, slice_index, slice_set, Option, Some, None}
-use Rattle.std.specs.List.{range_with_len}
+use Rattle.std.specs.List.{All, range_with_len}
 use Rattle.cell_units.specs.Record.{Record}
+use Rattle.kept_sheet.specs.Kept.{IsRising, standing}
 use Rattle.display_map.specs.Replay.{SentJob}
 
 -- the place of the line of a stamp, or none where no line has it
@@ -42,6 +43,10 @@ abbrev pub AreOut : List ℕ → List SentJob → List OutParts → Type 0
 AreOut stamps [] [] = Unit {0}
 AreOut stamps (job ∷ jobs) (out ∷ outs) = IsOut stamps job out × AreOut stamps jobs outs
 AreOut stamps _ _ = ⊥
+
+-- the lines of each job that are still there stand in the order in which they were sent
+abbrev pub StandInOrder : List OutParts → Type 0
+StandInOrder outs = All (λ out. IsRising 0 (standing out.lines)) outs
 
 -- the places of the lines of a run
 abbrev pub some_places : ℕ → ℕ → List (Option ℕ)

@@ -21,10 +21,18 @@ pub record IsSent (before after : History) (job : JobParts (List (List Element))
   pub lines_are : job.lines ≡ line_elements (present_of before)
   pub event_is : after ≡ appended before (sending job ∷ [])
 
--- a job was sent, or no line waits and nothing happened
+-- a job of lines of any kind, seen as lists of elements
+abbrev pub seen_job : {N : Type 0} → (N → List (List Element)) → JobParts N → JobParts (List (List Element))
+seen_job elements job = record { number = job.number; lines = elements job.lines; run = job.run; width = job.width }
+
+-- a job of such lines was sent, or no line waits and nothing happened
+abbrev pub IsRunTakenOn : {N : Type 0} → (N → List (List Element)) → History → History → Option (JobParts N) → Type 0
+IsRunTakenOn elements before after None = (next_run (state_of before) ≡ None) × (after ≡ before)
+IsRunTakenOn elements before after (Some job) = IsSent before after (seen_job elements job)
+
+-- ... of lists of elements
 abbrev pub IsRunTaken : History → History → Option (JobParts (List (List Element))) → Type 0
-IsRunTaken before after None = (next_run (state_of before) ≡ None) × (after ≡ before)
-IsRunTaken before after (Some job) = IsSent before after job
+IsRunTaken = IsRunTakenOn (λ lines. lines)
 
 abbrev pub is_landing : ℕ → Event → Bool
 is_landing number (Landed job) = job == number

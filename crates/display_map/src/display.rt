@@ -1,37 +1,37 @@
 //! The display.
 ghost use Rattle.std.specs.Prelude.{◌≡◌, ◌+◌, ◌≤◌, false, [], ◌∷◌, None, length, map, OnOk, OnErr, IfOk, IfErr, MatchResult};
 ghost use Rattle.cell_units.specs.declared.limits.TheConstants.{TEXT_LIMIT};
+ghost use Rattle.cell_units.specs.Record.{opened};
 ghost use Rattle.cell_units.specs.Refusal.{IsAccepted, IsTextRefused};
-ghost use Rattle.cell_units.specs.Text.{clean};
+ghost use Rattle.cell_units.specs.Text.{IsText, clean};
 ghost use Rattle.display_sheet.specs.Changes.{batch, change_refusal, edit_refusal, is_replacement, operation_of, operation_refusal, ops_of};
 ghost use Rattle.display_sheet.specs.Faults.{IsRefusedAs};
+ghost use Rattle.display_sheet.specs.Shown.{unstamped};
 ghost use Rattle.display_map.specs.Events.{Did, Landed, Line, Published, event_limit};
+ghost use Rattle.display_map.specs.LawfulStates.{IsLawfulHistory};
 ghost use Rattle.display_map.specs.Replay.{appended, is_settled, present_of};
-ghost use Rattle.display_map.specs.Sending.{IsOutstanding, IsRunTaken};
+ghost use Rattle.display_map.specs.Sending.{IsOutstanding, IsRunTakenOn, seen_job};
 
 use crate::event::Event;
 use crate::journal::Journal;
 use crate::outs::{self, Out};
-use crate::version::Version;
-use crate::view::View;
-use crate::{flags, held, splicing, work};
-use cell_units::limits::TEXT_LIMIT;
-use cell_units::{Fault, NoMemory, Refusal, Steps, TextFault, cleaned, read_text};
-use display_sheet::{Buffer, Change, Held, Op, Sheet, Splice};
+use crate::version::VersionOn;
+use crate::view::ViewOn;
+use crate::{held, splicing, work};
+use cell_units::{Fault, NoMemory, Refusal, Steps, TextFault};
+use display_sheet::{Change, Op, Splice};
+use kept_sheet::{PlainSheet, Sheet};
 use std::alloc::Global;
 use std::marker::Model;
 use std::slice;
-use std::sync::Arc;
 use wrap_workers::{Done, Job};
 
 /// A text under edits, wrapped run by run. It is seen as its history.
-#[derive(Drop)]
-pub struct Display {
-    opening: Arc<Buffer>,
+pub struct DisplayOn<S: Sheet> {
+    /// The display as it was opened.
+    opening: S,
     journal: Journal,
-    sheet: Sheet,
-    /// Of each display line whether it waits.
-    waits: Vec<bool>,
+    sheet: S,
     /// The jobs that haven't landed, in the order in which they were sent.
     outs: Vec<Out>,
     /// How many versions were published.
@@ -39,52 +39,69 @@ pub struct Display {
     /// How many jobs were sent.
     jobs: u32,
     /// No line before this one waits.
-    first: usize,
+    first: u32,
 }
 
-impl Model for Display {
+impl<S: Sheet> Drop for DisplayOn<S> {
+    fn drop(self) {
+        let DisplayOn {
+            opening: _,
+            journal: _,
+            sheet: _,
+            outs: _,
+            versions: _,
+            jobs: _,
+            first: _,
+        } = self;
+    }
+}
+
+/// The display of the product.
+pub type Display = DisplayOn<PlainSheet>;
+
+impl<S: Sheet> Model for DisplayOn<S> {
     ghost use Rattle.display_map.specs.Replay.{History};
 
     ghost Value = { History };
 
-    ghost use Rattle.std.specs.Arc.{arc_value};
     ghost use Rattle.display_map.specs.Displays.{KeepsShortDisplay};
 
-    ghost view = { λ d. record { opening = arc_value d.opening; events = d.journal } };
+    ghost view = { λ d. record { opening = (S.kept d.opening).text; events = d.journal } };
 
-    ghost invariant = { λ d. KeepsShortDisplay (record { opening = arc_value d.opening; events = d.journal }) d.sheet d.waits.items d.outs.items d.versions d.jobs d.first };
+    ghost invariant = { λ d. KeepsShortDisplay (record { opening = (S.kept d.opening).text; events = d.journal }) (S.kept d.sheet) d.outs.items d.versions d.jobs d.first };
 }
 
-/// A display of a text.
-fn opened(alloc: Global, text: &str) -> Result<Display, NoMemory>
-    requires { length text.now ≤ TEXT_LIMIT }
-    ensures { IfOk result (λ display. display ≡ record { opening = clean text.now; events = [] }) }
+/// A display of a text that was just opened.
+fn begun<S: Sheet>(alloc: Global, opening: S) -> Result<DisplayOn<S>, NoMemory>
+    requires text { IsText (S.kept opening).text }
+    requires short { length (S.kept opening).text ≤ TEXT_LIMIT }
+    requires opened { S.kept opening ≡ unstamped (opened (S.kept opening).text) }
+    ensures display { IfOk result (λ display.
+        display ≡ record { opening = (S.kept opening).text; events = [] }) }
 {
-    let opening = Arc::new(alloc, Buffer::new(alloc, cleaned(alloc, text)?)?)?;
-    let sheet = Sheet::opened(alloc, Arc::try_clone(&opening)?)?;
-    let work = work::finished(alloc, sheet, Vec::new(alloc))?;
-    Ok(Display {
+    let sheet = opening.share()?;
+    Ok(DisplayOn {
         opening,
         journal: Journal::none(alloc),
-        sheet: work.sheet,
-        waits: work.waits,
-        outs: work.outs,
+        sheet,
+        outs: Vec::new(alloc),
         versions: 0,
         jobs: 0,
         first: 0,
     })
 }
 
-impl Display {
+impl<S: Sheet> DisplayOn<S> {
     /// A display of the bytes, in which each CR LF and then each lone CR is a LF, with an empty journal.
-    pub fn start(alloc: Global, bytes: &[u8], steps: &mut Steps) -> Result<Display, TextFault>
+    pub fn start(alloc: Global, bytes: &[u8], steps: &mut Steps) -> Result<DisplayOn<S>, TextFault>
         ensures started { MatchResult result
             (λ display. display ≡ record { opening = clean bytes.now; events = [] })
             (IsTextRefused bytes.now) }
         ensures accepted { OnOk result (IsAccepted bytes.now) }
         ensures counted { steps.old ≤ steps.new }
     {
-        Ok(opened(alloc, read_text(bytes)?)?)
+        let opening = S::opened(alloc, bytes, steps)?;
+        Ok(begun(alloc, opening)?)
     }
 
     /// How many events the journal may still take.
@@ -105,7 +122,7 @@ impl Display {
     }
 
     /// Publishes the display as it is.
-    pub fn publish(&mut self, alloc: Global, last: bool) -> Result<Version, NoMemory>
+    pub fn publish(&mut self, alloc: Global, last: bool) -> Result<VersionOn<S>, NoMemory>
         requires room { length self.old.events + 1 ≤ event_limit }
         ensures published { OnOk result (self.new ≡ appended self.old (Published last ∷ [])) }
         ensures version { IfOk result (λ version. version ≡ self.new) }
@@ -116,7 +133,7 @@ impl Display {
         self.journal.push(alloc, Event::Published { last })?;
         self.versions += 1;
         match self.view() {
-            Ok(view) => Ok(Version { view, number, last }),
+            Ok(view) => Ok(VersionOn { view, number, last }),
             Err(error) => {
                 self.journal.truncate(events);
                 self.versions = number;
@@ -131,13 +148,15 @@ impl Display {
         &mut self,
         alloc: Global,
         steps: &mut Steps,
-    ) -> Result<Option<Job<Held>>, NoMemory>
+    ) -> Result<Option<Job<S::Held>>, NoMemory>
         requires room { length self.old.events + 1 ≤ event_limit }
-        ensures taken { IfOk result (λ job. IsRunTaken self.old self.new job) }
+        ensures taken { IfOk result (λ job.
+            IsRunTakenOn S.Held.elements_by_line self.old self.new job) }
         ensures unchanged { OnErr result (self.new ≡ self.old) }
         ensures counted { steps.old ≤ steps.new }
     {
-        let Some(run) = flags::next_run(&self.waits, self.first) else {
+        let next = outs::next_run(alloc, &self.sheet, &self.outs, self.first, steps)?;
+        let Some(run) = next else {
             return Ok(None);
         };
         let lines = self.sheet.held()?;
@@ -155,9 +174,8 @@ impl Display {
             self.journal.truncate(events);
             return Err(error.into());
         }
-        flags::stop_waiting(&mut self.waits, run);
         self.jobs += 1;
-        self.first = run.first as usize + run.count as usize;
+        self.first = run.first + run.count;
         Ok(Some(held::job(number, lines, run, width)))
     }
 
@@ -166,11 +184,11 @@ impl Display {
     pub fn land(
         &mut self,
         alloc: Global,
-        done: Done<Held>,
+        done: Done<S::Held>,
         steps: &mut Steps,
-    ) -> Result<(), Done<Held>>
+    ) -> Result<(), Done<S::Held>>
         requires room { length self.old.events + 1 ≤ event_limit }
-        requires sent { IsOutstanding self.old done.job }
+        requires sent { IsOutstanding self.old (seen_job S.Held.elements_by_line done.job) }
         // What is there after it.
         ensures landed { OnOk result (self.new ≡ appended self.old (Landed done.job.number ∷ [])) }
         // What want of memory leaves.
@@ -181,22 +199,32 @@ impl Display {
     {
         let job = done.job();
         let number = job.number();
-        // The run lies in the job's lines.
-        let _ = job.run();
-        let events = self.journal.len();
+        let run = job.run();
+        let old = job.lines();
+        let wraps = done.wraps();
+        let landed = work::landed(
+            alloc,
+            &self.sheet,
+            &self.outs,
+            number,
+            old,
+            run,
+            wraps,
+            steps,
+        );
+        let Ok(landed) = landed else {
+            return Err(done);
+        };
         if let Err(_) = self.journal.push(alloc, Event::Landed { job: number }) {
             return Err(done);
         }
-        if let Err(_) = work::land(alloc, &mut self.sheet, &self.outs, number, done.wraps()) {
-            self.journal.truncate(events);
-            return Err(done);
-        }
+        self.sheet = landed;
         outs::remove(&mut self.outs, number);
         Ok(())
     }
 
     /// Does a batch of replacements.
-    fn edit(&mut self, alloc: Global, splices: &[Splice]) -> Result<(), Fault>
+    fn edit(&mut self, alloc: Global, splices: &[Splice], steps: &mut Steps) -> Result<(), Fault>
         // The journal has room for an event of each operation.
         requires room { length self.old.events + length (batch splices.now) ≤ event_limit }
 
@@ -208,25 +236,26 @@ impl Display {
         ensures refused { IfErr result
             (IsRefusedAs (edit_refusal (present_of self.old) splices.now)) }
         ensures unchanged { OnErr result (self.new ≡ self.old) }
+
+        // The work.
+        ensures counted { steps.old ≤ steps.new }
     {
-        let text = self.sheet.text().as_str();
-        if !splicing::are_ranges(text, splices) {
+        if !splicing::are_ranges(&self.sheet, splices, steps) {
             return Err(Fault::Refused(Refusal::BadRange));
         }
-        if splicing::spliced_text(alloc, text, splices)?.len() > TEXT_LIMIT {
+        if splicing::is_too_long(alloc, &self.sheet, splices)? {
             return Err(Fault::Refused(Refusal::TooLong));
         }
-        let work = work::batch(alloc, &self.sheet, &self.outs, splices)?;
+        let work = work::batch(alloc, &self.sheet, &self.outs, splices, steps)?;
         splicing::push_batch(alloc, &mut self.journal, splices)?;
         self.sheet = work.sheet;
-        self.waits = work.waits;
         self.outs = work.outs;
         self.first = 0;
         Ok(())
     }
 
     /// Does an operation that isn't a replacement.
-    fn operate(&mut self, alloc: Global, op: &Op) -> Result<(), Fault>
+    fn operate(&mut self, alloc: Global, op: &Op, steps: &mut Steps) -> Result<(), Fault>
         // `edit` does the replacements. The journal has room for one event.
         requires other { is_replacement op.now ≡ false }
         requires room { length self.old.events + 1 ≤ event_limit }
@@ -240,12 +269,14 @@ impl Display {
         ensures refused { IfErr result
             (IsRefusedAs (operation_refusal (present_of self.old) (operation_of op.now))) }
         ensures unchanged { OnErr result (self.new ≡ self.old) }
+
+        // The work.
+        ensures counted { steps.old ≤ steps.new }
     {
-        let work = work::one(alloc, &self.sheet, &self.outs, op)?;
+        let work = work::one(alloc, &self.sheet, &self.outs, op, steps)?;
         let op = op.copy(alloc)?;
         self.journal.push(alloc, Event::Did { op })?;
         self.sheet = work.sheet;
-        self.waits = work.waits;
         self.outs = work.outs;
         self.first = 0;
         Ok(())
@@ -275,9 +306,9 @@ impl Display {
         ensures counted { steps.old ≤ steps.new }
     {
         match change {
-            Change::Edit(splices) => self.edit(alloc, splices),
-            Change::One(Op::Replace(splice)) => self.edit(alloc, slice::from_ref(splice)),
-            Change::One(op) => self.operate(alloc, op),
+            Change::Edit(splices) => self.edit(alloc, splices, steps),
+            Change::One(Op::Replace(splice)) => self.edit(alloc, slice::from_ref(splice), steps),
+            Change::One(op) => self.operate(alloc, op, steps),
         }
     }
 
@@ -285,25 +316,41 @@ impl Display {
     pub fn settled(&self) -> bool
         ensures { result ≡ is_settled (present_of self.now) }
     {
-        flags::all_at(self.sheet.wraps(), self.sheet.width())
+        self.sheet.is_settled()
     }
 
     /// The display as it is now. It takes no memory: `NoMemory` is one holder too many of what is shared.
-    pub fn view(&self) -> Result<View, NoMemory>
+    pub fn view(&self) -> Result<ViewOn<S>, NoMemory>
         ensures { IfOk result (λ view. view ≡ self.now) }
     {
-        Ok(View {
-            opening: Arc::try_clone(&self.opening)?,
+        Ok(ViewOn {
+            opening: self.opening.share()?,
             journal: self.journal.share()?,
             sheet: self.sheet.share()?,
             versions: self.versions,
         })
     }
 
+    /// Its history is lawful, so the laws of histories, of records and of what they show hold of it. It does nothing.
+    pub fn lawful(&self)
+        ensures { IsLawfulHistory self.now }
+    {
+        let _ = &self.versions;
+    }
+
     /// The journal alone. It takes no memory.
     pub fn into_journal(self) -> Journal
         ensures { result ≡ self.events }
     {
-        self.journal
+        let DisplayOn {
+            opening: _,
+            journal,
+            sheet: _,
+            outs: _,
+            versions: _,
+            jobs: _,
+            first: _,
+        } = self;
+        journal
     }
 }

@@ -2,13 +2,12 @@
 ghost use Rattle.std.specs.Prelude.{◌≡◌};
 ghost use Rattle.wrap_workers.specs.Jobs.{IsLawful};
 
-use cell_line::Run;
-use display_sheet::Held;
+use cell_line::{Lines, Run};
 use wrap_workers::Job;
 
 /// A job on these lines.
-pub(crate) fn job(number: u64, lines: Held, run: Run, width: u32) -> Job<Held>
-    requires { IsLawful lines run width }
+pub(crate) fn job<N: Lines>(number: u64, lines: N, run: Run, width: u32) -> Job<N>
+    requires { IsLawful (N.elements_by_line lines) run width }
     ensures { result ≡ record { number = number; lines = lines; run = run; width = width } }
 {
     Job::new(number, lines, run, width)

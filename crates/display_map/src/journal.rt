@@ -96,11 +96,17 @@ impl Chunk {
 }
 
 /// The events of a display, in order. It is seen as the list of what they tell.
-#[derive(Debug, Drop)]
+#[derive(Debug)]
 pub struct Journal {
     // Shared with other journals, which may end earlier: the events from `len` on are none of this one's.
     chunks: Option<Arc<Vec<Chunk>>>,
     len: u32,
+}
+
+impl Drop for Journal {
+    fn drop(self) {
+        let Journal { chunks: _, len: _ } = self;
+    }
 }
 
 impl Model for Journal {

@@ -2,20 +2,17 @@
 ghost use Rattle.std.specs.Prelude.{◌≡◌, ◌≤◌, ℕ, List, [], ◌∷◌, ◌++◌, None, false, codes, length, map, take};
 ghost use Rattle.std.specs.List.{range_with_len};
 ghost use Rattle.cell_units.specs.Record.{Record};
-ghost use Rattle.cell_units.specs.Operation.{Operation, Replace, operated};
-ghost use Rattle.cell_units.specs.Touched.{Rows, row_range, touched};
+ghost use Rattle.cell_units.specs.Operation.{Operation, Replace};
 ghost use Rattle.cell_units.specs.Text.{IsText};
 ghost use Rattle.cell_units.specs.Lawful.{IsAllowed, IsLawful};
 ghost use Rattle.cell_line.specs.declared.element.Element.{Element};
 ghost use Rattle.wrap_workers.specs.Jobs.{JobParts};
-ghost use Rattle.display_sheet.specs.declared.change.Splice.{Splice};
 ghost use Rattle.display_map.specs.Events.{Event, Did};
-ghost use Rattle.display_sheet.specs.Changes.{batch, edit_refusal};
-ghost use Rattle.display_sheet.specs.LineStep.{GivesFreshMarks, KeepsMarks, SplicesMarks, line_step};
+ghost use Rattle.display_sheet.specs.Changes.{ChangeParts, operation_refusal, operations_in, refusal_of};
 ghost use Rattle.display_map.specs.Replay.{History, State, appended, begun, replayed, state_of};
 ghost use Rattle.display_map.specs.Identity.{HaveSameLines, stamps_in};
 ghost use Rattle.display_map.specs.LinePatches.{CameByStamp, IsPatchOver};
-ghost use Rattle.display_map.specs.LawfulStates.{EventsFit, InsertUtf8};
+ghost use Rattle.display_map.specs.LawfulStates.{ChangeInsertsUtf8, EventsFit, InsertsUtf8};
 ghost use Rattle.display_map.specs.Sending.{GivesCuts, IsOutstanding, IsSent, is_landing};
 ghost use Rattle.edit_patch.specs.declared.edit.Edit.{Edit};
 ghost use Rattle.edit_patch.specs.Came.{edit_of};
@@ -44,15 +41,20 @@ pub fn stamp_laws()
         HaveSameLines (replayed (begun text) (take m events)).present (replayed (begun text) (take n events)).present }
 {}
 
-/// Each record that a journal of allowed operations leads to is lawful, and the operations of an edit that isn't refused are
-/// allowed, each in the record that it finds. It does nothing.
+/// Which operations are allowed, and what records they lead to. It does nothing.
+///
+/// Each record that a journal of allowed operations leads to is lawful. An operation that isn't refused is allowed, and so are
+/// the operations of a change that isn't, each in the record that it finds.
 pub fn replay_laws()
     ensures lawful { (text : List ℕ) (events : List Event) →
         IsText text → EventsFit (begun text) events →
         IsLawful (replayed (begun text) events).present }
-    ensures accepted { (s : State) (splices : List Splice) →
-        IsText s.present.text → InsertUtf8 splices → edit_refusal s.present splices ≡ None →
-        EventsFit s (map Did (batch splices)) }
+    ensures allowed { (r : Record) (operation : Operation) →
+        IsText r.text → InsertsUtf8 operation → operation_refusal r operation ≡ None →
+        IsAllowed operation r }
+    ensures accepted { (s : State) (change : ChangeParts) →
+        IsText s.present.text → ChangeInsertsUtf8 change → refusal_of s.present change ≡ None →
+        EventsFit s (map Did (operations_in change)) }
 {}
 
 /// The line patches between the records of one journal. It does nothing.

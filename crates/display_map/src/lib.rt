@@ -6,7 +6,6 @@
 
 pub mod display;
 pub mod event;
-mod flags;
 mod held;
 pub mod journal;
 pub mod laws;
@@ -16,12 +15,12 @@ pub mod version;
 pub mod view;
 mod work;
 
-pub use display::Display;
+pub use display::{Display, DisplayOn};
 pub use display_sheet::{Change, Held, Kind, MarkRun, Op, Shown, Splice, step_laws};
 pub use event::Event;
 pub use journal::Journal;
 pub use laws::{
     job_laws, landing_laws, line_patch_laws, replay_laws, stamp_laws, worked_line_patches,
 };
-pub use version::Version;
-pub use view::View;
+pub use version::{Version, VersionOn};
+pub use view::{View, ViewOn};

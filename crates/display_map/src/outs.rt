@@ -1,11 +1,16 @@
 //! Jobs that are out, and where their lines stand now.
-ghost use Rattle.std.specs.Prelude.{◌≡◌, length, ◌+◌, ◌-◌, ◌==◌, ◌^◌, ◌<◌, ◌≤◌, ◌∷◌, [], not, All, map, filter, find, IfOk};
+ghost use Rattle.std.specs.Prelude.{◌≡◌, ℕ, ◌++◌, length, ◌+◌, ◌-◌, ◌==◌, ◌^◌, ◌<◌, ◌≤◌, ◌∷◌, [], not, All, map, filter, find, IfOk, OnOk};
 ghost use Rattle.std.specs.Option.{option_copied};
-ghost use Rattle.display_map.specs.Outs.{AreBelow, carried, carried_out, lowered, lowered_by, some_places};
-ghost use Rattle.display_sheet.specs.Sheets.{marks_in};
+ghost use Rattle.cell_line.specs.Waiting.{AreApart};
+ghost use Rattle.display_map.specs.Displays.{IsNextRun, NoneWaits};
+ghost use Rattle.kept_sheet.specs.Kept.{IsRising, standing};
+ghost use Rattle.display_map.specs.OutRuns.{any_has, is_in, lines_out};
+ghost use Rattle.display_map.specs.Outs.{AreBelow, carried, carried_out, some_places, waiting_in};
 
-use cell_units::NoMemory;
-use display_sheet::{LineSplice, Wraps};
+use cell_line::Run;
+use cell_units::{NoMemory, Steps};
+use display_sheet::LineSplice;
+use kept_sheet::Sheet;
 use std::alloc::Global;
 use std::marker::Model;
 
@@ -163,38 +168,96 @@ pub(crate) fn copied(alloc: Global, outs: &[Out]) -> Result<Vec<Out>, NoMemory>
     Ok(copy)
 }
 
-/// Which lines stand at another width.
-pub(crate) fn off_width(alloc: Global, wraps: &Wraps, width: u32) -> Result<Vec<bool>, NoMemory>
-    ensures { IfOk result (λ flags.
-        flags.items ≡ map (λ w. not (w == width)) (marks_in wraps.now)) }
+/// Appends the lines at places, where they are still there.
+fn push_lines(lines: &mut Vec<u32>, places: &[Option<u32>]) -> Result<(), NoMemory>
+    ensures { OnOk result (lines.new.items ≡ lines.old.items ++ standing places.now) }
 {
-    let mut flags = Vec::with_capacity(alloc, wraps.len() as usize)?;
-    for line in 0..wraps.len() {
-        flags.push(wraps.get(line).mark != width)?;
-    }
-    Ok(flags)
-}
-
-/// Takes the flags of lines down.
-fn lower_lines(flags: &mut [bool], lines: &[Option<u32>])
-    requires { AreBelow (length flags.old) lines.now }
-    ensures { flags.new ≡ lowered lines.now flags.old }
-{
-    for i in 0..lines.len() {
-        if let Some(line) = lines[i] {
-            flags[line as usize] = false;
+    for i in 0..places.len() {
+        if let Some(line) = places[i] {
+            lines.push(line)?;
         }
     }
+    Ok(())
 }
 
-/// Takes the flags of the lines of all jobs of a width down.
-pub(crate) fn lower(flags: &mut [bool], outs: &[Out], width: u32)
-    requires { All (λ out. AreBelow (length flags.old) out.lines) outs.now }
-    ensures { flags.new ≡ lowered_by width outs.now flags.old }
+/// The lines of the jobs of a width.
+fn lines_out(alloc: Global, outs: &[Out], width: u32) -> Result<Vec<u32>, NoMemory>
+    ensures { IfOk result (λ lines. lines.items ≡ lines_out width outs.now) }
 {
+    let mut lines = Vec::new(alloc);
     for out in outs {
         if out.width == width {
-            lower_lines(flags, &out.lines);
+            push_lines(&mut lines, &out.lines)?;
         }
     }
+    Ok(lines)
+}
+
+/// Puts lines in order, each once.
+fn put_in_order(lines: &mut Vec<u32>)
+    ensures rising { IsRising 0 lines.new.items }
+    ensures same { (line : ℕ) → is_in line lines.new.items ≡ is_in line lines.old.items }
+    ensures within { (n : ℕ) → All (λ a. a < n) lines.old.items →
+        All (λ a. a < n) lines.new.items }
+{
+    lines.sort_unstable();
+    lines.dedup();
+}
+
+/// Lines in order as runs.
+fn joined(alloc: Global, lines: &[u32]) -> Result<Vec<Run>, NoMemory>
+    requires rising { IsRising 0 lines.now }
+    requires small { All (λ a. a < 2 ^ 32 - 1) lines.now }
+    ensures apart { IfOk result (λ runs. AreApart runs.items) }
+    ensures same { IfOk result (λ runs. (line : ℕ) →
+        any_has line runs.items ≡ is_in line lines.now) }
+{
+    let mut runs = Vec::new(alloc);
+    let mut run = Run { first: 0, count: 0 };
+    for i in 0..lines.len() {
+        let line = lines[i];
+        if line == run.first + run.count {
+            run.count += 1;
+        } else {
+            runs.push(run)?;
+            run = Run {
+                first: line,
+                count: 1,
+            };
+        }
+    }
+    runs.push(run)?;
+    Ok(runs)
+}
+
+/// The runs of the lines of the jobs of a width. There are `total` display lines.
+fn runs_out(alloc: Global, outs: &[Out], width: u32, total: u32) -> Result<Vec<Run>, NoMemory>
+    requires { All (λ out. AreBelow total out.lines) outs.now }
+    ensures apart { IfOk result (λ runs. AreApart runs.items) }
+    ensures same { IfOk result (λ runs. (line : ℕ) →
+        any_has line runs.items ≡ is_in line (lines_out width outs.now)) }
+{
+    let mut lines = lines_out(alloc, outs, width)?;
+    put_in_order(&mut lines);
+    Ok(joined(alloc, lines.as_slice())?)
+}
+
+/// The first line that waits with the waiting lines after it, at most 128; `None` where none waits. None of the first
+/// `from` does.
+pub(crate) fn next_run<S: Sheet>(
+    alloc: Global,
+    sheet: &S,
+    outs: &[Out],
+    from: u32,
+    steps: &mut Steps,
+) -> Result<Option<Run>, NoMemory>
+    // The lines of every job lie within the sheet's, and a search may start at `from`.
+    requires below { All (λ out. AreBelow (length (S.kept sheet.now).marks) out.lines) outs.now }
+    requires none { NoneWaits (waiting_in (S.kept sheet.now) outs.now) from }
+
+    ensures next { IfOk result (IsNextRun (waiting_in (S.kept sheet.now) outs.now)) }
+    ensures counted { steps.old ≤ steps.new }
+{
+    let runs = runs_out(alloc, outs, sheet.width(), sheet.lines())?;
+    Ok(sheet.next_run(from, runs.as_slice(), steps))
 }

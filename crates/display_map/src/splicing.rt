@@ -1,14 +1,17 @@
-//! A batch of replacements, in one pass over the text before it.
-ghost use Rattle.std.specs.Prelude.{◌≡◌, ◌+◌, ◌^◌, ◌<◌, ◌++◌, true, length, take, string_bytes, IfOk, OnOk, OnErr};
+//! A batch of replacements, judged in one pass.
+ghost use Rattle.std.specs.Prelude.{◌≡◌, ◌+◌, ◌^◌, ◌<◌, ◌≤◌, ◌++◌, nat_lt, true, length, take, IfOk, OnOk, OnErr};
 ghost use Rattle.std.specs.Str.{IsUtf8};
-ghost use Rattle.cell_units.specs.Text.{is_boundary};
+ghost use Rattle.cell_units.specs.declared.limits.TheConstants.{TEXT_LIMIT};
+ghost use Rattle.cell_units.specs.Text.{clean};
 ghost use Rattle.display_sheet.specs.Changes.{are_ranges, batch, is_operation};
 ghost use Rattle.display_map.specs.Splicing.{did_events, is_range, spliced_text};
 
 use crate::event::Event;
 use crate::journal::Journal;
-use cell_units::{NoMemory, push_clean};
+use cell_units::limits::TEXT_LIMIT;
+use cell_units::{NoMemory, Steps, cleaned};
 use display_sheet::{Op, Splice};
+use kept_sheet::Sheet;
 use std::alloc::Global;
 
 /// Whether a splice is an operation: it doesn't replace nothing by nothing.
@@ -20,30 +23,25 @@ pub(crate) fn is_operation(splice: &Splice) -> bool
     !(splice.start == splice.end && inserted == 0)
 }
 
-/// Whether an offset is a boundary of the text.
-fn is_boundary(text: &str, offset: u32) -> bool
-    ensures { result ≡ is_boundary text.now offset }
-{
-    text.is_char_boundary(offset as usize)
-}
-
 /// Whether a range lies between boundaries of the text, not before an offset.
-fn is_range(text: &str, from: u32, splice: &Splice) -> bool
-    ensures { result ≡ is_range text.now from splice.now }
+fn is_range<S: Sheet>(sheet: &S, from: u32, splice: &Splice, steps: &mut Steps) -> bool
+    ensures test { result ≡ is_range (S.kept sheet.now).text from splice.now }
+    ensures counted { steps.old ≤ steps.new }
 {
     from <= splice.start
         && splice.start <= splice.end
-        && is_boundary(text, splice.start)
-        && is_boundary(text, splice.end)
+        && sheet.is_boundary(splice.start, steps)
+        && sheet.is_boundary(splice.end, steps)
 }
 
 /// Whether the ranges lie in the text between boundaries, in order and disjoint.
-pub(crate) fn are_ranges(text: &str, splices: &[Splice]) -> bool
-    ensures { result ≡ are_ranges text.now 0 splices.now }
+pub(crate) fn are_ranges<S: Sheet>(sheet: &S, splices: &[Splice], steps: &mut Steps) -> bool
+    ensures test { result ≡ are_ranges (S.kept sheet.now).text 0 splices.now }
+    ensures counted { steps.old ≤ steps.new }
 {
     let mut from = 0;
     for splice in splices {
-        if !is_range(text, from, splice) {
+        if !is_range(sheet, from, splice, steps) {
             return false;
         }
         from = splice.end;
@@ -51,24 +49,34 @@ pub(crate) fn are_ranges(text: &str, splices: &[Splice]) -> bool
     true
 }
 
-/// The text with all splices done.
-pub(crate) fn spliced_text(
-    alloc: Global,
-    text: &str,
-    splices: &[Splice],
-) -> Result<String, NoMemory>
-    requires { are_ranges text.now 0 splices.now ≡ true }
-    ensures { IfOk result (λ spliced. string_bytes spliced ≡ spliced_text text.now 0 splices.now) }
+/// How many bytes a replacement puts in.
+fn put_len(alloc: Global, splice: &Splice) -> Result<u64, NoMemory>
+    ensures length { IfOk result (λ len. len ≡ length (clean splice.now.text)) }
+    ensures small { IfOk result (λ len. len < 2 ^ 63) }
 {
-    let mut spliced = String::new(alloc);
+    Ok(cleaned(alloc, splice.text.as_str())?.len() as u64)
+}
+
+/// Whether the text with all splices done would be longer than a text may be. It is told by lengths alone.
+pub(crate) fn is_too_long<S: Sheet>(
+    alloc: Global,
+    sheet: &S,
+    splices: &[Splice],
+) -> Result<bool, NoMemory>
+    requires { are_ranges (S.kept sheet.now).text 0 splices.now ≡ true }
+    ensures { IfOk result (λ long. long
+        ≡ nat_lt TEXT_LIMIT (length (spliced_text (S.kept sheet.now).text 0 splices.now))) }
+{
+    let mut len = 0u64;
     let mut from = 0;
     for splice in splices {
-        spliced.push_str(&text[from..splice.start as usize])?;
-        push_clean(&mut spliced, splice.text.as_str())?;
-        from = splice.end as usize;
+        len += u64::from(splice.start - from) + put_len(alloc, splice)?;
+        if len > TEXT_LIMIT as u64 {
+            return Ok(true);
+        }
+        from = splice.end;
     }
-    spliced.push_str(&text[from..])?;
-    Ok(spliced)
+    Ok(len + u64::from(sheet.text_len() - from) > TEXT_LIMIT as u64)
 }
 
 /// Appends the events of a batch: from the last splice to the first, without those that are no operation.

@@ -1,19 +1,33 @@
 //! Versions: views that were published.
 ghost use Rattle.std.specs.Prelude.{◌≡◌, ◌+◌};
+ghost use Rattle.display_map.specs.LawfulStates.{IsLawfulHistory};
 ghost use Rattle.display_map.specs.Replay.{versions_of, ends};
 
-use crate::view::View;
+use crate::view::ViewOn;
+use kept_sheet::{PlainSheet, Sheet};
 use std::marker::Model;
 
 /// A published view, whose history ends with its own publishing. It is seen as that history.
-#[derive(Drop)]
-pub struct Version {
-    pub(crate) view: View,
+pub struct VersionOn<S: Sheet> {
+    pub(crate) view: ViewOn<S>,
     pub(crate) number: u32,
     pub(crate) last: bool,
 }
 
-impl Model for Version {
+impl<S: Sheet> Drop for VersionOn<S> {
+    fn drop(self) {
+        let VersionOn {
+            view: _,
+            number: _,
+            last: _,
+        } = self;
+    }
+}
+
+/// The version of the product.
+pub type Version = VersionOn<PlainSheet>;
+
+impl<S: Sheet> Model for VersionOn<S> {
     ghost use Rattle.display_map.specs.Replay.{History};
 
     ghost Value = { History };
@@ -26,7 +40,7 @@ impl Model for Version {
     ghost invariant = { λ v. (v.number + 1 ≡ versions_of v.view.events) × (v.last ≡ ends v.view.events) };
 }
 
-impl Version {
+impl<S: Sheet> VersionOn<S> {
     /// How many versions were published before this one.
     pub fn number(&self) -> u64
         ensures { result + 1 ≡ versions_of self.now.events }
@@ -35,10 +49,17 @@ impl Version {
     }
 
     /// What was published.
-    pub fn view(&self) -> &View
+    pub fn view(&self) -> &ViewOn<S>
         ensures { result.now ≡ self.now }
     {
         &self.view
+    }
+
+    /// Its history is lawful, so the laws of histories, of records and of what they show hold of it. It does nothing.
+    pub fn lawful(&self)
+        ensures { IsLawfulHistory self.now }
+    {
+        self.view.lawful();
     }
 
     /// Whether it is the last version of its display.

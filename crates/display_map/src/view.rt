@@ -1,46 +1,63 @@
 //! Views: what a display showed at one moment.
 ghost use Rattle.std.specs.Prelude.{◌≡◌, ◌≤◌, None, length, take, drop, slice_get, slice_range, IfOk, OnOk, IfErr};
+ghost use Rattle.cell_units.specs.declared.limits.TheConstants.{LAID_LIMIT};
+ghost use Rattle.cell_units.specs.Lawful.{IsLawful};
 ghost use Rattle.cell_units.specs.Points.{offset_at};
 ghost use Rattle.cell_units.specs.Text.{IsBoundary};
 ghost use Rattle.plain_rows.specs.Plain.{record_of};
 ghost use Rattle.plain_rows.specs.Rows.{rows_of};
 ghost use Rattle.plain_rows.specs.Spots.{back, clip, show};
 ghost use Rattle.display_sheet.specs.Faults.{IsRefusedAs};
-ghost use Rattle.display_sheet.specs.Shown.{mark_runs, show_refusal, shown_row, shown_rows, unstamped};
+ghost use Rattle.display_sheet.specs.Shown.{mark_runs, show_refusal, unstamped};
+ghost use Rattle.plain_rows.specs.ShownRows.{shown_row, shown_rows};
+ghost use Rattle.display_map.specs.LawfulStates.{IsLawfulHistory};
 ghost use Rattle.display_map.specs.Replay.{present_of, versions_of};
 
 use crate::journal::Journal;
 use cell_units::{Bias, Fault, NoMemory, Point, Refusal, Spot, Steps, Text};
-use display_sheet::{Buffer, MarkRun, Sheet, Shown};
+use display_sheet::{MarkRun, Shown};
+use kept_sheet::{PlainSheet, Sheet};
 use plain_rows::Plain;
 use std::alloc::Global;
 use std::marker::Model;
-use std::sync::Arc;
 
 /// The display of one moment, which no later change reaches. It is seen as its history.
-#[derive(Drop)]
-pub struct View {
-    pub(crate) opening: Arc<Buffer>,
+pub struct ViewOn<S: Sheet> {
+    /// The display as it was opened.
+    pub(crate) opening: S,
     pub(crate) journal: Journal,
-    pub(crate) sheet: Sheet,
+    pub(crate) sheet: S,
     /// How many versions were published.
     pub(crate) versions: u32,
 }
 
-impl Model for View {
+impl<S: Sheet> Drop for ViewOn<S> {
+    fn drop(self) {
+        let ViewOn {
+            opening: _,
+            journal: _,
+            sheet: _,
+            versions: _,
+        } = self;
+    }
+}
+
+/// The view of the product.
+pub type View = ViewOn<PlainSheet>;
+
+impl<S: Sheet> Model for ViewOn<S> {
     ghost use Rattle.display_map.specs.Replay.{History};
 
     ghost Value = { History };
 
-    ghost use Rattle.std.specs.Arc.{arc_value};
     ghost use Rattle.display_map.specs.Displays.{KeepsView};
 
-    ghost view = { λ v. record { opening = arc_value v.opening; events = v.journal } };
+    ghost view = { λ v. record { opening = (S.kept v.opening).text; events = v.journal } };
 
-    ghost invariant = { λ v. KeepsView (record { opening = arc_value v.opening; events = v.journal }) v.sheet v.versions };
+    ghost invariant = { λ v. KeepsView (record { opening = (S.kept v.opening).text; events = v.journal }) (S.kept v.sheet) v.versions };
 }
 
-impl View {
+impl<S: Sheet> ViewOn<S> {
     /// How many rows there are.
     pub fn row_count(&self) -> u32
         ensures { result ≡ length (rows_of (present_of self.now)) }
@@ -54,7 +71,7 @@ impl View {
             shown_row shown ≡ slice_get (rows_of (present_of self.now)) row) }
         ensures counted { steps.old ≤ steps.new }
     {
-        self.sheet.row(alloc, row)
+        self.sheet.row(alloc, row, steps)
     }
 
     /// The rows from number `first` on, as many as there are up to `count`.
@@ -69,7 +86,7 @@ impl View {
             shown_rows shown.items ≡ take count (drop first (rows_of (present_of self.now)))) }
         ensures counted { steps.old ≤ steps.new }
     {
-        self.sheet.rows(alloc, first, count)
+        self.sheet.rows(alloc, first, count, steps)
     }
 
     /// Where an offset of the text is shown. `BadRange` where it is past the end or within a character.
@@ -85,11 +102,10 @@ impl View {
         ensures refused { IfErr result (IsRefusedAs (show_refusal (present_of self.now) offset)) }
         ensures counted { steps.old ≤ steps.new }
     {
-        self.sheet.lawful();
-        if !self.sheet.text().is_boundary(offset) {
+        if !self.sheet.is_boundary(offset, steps) {
             return Err(Fault::Refused(Refusal::BadRange));
         }
-        Ok(self.sheet.show(alloc, offset, bias)?)
+        Ok(self.sheet.show(alloc, offset, bias, steps)?)
     }
 
     /// The nearest spot at which some offset is shown.
@@ -103,7 +119,7 @@ impl View {
         ensures nearest { IfOk result (λ nearest. nearest ≡ clip (present_of self.now) spot bias) }
         ensures counted { steps.old ≤ steps.new }
     {
-        self.sheet.clip(alloc, spot, bias)
+        self.sheet.clip(alloc, spot, bias, steps)
     }
 
     /// The least offset (Left) or the greatest (Right) that is shown at the nearest such spot.
@@ -117,7 +133,7 @@ impl View {
         ensures offset { IfOk result (λ offset. offset ≡ back (present_of self.now) spot bias) }
         ensures counted { steps.old ≤ steps.new }
     {
-        self.sheet.back(alloc, spot, bias)
+        self.sheet.back(alloc, spot, bias, steps)
     }
 
     /// The lines that stand wrapped: maximal runs of neighbours at one width.
@@ -125,7 +141,14 @@ impl View {
         ensures runs { IfOk result (λ runs. runs.items ≡ mark_runs (present_of self.now)) }
         ensures counted { steps.old ≤ steps.new }
     {
-        self.sheet.marks(alloc)
+        self.sheet.marks(alloc, steps)
+    }
+
+    /// Its history is lawful, so the laws of histories, of records and of what they show hold of it. It does nothing.
+    pub fn lawful(&self)
+        ensures { IsLawfulHistory self.now }
+    {
+        let _ = &self.versions;
     }
 
     /// How many versions were published up to this view.
@@ -138,9 +161,15 @@ impl View {
     /// The record as plain lists.
     pub fn plain(&self, alloc: Global, steps: &mut Steps) -> Result<Plain, NoMemory>
         ensures same { IfOk result (λ plain. record_of plain ≡ unstamped (present_of self.now)) }
+
+        // What the plain functions ask of a record.
+        ensures lawful { IfOk result (λ plain. IsLawful (record_of plain)) }
+        ensures size { IfOk result (λ plain. length plain.text ≤ LAID_LIMIT) }
+
+        // The work.
         ensures counted { steps.old ≤ steps.new }
     {
-        self.sheet.plain(alloc)
+        self.sheet.plain(alloc, steps)
     }
 
     /// The offset of a row and a column of the text. Past the last row it is the text's end, and past a row's end that end;
@@ -149,7 +178,7 @@ impl View {
         ensures value { result ≡ offset_at (present_of self.now).text point bias }
         ensures counted { steps.old ≤ steps.new }
     {
-        self.sheet.offset_of(point, bias)
+        self.sheet.offset_of(point, bias, steps)
     }
 
     /// The bytes of the text from `start` up to `end`, two boundaries in order.
@@ -171,6 +200,6 @@ impl View {
         // The work.
         ensures counted { steps.old ≤ steps.new }
     {
-        self.sheet.slice(alloc, start, end)
+        self.sheet.slice(alloc, start, end, steps)
     }
 }

@@ -1,8 +1,8 @@
 -- Runs of lines at one width, found from the first line on.
 use Rattle.std.proofs.Common.{◌≡◌, ℕ, ◌+◌, ◌≤◌, ◌==◌, ◌&&◌, Bool, true, false, cond, List, [], ◌∷◌, ◌++◌, refl, sym, ap, ◌∙◌, subst, arith, append_assoc}
 use Rattle.std.proofs.lemmas.Bool.{and_from, and_left, and_right, eq-eqb, eqb-true, ne_eqb, false≢true}
-use Rattle.display_sheet.specs.declared.shown.MarkRun.{MarkRun}
-use Rattle.display_sheet.specs.Shown.{run_before, runs_from}
+use Rattle.cell_line.specs.declared.lines.MarkRun.{MarkRun}
+use Rattle.cell_line.specs.MarkRuns.{run_before, runs_from}
 use Rattle.display_sheet.specs.Windows.{run_or_none}
 
 -- a run before runs: one with the first of them, where that goes on with it

@@ -1,18 +1,23 @@
 -- What is counted of each line of a sheet to look offsets up.
-use Rattle.std.proofs.Common.{◌≡◌, ℕ, ◌+◌, ◌<◌, ◌≤◌, List, [], ◌∷◌, ◌++◌, length, map, get_or, ap, sym, ◌∙◌, arith}
+use Rattle.std.proofs.Common.{◌≡◌, ℕ, ◌+◌, ◌<◌, ◌≤◌, List, [], ◌∷◌, ◌++◌, length, map, get_or, ap, sym, ◌∙◌, subst, arith}
 use Rattle.std.proofs.lemmas.List.{get_or-map, length-map}
-use Rattle.cell_units.specs.Lawful.{IsLawful}
+use Rattle.std.specs.Arc.{arc_value}
+use Rattle.cell_units.specs.Lawful.{IsLawful, source_of}
 use Rattle.cell_units.specs.Record.{Block, Record}
 use Rattle.cell_units.specs.declared.place.Side.TheVariants.{Above, Below}
 use Rattle.plain_rows.specs.declared.plain.PlainBlock.{PlainBlock}
-use Rattle.plain_rows.specs.Plain.{block_of}
-use Rattle.plain_rows.specs.FoldedLines.{LaidOut}
+use Rattle.plain_rows.specs.declared.folded_lines.PlainSource.{PlainSource}
+use Rattle.plain_rows.specs.Plain.{block_of, listed_record}
+use Rattle.plain_rows.specs.FoldedLines.{LaidOut, seen}
 use Rattle.plain_rows.specs.Rows.{blocks_at, line_of_block, rows_by_line}
 use Rattle.plain_rows.specs.inside.BuiltRows.{block_at, no_block}
 use Rattle.plain_rows.proofs.RowsInOrder.{rows_upto}
+use Rattle.plain_rows.specs.inside.SpotRows.{HasFirstRows, IsLaid}
+use Rattle.plain_rows.proofs.SpotShown.{widths-of}
 use Rattle.plain_rows.proofs.SpotSizes.{HasRowsUpto, first-fits, upto-more}
 use Rattle.display_sheet.specs.declared.wraps.Wrapped.{Wrapped}
-use Rattle.display_sheet.specs.Sheets.{IsSheet}
+use Rattle.display_sheet.specs.declared.sheet.Sheet.TheInside.{Inside}
+use Rattle.display_sheet.specs.Sheets.{IsSheet, KeepsSheet, marks_in, record_in}
 use Rattle.display_sheet.specs.Windows.{texts_at}
 use Rattle.display_sheet.proofs.RowTotals.{length-texts}
 
@@ -56,3 +61,24 @@ module _ (r : Record) (wraps : List Wrapped) (laid : LaidOut) (is : IsSheet r wr
       upto-more r is.lawful is.laid_out.lawful.text_size line rows row (row + above) (row + above + texts + below) lt has
       (omega (arith, a))
       (omega (arith, t, b, length-texts r is.lawful line lt))
+
+-- ---- the record of which the display lines are laid out
+
+module _ (v : Inside) (r : Record) (is : record_in v ≡ r) (keeps : KeepsSheet v) where
+  -- it is that of the sheet
+  pub laid-same : (source : PlainSource) (blocks : List PlainBlock) (widths : List ℕ) → seen source ≡ source_of r → blocks ≡ (arc_value v.blocks).items → widths ≡ map (λ m. m.width) r.marks →
+      listed_record (seen source) blocks v.tab v.width widths ≡ r
+  laid-same source blocks widths s b w =
+      let own : seen source ≡ source_of (record_in v) = s ∙ ap source_of (sym is) in
+      let wide : widths ≡ marks_in (arc_value v.wraps) = w ∙ ap (λ (r : Record). map (λ m. m.width) r.marks) (sym is) ∙ widths-of (marks_in (arc_value v.wraps)) in
+      (λ i. listed_record (own i) (b i) v.tab v.width (wide i)) ∙ is
+
+  pub laid-is : (first_rows : List ℕ) → HasFirstRows r first_rows → IsLaid r (arc_value v.lines) first_rows
+  laid-is first_rows has =
+      let sheet = subst (λ (r : Record). IsSheet r (arc_value v.wraps) (arc_value v.lines)) is keeps in
+      record {
+        lawful = sheet.lawful;
+        size = sheet.laid_out.lawful.text_size;
+        lines_are = sheet.laid_out;
+        rows_are = has;
+      }

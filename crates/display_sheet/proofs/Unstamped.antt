@@ -14,7 +14,8 @@ use Rattle.plain_rows.specs.Plain.{marks_of}
 use Rattle.plain_rows.specs.Rows.{Row, blocks_at, line_elements, line_rows, rows_by_line, rows_of, text_rows, with_blocks}
 use Rattle.plain_rows.specs.Spots.{at_or_after, at_or_before, back, clip, elements_at, elements_before, first_by, greatest, is_open, is_spot, least, mark_at, offsets_at, origin, past, positions, show, spot_in_line, valid_spots}
 use Rattle.std.proofs.Common.{nat_le}
-use Rattle.display_sheet.specs.Shown.{mark_runs, runs_from, unstamped}
+use Rattle.display_sheet.specs.Shown.{mark_runs, unstamped}
+use Rattle.cell_line.specs.MarkRuns.{runs_from}
 use Rattle.display_sheet.proofs.Sheets.{widths, widths-marks_of}
 
 zipped-widths : (elements : List (List Element)) (marks : List Mark) → map (λ l. text_rows l.0 l.1.width) (zip elements marks) ≡ map (λ l. text_rows l.0 l.1) (zip elements (widths marks))

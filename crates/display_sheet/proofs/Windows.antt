@@ -7,10 +7,10 @@ use Rattle.std.proofs.lemmas.List.{take-append-drop, take-map, drop-map, length-
 use Rattle.std.proofs.lemmas.List.Concat.{flat_map-append}
 use Rattle.plain_rows.specs.Plain.{row_pairs}
 use Rattle.plain_rows.specs.Rows.{Row, head_and_more, more_row}
-use Rattle.display_sheet.specs.declared.shown.Shown.{Shown}
+use Rattle.plain_rows.specs.declared.shown.Shown.{Shown}
 use Rattle.display_sheet.specs.declared.window.Window.{Window}
 use Rattle.plain_rows.proofs.BuiltRows.{pairs-append}
-use Rattle.display_sheet.specs.Shown.{letter_of, row_of_shown, shown_row, shown_rows}
+use Rattle.plain_rows.specs.ShownRows.{letter_of, row_of_shown, shown_row, shown_rows}
 use Rattle.display_sheet.specs.Windows.{HasPassed, kind_and_more, shown_pairs}
 
 module _ {X : Type 0} where

@@ -5,10 +5,10 @@ use Rattle.cell_units.specs.Record.{Block, Record, plain_mark}
 use Rattle.cell_line.specs.RowTexts.{row_texts_of}
 use Rattle.plain_rows.specs.Plain.{row_pairs}
 use Rattle.plain_rows.specs.Rows.{block_rows, is_on, line_elements, more_kind}
-use Rattle.display_sheet.specs.declared.shown.MarkRun.{MarkRun}
-use Rattle.display_sheet.specs.declared.shown.Shown.{Shown}
+use Rattle.cell_line.specs.declared.lines.MarkRun.{MarkRun}
+use Rattle.plain_rows.specs.declared.shown.Shown.{Shown}
 use Rattle.display_sheet.specs.declared.window.Window.{Window}
-use Rattle.display_sheet.specs.Shown.{shown_rows}
+use Rattle.plain_rows.specs.ShownRows.{shown_rows}
 
 abbrev pub shown_pairs : List Shown → List (ℕ × List ℕ)
 shown_pairs shown = row_pairs (shown_rows shown)

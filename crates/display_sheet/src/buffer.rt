@@ -1,6 +1,6 @@
 //! A text with the places where its lines start.
 ghost use Rattle.std.specs.Prelude.{◌≡◌, ◌<◌, ◌≤◌, [], length, slice_index_or, IfOk, string_bytes};
-ghost use Rattle.plain_rows.specs.declared.limits.TheConstants.{LAID_LIMIT};
+ghost use Rattle.cell_units.specs.declared.limits.TheConstants.{LAID_LIMIT};
 ghost use Rattle.cell_units.specs.Record.{line_count};
 ghost use Rattle.cell_units.specs.Text.{is_boundary, row_end, row_of, row_start};
 ghost use Rattle.cell_units.specs.BufferLines.{buffer_lines, line_end, line_start, line_starts};
@@ -10,14 +10,19 @@ use std::alloc::Global;
 use std::marker::Model;
 
 /// A text of at most 67,108,864 bytes. It is seen as its bytes.
-#[derive(Drop)]
 pub struct Buffer {
     text: String,
     starts: Vec<u32>,
 }
 
+impl Drop for Buffer {
+    fn drop(self) {
+        let Buffer { text: _, starts: _ } = self;
+    }
+}
+
 impl Model for Buffer {
-    ghost use Rattle.plain_rows.specs.declared.limits.TheConstants.{LAID_LIMIT};
+    ghost use Rattle.cell_units.specs.declared.limits.TheConstants.{LAID_LIMIT};
     ghost use Rattle.std.specs.Prelude.{ℕ, List, string_bytes};
 
     ghost Value = { List ℕ };

@@ -14,13 +14,24 @@ use std::marker::Model;
 use std::sync::Arc;
 
 /// The display lines of one moment, shared with the sheet that they come from. They are seen as lists of elements.
-#[derive(Drop)]
 pub struct Held {
     text: Arc<Buffer>,
     inlays: Arc<Vec<PlainInlay>>,
     folds: Arc<Vec<PlainFold>>,
     lines: Arc<FoldedLines>,
     tab: u32,
+}
+
+impl Drop for Held {
+    fn drop(self) {
+        let Held {
+            text: _,
+            inlays: _,
+            folds: _,
+            lines: _,
+            tab: _,
+        } = self;
+    }
 }
 
 impl Model for Held {

@@ -22,15 +22,15 @@ mod piece_line;
 mod points;
 mod reading;
 pub mod sheet;
-pub mod shown;
 mod spots;
 mod window;
 pub mod wraps;
 
 pub use buffer::Buffer;
+pub use cell_line::MarkRun;
 pub use change::{Change, Op, Splice};
 pub use held::Held;
 pub use laws::step_laws;
+pub use plain_rows::{Kind, Shown};
 pub use sheet::{LineSplice, Sheet, Spliced};
-pub use shown::{Kind, MarkRun, Shown};
 pub use wraps::{Wrapped, Wraps};

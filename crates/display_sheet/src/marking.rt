@@ -1,10 +1,10 @@
 //! Runs of lines that stand wrapped at one width.
 ghost use Rattle.std.specs.Prelude.{◌≡◌, ◌++◌, map, IfOk, OnOk};
-ghost use Rattle.display_sheet.specs.Shown.{runs_from};
+ghost use Rattle.cell_line.specs.MarkRuns.{runs_from};
 ghost use Rattle.display_sheet.specs.Windows.{run_or_none};
 
-use crate::shown::MarkRun;
 use crate::wraps::Wraps;
+use cell_line::MarkRun;
 use cell_units::NoMemory;
 use std::alloc::Global;
 

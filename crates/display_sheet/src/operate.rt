@@ -1,13 +1,12 @@
 //! Operations on a record that a display keeps, and why they are refused.
 ghost use Rattle.std.specs.Prelude.{◌≡◌, ◌≤◌, ◌||◌, false, length, nat_lt, nat_le, string_bytes, IfOk};
 ghost use Rattle.cell_units.specs.declared.place.Bias.{Bias};
-ghost use Rattle.cell_units.specs.declared.limits.TheConstants.{ENTRY_LIMIT};
+ghost use Rattle.cell_units.specs.declared.limits.TheConstants.{ENTRY_LIMIT, LAID_LIMIT};
 ghost use Rattle.std.specs.List.{list_any};
 ghost use Rattle.cell_units.specs.Operation.{AddBlock, AddFold, AddInlay, RemoveBlock, RemoveFold, RemoveInlay, SetTab, SetWidth, operated, replaced_text};
 ghost use Rattle.cell_units.specs.Text.{IsBoundary, clean};
 ghost use Rattle.cell_units.specs.Lawful.{IsAllowed};
 ghost use Rattle.plain_rows.specs.Plain.{fold_of};
-ghost use Rattle.plain_rows.specs.declared.limits.TheConstants.{LAID_LIMIT};
 ghost use Rattle.display_sheet.specs.Changes.{are_block_lines, block_refusal, fold_refusal, inlay_of, inlay_refusal, is_fold_range, is_line_end, is_long_line, is_replacement, operation_of, replacement};
 ghost use Rattle.display_sheet.specs.Sheets.{IsOperated};
 ghost use Rattle.display_sheet.specs.Refusals.{IsDone};

@@ -16,10 +16,15 @@ use std::marker::Model;
 
 /// A display line: the pieces that it shows, and the tab size. It is seen as its elements, which are made only when they
 /// are asked for.
-#[derive(Drop)]
 pub struct PieceLine {
     pieces: Vec<Piece>,
     tab: u32,
+}
+
+impl Drop for PieceLine {
+    fn drop(self) {
+        let PieceLine { pieces: _, tab: _ } = self;
+    }
 }
 
 impl Model for PieceLine {

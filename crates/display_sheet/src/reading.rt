@@ -1,26 +1,27 @@
 //! What a view reads off a record as a display keeps it.
 ghost use Rattle.std.specs.Prelude.{◌≡◌, ◌+◌, ◌<◌, ◌≤◌, [], length, map, take, drop, slice_get, slice_index_or, slice_range, IfOk, OnOk};
+ghost use Rattle.cell_units.specs.declared.limits.TheConstants.{LAID_LIMIT};
 ghost use Rattle.cell_units.specs.Lawful.{IsLawful, IsWidth, source_of};
 ghost use Rattle.cell_units.specs.Record.{plain_mark};
 ghost use Rattle.cell_units.specs.Text.{IsBoundary};
 ghost use Rattle.cell_line.specs.Lines.{line_at};
 ghost use Rattle.plain_rows.specs.FoldedLines.{seen};
 ghost use Rattle.plain_rows.specs.Plain.{record_of, row_pairs};
-ghost use Rattle.plain_rows.specs.declared.limits.TheConstants.{LAID_LIMIT};
 ghost use Rattle.plain_rows.specs.Rows.{blocks_at, line_elements, line_of_block, line_rows, rows_of};
 ghost use Rattle.plain_rows.specs.inside.BuiltRows.{AreBefore, is_upto};
-ghost use Rattle.display_sheet.specs.Shown.{mark_runs, shown_row, shown_rows};
+ghost use Rattle.display_sheet.specs.Shown.{mark_runs};
+ghost use Rattle.plain_rows.specs.ShownRows.{shown_row, shown_rows};
 ghost use Rattle.display_sheet.specs.Windows.{HasPassed, texts_at};
 
 use crate::marking::mark_runs;
 use crate::piece_line::PieceLine;
 use crate::sheet::Sheet;
-use crate::shown::{Kind, MarkRun, Shown};
 use crate::window::Window;
 use crate::wraps::Wraps;
 use crate::{blocks, inlays};
+use cell_line::MarkRun;
 use cell_units::{NoMemory, Side, Text};
-use plain_rows::{Plain, PlainSource};
+use plain_rows::{Kind, Plain, PlainSource, Shown};
 use std::alloc::Global;
 
 /// Of each line the width at which it stands wrapped.

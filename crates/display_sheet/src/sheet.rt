@@ -45,7 +45,6 @@ pub(crate) struct Draft {
 }
 
 /// A record, seen as one whose stamps count its lines. All of it is shared with its copies.
-#[derive(Drop)]
 pub struct Sheet {
     pub(crate) text: Arc<Buffer>,
     pub(crate) inlays: Arc<Vec<PlainInlay>>,
@@ -55,6 +54,21 @@ pub struct Sheet {
     pub(crate) width: u32,
     pub(crate) lines: Arc<FoldedLines>,
     pub(crate) wraps: Arc<Wraps>,
+}
+
+impl Drop for Sheet {
+    fn drop(self) {
+        let Sheet {
+            text: _,
+            inlays: _,
+            folds: _,
+            blocks: _,
+            tab: _,
+            width: _,
+            lines: _,
+            wraps: _,
+        } = self;
+    }
 }
 
 impl Model for Sheet {

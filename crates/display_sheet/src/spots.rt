@@ -4,14 +4,13 @@ ghost use Rattle.std.specs.Prelude.{◌≡◌, ◌≤◌, length, map, IfOk};
 ghost use Rattle.cell_units.specs.Text.{IsBoundary};
 ghost use Rattle.plain_rows.specs.Rows.{is_on, line_of_block};
 ghost use Rattle.plain_rows.specs.Spots.{back, clip, show};
-ghost use Rattle.plain_rows.specs.inside.SpotRows.{AreRowsOf, HasBlockRows, HasFirstRows};
+ghost use Rattle.plain_rows.specs.inside.SpotRows.{HasBlockRows, HasFirstRows};
 ghost use Rattle.display_sheet.specs.RowCounts.{AreCountsOf};
 
 use crate::reading::widths;
 use crate::sheet::Sheet;
-use cell_units::{Bias, NoMemory, Side, Spot};
-use plain_rows::PlainBlock;
-use plain_rows::spots::laid_rows::LaidRows;
+use cell_units::{Bias, NoMemory, Side, Spot, Steps};
+use plain_rows::{LaidRows, PlainBlock, back_in, clip_in, show_in};
 use std::alloc::Global;
 
 /// Of each line the width at which it stands wrapped, and how many rows stand before its text rows.
@@ -77,12 +76,14 @@ impl Sheet {
     /// The display lines with what is counted of them, in which offsets are looked up.
     fn laid_rows<'a>(&'a self, counts: &'a LineCounts) -> LaidRows<'a>
         requires { AreCountsOf self.now counts.now }
-        ensures { AreRowsOf self.now result }
+        ensures { result ≡ self.now }
     {
         LaidRows {
             source: self.source(),
-            lines: &self.lines,
+            blocks: self.blocks.as_slice(),
             tab: self.tab,
+            width: self.width,
+            lines: &self.lines,
             widths: counts.widths.as_slice(),
             first_rows: counts.first_rows.as_slice(),
         }
@@ -94,7 +95,8 @@ impl Sheet {
         ensures { IfOk result (λ spot. spot ≡ show self.now offset bias) }
     {
         let counts = self.line_counts(alloc)?;
-        self.laid_rows(&counts).show(alloc, offset, bias)
+        let rows = self.laid_rows(&counts);
+        show_in(alloc, &rows, offset, bias, &mut Steps::new())
     }
 
     /// The nearest spot at which some offset is shown.
@@ -102,7 +104,8 @@ impl Sheet {
         ensures { IfOk result (λ nearest. nearest ≡ clip self.now spot bias) }
     {
         let counts = self.line_counts(alloc)?;
-        self.laid_rows(&counts).clip(alloc, spot, bias)
+        let rows = self.laid_rows(&counts);
+        clip_in(alloc, &rows, spot, bias, &mut Steps::new())
     }
 
     /// The least offset (Left) or the greatest (Right) that is shown at the nearest such spot.
@@ -110,6 +113,7 @@ impl Sheet {
         ensures { IfOk result (λ offset. offset ≡ back self.now spot bias) }
     {
         let counts = self.line_counts(alloc)?;
-        self.laid_rows(&counts).back(alloc, spot, bias)
+        let rows = self.laid_rows(&counts);
+        back_in(alloc, &rows, spot, bias, &mut Steps::new())
     }
 }

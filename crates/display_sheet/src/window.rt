@@ -2,12 +2,11 @@
 ghost use Rattle.std.specs.Prelude.{◌≡◌, ◌++◌, ◌-◌, [], ◌∷◌, length, OnOk};
 ghost use Rattle.plain_rows.specs.Plain.{block_of, row_pairs};
 ghost use Rattle.plain_rows.specs.Rows.{block_kind, block_rows};
-ghost use Rattle.display_sheet.specs.Shown.{letter_of};
+ghost use Rattle.plain_rows.specs.ShownRows.{letter_of};
 ghost use Rattle.display_sheet.specs.Windows.{HasPassed, kind_and_more, rows_on, shown_pairs};
 
-use crate::shown::{Kind, Shown};
 use cell_units::{NoMemory, Side, Text};
-use plain_rows::PlainBlock;
+use plain_rows::{Kind, PlainBlock, Shown};
 use std::alloc::Global;
 
 /// What is kept of the rows that went past.

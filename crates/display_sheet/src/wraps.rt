@@ -103,12 +103,21 @@ impl Chunk {
 }
 
 /// How each display line stands. It is seen as a list with one entry for each line.
-#[derive(Drop)]
 pub struct Wraps {
     chunks: Vec<Chunk>,
     len: u32,
     /// How many rows the lines have together.
     rows: u64,
+}
+
+impl Drop for Wraps {
+    fn drop(self) {
+        let Wraps {
+            chunks: _,
+            len: _,
+            rows: _,
+        } = self;
+    }
 }
 
 impl Model for Wraps {

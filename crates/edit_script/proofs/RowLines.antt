@@ -2,8 +2,8 @@
 use Rattle.std.proofs.Common.{◌≡◌, ℕ, zero, suc, ◌+◌, ◌-◌, ◌<◌, List, [], ◌∷◌, length, map, take, drop, get_or, Some, refl, ap, sym, ◌∙◌, arith}
 use Rattle.std.specs.Prelude.{slice_get}
 use Rattle.plain_rows.specs.Rows.{Row}
-use Rattle.display_sheet.specs.declared.shown.Shown.{Shown}
-use Rattle.display_sheet.specs.Shown.{row_of_shown}
+use Rattle.plain_rows.specs.declared.shown.Shown.{Shown}
+use Rattle.plain_rows.specs.ShownRows.{row_of_shown}
 use Rattle.edit_script.specs.Printed.{row_line, row_lines}
 use Rattle.edit_script.specs.Answers.{rows_in}
 

@@ -5,7 +5,7 @@ use Rattle.cell_units.specs.declared.fault.Fault.TheVariants as faults
 use Rattle.cell_units.specs.Record.{Record}
 use Rattle.plain_rows.specs.Rows.{Row}
 use Rattle.plain_rows.specs.Rows as plain
-use Rattle.display_sheet.specs.Shown.{shown_rows}
+use Rattle.plain_rows.specs.ShownRows.{shown_rows}
 use Rattle.display_map.specs.Replay.{History, present_of, versions_of}
 use Rattle.edit_script.specs.declared.asked.Query.{Query}
 use Rattle.edit_script.specs.declared.asked.Query.TheVariants as queries

@@ -8,7 +8,7 @@ use Rattle.cell_units.specs.Refusal.{number_of}
 use Rattle.cell_units.specs.Record.{Record}
 use Rattle.plain_rows.specs.Rows.{Row, rows_of}
 use Rattle.plain_rows.specs.Spots.{show, clip, back}
-use Rattle.display_sheet.specs.declared.shown.MarkRun.{MarkRun}
+use Rattle.cell_line.specs.declared.lines.MarkRun.{MarkRun}
 use Rattle.display_sheet.specs.Shown.{mark_runs}
 use Rattle.edit_script.specs.declared.asked.Query.{Query}
 use Rattle.edit_script.specs.declared.asked.Query.TheVariants as queries

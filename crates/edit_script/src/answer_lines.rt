@@ -1,7 +1,7 @@
 //! Answers, line by line.
 ghost use Rattle.std.specs.Prelude.{◌≡◌, ◌≤◌, ◌<◌, ℕ, [], ◌∷◌, length, map, take, drop, slice_get, decimal, None, IfOk, IfErr, OnOk, OnErr};
 ghost use Rattle.display_map.specs.Replay.{present_of};
-ghost use Rattle.display_sheet.specs.Shown.{letter_of, row_of_shown};
+ghost use Rattle.plain_rows.specs.ShownRows.{letter_of, row_of_shown};
 ghost use Rattle.plain_rows.specs.Rows.{rows_of};
 ghost use Rattle.edit_script.specs.Printed.{row_line};
 ghost use Rattle.edit_script.specs.Answers.{rows_left, rows_in, lines_left, AreMade};

@@ -4,7 +4,7 @@ use Rattle.std.proofs.lemmas.List.Sums.{sum_by-append}
 use mathlib.Core.Bool.{true≢false}
 use mathlib.Core.List.{IsPrefix}
 use Rattle.display_map.specs.Events.{Event, Published}
-use Rattle.display_map.specs.declared.version.Version.{Version}
+use Rattle.display_map.specs.Versions.{Version}
 use Rattle.display_map.specs.Replay.{History, appended, versions_of, is_published, ends}
 use Rattle.version_board.specs.Known.{Known, GoesOn}
 use Rattle.version_board.specs.Rows.{BeginsWith, Follows, IsFirst, AreFollowing, IsRow, IsRowTo}

@@ -2,7 +2,7 @@
 use Rattle.std.specs.Prelude.{◌≡◌, ◌⊎◌, true, All, List, [], ◌∷◌, ◌++◌}
 use mathlib.Core.List.{IsPrefix}
 use Rattle.logbook.specs.Pages.{Book}
-use Rattle.display_map.specs.declared.version.Version.{Version}
+use Rattle.display_map.specs.Versions.{Version}
 use Rattle.display_map.specs.Replay.{ends}
 use Rattle.version_board.specs.Rows.{BeginsWith, IsRowTo}
 

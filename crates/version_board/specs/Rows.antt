@@ -3,7 +3,7 @@ use Rattle.std.specs.Prelude.{◌≡◌, ◌+◌, false, Bool, List, [], ◌∷�
 use mathlib.Core.List.{IsPrefix}
 use Rattle.display_map.specs.Events.{Event, Published}
 use Rattle.display_map.specs.Replay.{versions_of, ends}
-use Rattle.display_map.specs.declared.version.Version.{Version}
+use Rattle.display_map.specs.Versions.{Version}
 
 -- the journal of the version begins with that of the earlier one
 abbrev pub BeginsWith : Version → Version → Type 0

@@ -13,10 +13,18 @@ use std::marker::Model;
 use std::sync::Arc;
 
 /// It is seen as what is known of a row whose newest known version is this one.
-#[derive(Drop)]
 pub struct Kept {
     version: Arc<Version, Global>,
     seen: Beginning,
+}
+
+impl Drop for Kept {
+    fn drop(self) {
+        let Kept {
+            version: _,
+            seen: _,
+        } = self;
+    }
 }
 
 impl Model for Kept {

@@ -1,7 +1,7 @@
 //! Laws of rows and of boards. These functions do nothing.
 ghost use Rattle.std.specs.Prelude.{◌≡◌, ◌<◌, Bool, false, List, [], ◌∷◌, length};
 ghost use Rattle.display_map.specs.Events.{Event, Published};
-ghost use Rattle.display_map.specs.declared.version.Version.{Version};
+ghost use Rattle.display_map.specs.Versions.{Version};
 ghost use Rattle.display_map.specs.Replay.{History, appended, versions_of, ends};
 ghost use Rattle.version_board.specs.Known.{AgreeOnRow};
 ghost use Rattle.version_board.specs.Rows.{Follows, IsFirst, IsRowTo};

@@ -7,10 +7,15 @@ use std::marker::Model;
 
 /// One that looks at the board. It is seen as what it knows of the row: each version up to the newest that it saw or learnt
 /// of, which it keeps.
-#[derive(Drop)]
 pub struct Reader {
     pub(crate) seat: Option<Seat>,
     pub(crate) kept: Kept,
+}
+
+impl Drop for Reader {
+    fn drop(self) {
+        let Reader { seat: _, kept: _ } = self;
+    }
 }
 
 impl Model for Reader {

@@ -12,7 +12,6 @@ use std::sync::Wait;
 ///
 /// A job is out from `hand_out` to the call that gives its result. Jobs that the queue of tasks hands back wait in a
 /// place of the crew's own.
-#[derive(Drop)]
 pub struct Crew<N: Lines> {
     pub(crate) tasks: TasksEnd<N>,
     // It has the rights of the jobs in `kept`, in their order.
@@ -20,6 +19,18 @@ pub struct Crew<N: Lines> {
     pub(crate) kept: Vec<Job<N>>,
     pub(crate) count: u32,
     pub(crate) workers: u32,
+}
+
+impl<N: Lines> Drop for Crew<N> {
+    fn drop(self) {
+        let Crew {
+            tasks: _,
+            results: _,
+            kept: _,
+            count: _,
+            workers: _,
+        } = self;
+    }
 }
 
 impl<N: Lines> Model for Crew<N> {

@@ -19,10 +19,10 @@ use Rattle.edit_script.specs.declared.blank.TheConstants.{LINE_LIMIT}
 use Rattle.edit_script.specs.Verdict.{Verdict, Refused, refused_or, query_refusal, wants_settled, is_over as is_id_over, IsLineRefused}
 use Rattle.cell_units.specs.declared.fault.Fault.{Fault}
 use Rattle.cell_units.specs.declared.fault.Fault.TheVariants as faults
-use Rattle.display_owner.specs.declared.owner.Owner.{Owner}
-use Rattle.display_owner.specs.declared.owner.TheConstants.{EVENTS_AHEAD}
-use Rattle.display_owner.specs.Beside.{outstanding}
-use Rattle.display_owner.specs.Owned.{IsBusy, IsOwned}
+use Rattle.live_display.specs.declared.owner.Owner.{Owner}
+use Rattle.live_display.specs.declared.owner.TheConstants.{EVENTS_AHEAD}
+use Rattle.live_display.specs.Beside.{outstanding}
+use Rattle.live_display.specs.Owned.{IsBusy, IsOwned}
 use Rattle.display_cli.specs.declared.runner.Runner.{Runner}
 use Rattle.display_cli.specs.declared.stop.Stop.{Stop}
 use Rattle.display_cli.specs.declared.stop.Stop.TheVariants as stops

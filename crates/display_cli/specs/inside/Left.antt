@@ -4,7 +4,7 @@ use Rattle.std.specs.Option.{option_map}
 use Rattle.logbook.specs.Pages.{Book}
 use Rattle.version_board.specs.Known.{Known}
 use Rattle.board_watch.specs.Watching.{Watching}
-use Rattle.display_owner.specs.declared.owner.Owner.{Owner}
+use Rattle.live_display.specs.declared.owner.Owner.{Owner}
 use Rattle.display_cli.specs.declared.beside.Left.{Left}
 use Rattle.display_cli.specs.Outside.{SinkState}
 use Rattle.display_cli.specs.inside.Going.{IsReady, PlaysBy, at}

@@ -12,7 +12,7 @@ use Rattle.version_board.specs.Known.{Known}
 use Rattle.board_watch.specs.declared.seen.Seen.{Seen}
 use Rattle.board_watch.specs.declared.seen.Watched.{Watched}
 use Rattle.board_watch.specs.Watching.{IsWatched}
-use Rattle.command_words.specs.declared.plan.Plan.{Plan}
+use Rattle.command_line.specs.declared.plan.Plan.{Plan}
 use Rattle.display_cli.specs.declared.limits.TheConstants.{SCRIPT_LIMIT}
 use Rattle.display_cli.specs.declared.ended.Ended.{Ended}
 use Rattle.display_cli.specs.declared.ended.Note.{Note}

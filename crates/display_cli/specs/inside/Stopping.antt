@@ -1,6 +1,6 @@
 -- Why a run stops where its owner halts.
-use Rattle.display_owner.specs.declared.halt.Halt.{Halt}
-use Rattle.display_owner.specs.declared.halt.Halt.TheVariants.{Full, Memory}
+use Rattle.live_display.specs.declared.halt.Halt.{Halt}
+use Rattle.live_display.specs.declared.halt.Halt.TheVariants.{Full, Memory}
 use Rattle.display_cli.specs.declared.stop.Stop.{Stop}
 use Rattle.display_cli.specs.declared.stop.Stop.TheVariants as stops
 

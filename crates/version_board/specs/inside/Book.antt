@@ -1,7 +1,7 @@
 -- The rule of the row, and what the step that adds to it tells.
 use Rattle.std.specs.Prelude.{ℕ, ◌≡◌, ◌==◌, ◌+◌, true, List, [], ◌∷◌, ◌++◌, length, MatchBool}
 use Rattle.logbook.specs.Pages.{Cell, Step, View, Book, Named}
-use Rattle.display_map.specs.declared.version.Version.{Version}
+use Rattle.display_map.specs.Versions.{Version}
 use Rattle.version_board.specs.Rows.{IsRow}
 
 -- the log is a row of versions, and the one word is the number of its newest

@@ -2,8 +2,8 @@
 use Rattle.std.proofs.Common.{◌+◌, ◌≤◌, length, Result, Ok, Err, arith}
 use Rattle.std.specs.Prelude.{OnOk}
 use Rattle.display_map.specs.Events.{event_limit}
-use Rattle.display_owner.specs.declared.owner.Owner.{Owner}
-use Rattle.display_owner.specs.Owned.{IsBusy}
+use Rattle.live_display.specs.declared.owner.Owner.{Owner}
+use Rattle.live_display.specs.Owned.{IsBusy}
 use Rattle.display_cli.specs.declared.stop.Stop.{Stop}
 use Rattle.display_cli.specs.inside.Stopping.{stop_of}
 use Rattle.display_cli.specs.inside.Going.{IsReady, IsAbreast}

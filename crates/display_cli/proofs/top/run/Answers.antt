@@ -1,8 +1,8 @@
 -- The words are read first, and then the plan is run.
 use Rattle.std.proofs.Common.{◌≡◌, ◌⊎◌, inl, inr, map, Option, Some, None, refl, sym, ap, ◌∙◌, subst}
 use Rattle.std.specs.Prelude.{IfSome}
-use Rattle.command_words.specs.declared.plan.Plan.{Plan}
-use Rattle.command_words.specs.Words.{IsWithinLimits, plan_of}
+use Rattle.command_line.specs.declared.plan.Plan.{Plan}
+use Rattle.command_line.specs.Words.{IsWithinLimits, plan_of}
 use Rattle.display_cli.specs.declared.ended.Note.{Note}
 use Rattle.display_cli.specs.declared.ended.Note.TheVariants as notes
 use Rattle.display_cli.specs.Ended.{Run, run_of, IsEndedAs, IsRefused, IsRun, IsRunOfWords, HasStatus}

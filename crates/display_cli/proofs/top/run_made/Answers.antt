@@ -1,6 +1,6 @@
 -- A made text is started and its script run, or there was no memory.
 use Rattle.std.proofs.Common.{◌≡◌, ℕ, List, Option, Some, length, map, refl, sym, ap, ◌∙◌, subst, arith}
-use Rattle.command_words.specs.declared.plan.Plan.{Plan}
+use Rattle.command_line.specs.declared.plan.Plan.{Plan}
 use Rattle.display_cli.specs.declared.ended.Note.{Note}
 use Rattle.display_cli.specs.Outside.{AreTold}
 use Rattle.display_cli.specs.Ended.{Run, IsEndedAs, HasStatus, run_of, script_of, text_of}

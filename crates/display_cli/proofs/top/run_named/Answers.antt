@@ -1,6 +1,6 @@
 -- A plan of names ends where its text or its script isn't read, or with the run of its script.
 use Rattle.std.proofs.Common.{ℕ, List, Option, map, refl, sym, subst, ap, ◌∙◌}
-use Rattle.command_words.specs.declared.plan.Plan.{Plan}
+use Rattle.command_line.specs.declared.plan.Plan.{Plan}
 use Rattle.display_cli.specs.declared.ended.Note.{Note}
 use Rattle.display_cli.specs.Outside.{InputState}
 use Rattle.display_cli.specs.Ended.{Run, IsEndedAs, HasStatus, run_of}

@@ -1,8 +1,8 @@
 use Rattle.std.proofs.Common.{◌≡◌, ◌++◌, ◌+◌, ◌<◌, ◌∷◌, ℕ, List, length, map, drop, get_or, ap, sym, subst, ◌∙◌, arith}
 use Rattle.std.proofs.lemmas.List.{drop_more, get_or-map, length-map}
 use Rattle.display_sheet.specs.declared.wraps.Wrapped.{Wrapped}
-use Rattle.display_sheet.specs.declared.shown.MarkRun.{MarkRun}
-use Rattle.display_sheet.specs.Shown.{runs_from}
+use Rattle.cell_line.specs.declared.lines.MarkRun.{MarkRun}
+use Rattle.cell_line.specs.MarkRuns.{runs_from}
 use Rattle.display_sheet.proofs.MarkedRuns.{done-other, done-same, joined}
 use Rattle.display_sheet.proofs.marking.mark_runs.Goals.{then-width-run+in_ok-push_run, else-width-run}
 use Rattle.display_sheet.proofs.marking.mark_runs.Goals as goal

@@ -1,5 +1,5 @@
 use Rattle.std.proofs.Common.{◌≡◌, ◌+◌, ◌++◌, map, drop}
-use Rattle.display_sheet.specs.Shown.{runs_from}
+use Rattle.cell_line.specs.MarkRuns.{runs_from}
 use Rattle.display_sheet.proofs.MarkedRuns.{joined}
 use Rattle.display_sheet.proofs.marking.mark_runs.Given as goal
 

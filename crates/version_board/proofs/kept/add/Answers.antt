@@ -1,6 +1,6 @@
 use Rattle.std.proofs.Common.{◌≡◌, ◌+◌, ◌==◌, true, [], ◌∷◌, ◌++◌, length, sym, ◌∙◌, ap, subst, arith, eq-eqb}
 use Rattle.std.specs.Arc.{arc_value}
-use Rattle.display_map.specs.declared.version.Version.{Version}
+use Rattle.display_map.specs.Versions.{Version}
 use Rattle.display_map.specs.Replay.{versions_of}
 use Rattle.version_board.specs.Rows.{Follows, IsRow, IsRowTo}
 use Rattle.version_board.proofs.RowLemmas.{row_number, row_append}

@@ -2,7 +2,7 @@
 use Rattle.std.proofs.Common.{◌≡◌, ◌≤◌, true, Option, Some, None, length, refl, sym, ap, ◌∙◌, subst, true≢false, arith}
 use Rattle.cell_units.specs.declared.fault.Refusal.{Refusal}
 use Rattle.display_map.specs.Replay.{History, present_of, versions_of, is_settled}
-use Rattle.display_owner.specs.declared.owner.Owner.{Owner}
+use Rattle.live_display.specs.declared.owner.Owner.{Owner}
 use Rattle.edit_script.specs.declared.asked.Query.{Query}
 use Rattle.edit_script.specs.Commands.{Ask}
 use Rattle.edit_script.specs.Printed.{query_lines}

@@ -4,7 +4,7 @@ use Rattle.cell_units.specs.declared.fault.Refusal.{Refusal}
 use Rattle.display_map.specs.Replay.{present_of, is_settled}
 use Rattle.display_sheet.specs.declared.change.Change.{Change}
 use Rattle.display_sheet.specs.Changes.{change_refusal}
-use Rattle.display_owner.specs.declared.owner.Owner.{Owner}
+use Rattle.live_display.specs.declared.owner.Owner.{Owner}
 use Rattle.display_cli.specs.inside.Going.{HasChanged, IsAbreast, MayHandle}
 use Rattle.display_cli.proofs.Handled.{change_verdict, change-calm, change-unrecorded, change-stopped, change-refused, change-unwritten, change-done}
 use Rattle.display_cli.proofs.Sends.{may-handle}

@@ -1,6 +1,6 @@
 -- The lines before `rest` were handled: the run goes on with those of `rest`.
 use Rattle.std.proofs.Common.{◌≡◌, ◌+◌, ◌-◌, ◌*◌, ◌^◌, ◌≤◌, length}
-use Rattle.display_owner.specs.Owned.{IsSameTeam}
+use Rattle.live_display.specs.Owned.{IsSameTeam}
 use Rattle.display_cli.specs.Entries.{script_lines}
 use Rattle.display_cli.specs.Output.{no_lines}
 use Rattle.display_cli.specs.Ended.{Course}

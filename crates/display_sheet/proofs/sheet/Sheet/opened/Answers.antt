@@ -40,13 +40,13 @@ module _ (c : goal.In_ok-new-2) where
   laid : AreLinesOf (source_of (record_in s)) c.in_ok-lines.lines
   laid = c.in_ok-lines.ensures
 
-  count : c.lines-2.result ≡ length (display_lines text [] [])
+  count : c.lines.result ≡ length (display_lines text [] [])
   count =
-      c.lines-2.ensures (source_of (record_in s)) laid
+      c.lines.ensures (source_of (record_in s)) laid
       ∙ length-map (display_lines text (record_in s).inlays (record_in s).folds) pieces_of
       ∙ (λ i. length (display_lines text (map inlay_of (inlays i)) (map fold_of (folds i))))
 
-  wraps : arc_value s.wraps ≡ replicate c.lines-2.result fresh
+  wraps : arc_value s.wraps ≡ replicate c.lines.result fresh
   wraps = c.in_ok-new-2.ensures.ok ∙ c.in_ok-wraps.ensures
 
   kept : AreLinesOf (source_of (record_in s)) (arc_value s.lines)
@@ -54,7 +54,7 @@ module _ (c : goal.In_ok-new-2) where
 
 pub invariant_of-result : goal.invariant_of-result
 invariant_of-result c =
-    keeps-opened (s c) (text c) c.requires c.lines-2.result refl (inlays c) (folds c) (blocks c) refl refl (wraps c) (count c) (kept c)
+    keeps-opened (s c) (text c) c.requires c.lines.result refl (inlays c) (folds c) (blocks c) refl refl (wraps c) (count c) (kept c)
 
 pub returns : goal.returns
-returns c = opened_is (s c) (text c) c.requires c.lines-2.result refl (inlays c) (folds c) (blocks c) refl refl (wraps c) (count c)
+returns c = opened_is (s c) (text c) c.requires c.lines.result refl (inlays c) (folds c) (blocks c) refl refl (wraps c) (count c)

@@ -4,7 +4,7 @@ use Rattle.plain_rows.specs.Plain.{row_pairs}
 use Rattle.plain_rows.specs.Rows.{Row}
 use Rattle.plain_rows.proofs.RowsOfLines.{line_rows-at}
 use Rattle.display_sheet.specs.declared.window.Window.{Window}
-use Rattle.display_sheet.specs.Shown.{letter_of}
+use Rattle.plain_rows.specs.ShownRows.{letter_of}
 use Rattle.display_sheet.specs.Windows.{HasPassed, texts_at}
 use Rattle.display_sheet.proofs.Windows.{passed-kept, passed-skipped}
 use Rattle.display_sheet.proofs.sheet.Sheet.pass_line.Goals.{then-window-eq0, else-window-eq0}

@@ -1,16 +1,12 @@
-use Rattle.std.proofs.Common.{◌≡◌, ap, length, arith}
-use Rattle.std.proofs.lemmas.Result.{IfOk-weaker}
-use Rattle.cell_units.specs.Layers.{Source}
+use Rattle.std.proofs.Common.{◌≡◌, sym, subst}
+use Rattle.std.specs.Result.{IfOk}
+use Rattle.cell_units.specs.Record.{Record}
+use Rattle.cell_units.specs.Text.{IsBoundary}
 use Rattle.plain_rows.specs.Spots.{show}
 use Rattle.display_sheet.proofs.sheet.Sheet.show.Goals as goal
 
-pub show-requires-clause-rows : goal.show-requires-clause-rows
-show-requires-clause-rows c = (c.args.self.now, c.laid_rows.ensures)
-
-pub show-requires-clause-within : goal.show-requires-clause-within
-show-requires-clause-within c = omega (arith, c.requires.0, ap (λ (s : Source). length s.text) c.laid_rows.ensures.source)
+pub show_in-requires : goal.show_in-requires
+show_in-requires c = subst (λ (r : Record). IsBoundary r.text c.args.offset) (sym c.laid_rows-rows.ensures) c.requires
 
 pub returns : goal.returns
-returns c =
-    let r = c.args.self.now in
-    IfOk-weaker c.show.result _ (λ spot. spot ≡ show r c.args.offset c.args.bias) (λ spot e. e r c.laid_rows.ensures) c.show.ensures
+returns c = subst (λ (r : Record). IfOk c.show_in.result (λ found. found ≡ show r c.args.offset c.args.bias)) c.laid_rows-rows.ensures c.show_in.ensures.spot

@@ -2,7 +2,7 @@ use Rattle.std.proofs.Common.{◌++◌, ◌∷◌, [], ℕ, List, length, ap, sy
 use Rattle.std.proofs.lemmas.Iterator.Adapters.{YieldsList-from_vec}
 use Rattle.std.proofs.lemmas.Iterator.Consumers.{YieldsList-end}
 use Rattle.std.proofs.lemmas.List.{map-id}
-use Rattle.display_sheet.specs.Shown.{letter_of}
+use Rattle.plain_rows.specs.ShownRows.{letter_of}
 use Rattle.display_sheet.specs.Windows.{kind_and_more, shown_pairs}
 use Rattle.display_sheet.proofs.Windows.{Pairs, after, after-push, kind-push, shown-push}
 use Rattle.display_sheet.proofs.window.Window.keep.Goals as goal

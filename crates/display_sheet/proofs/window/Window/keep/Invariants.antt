@@ -1,5 +1,5 @@
 use Rattle.std.proofs.Common.{◌≡◌, ◌++◌, ◌-◌, length}
-use Rattle.display_sheet.specs.Shown.{letter_of}
+use Rattle.plain_rows.specs.ShownRows.{letter_of}
 use Rattle.display_sheet.specs.Windows.{kind_and_more, shown_pairs}
 use Rattle.display_sheet.proofs.Windows.{after}
 use Rattle.display_sheet.proofs.window.Window.keep.Given as goal

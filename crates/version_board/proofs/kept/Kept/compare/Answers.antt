@@ -1,6 +1,6 @@
 use Rattle.std.proofs.Common.{ap, subst, List}
 use mathlib.Core.List.{IsPrefix}
-use Rattle.display_map.specs.declared.version.Version.{Version}
+use Rattle.display_map.specs.Versions.{Version}
 use Rattle.version_board.proofs.Prefixes.{prefix_either}
 use Rattle.version_board.proofs.kept.Kept.compare.Goals as goal
 

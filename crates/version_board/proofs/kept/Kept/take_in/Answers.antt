@@ -1,7 +1,7 @@
 use Rattle.std.proofs.Common.{◌≡◌, ◌≤◌, ap, subst, sym, ◌∙◌, arith, List}
 use Rattle.std.specs.Arc.{arc_value}
 use mathlib.Core.List.{IsPrefix}
-use Rattle.display_map.specs.declared.version.Version.{Version}
+use Rattle.display_map.specs.Versions.{Version}
 use Rattle.display_map.specs.Replay.{versions_of}
 use Rattle.version_board.specs.Known.{Known, GoesOn}
 use Rattle.version_board.proofs.RowLemmas.{later, stays}

@@ -1,5 +1,5 @@
 use Rattle.std.proofs.Common.{◌≡◌, All, refl, ap, sym, ◌∙◌, subst}
-use Rattle.display_map.specs.declared.version.Version.{Version}
+use Rattle.display_map.specs.Versions.{Version}
 use Rattle.version_board.specs.Known.{Known, GoesOn}
 use Rattle.version_board.specs.Rows.{BeginsWith}
 use Rattle.version_board.proofs.reader.Reader.look.Goals as goal

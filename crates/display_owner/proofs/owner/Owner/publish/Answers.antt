@@ -1,8 +1,0 @@
--- What is published is the newest version from then on.
-use Rattle.display_owner.proofs.Owners.{shown}
-use Rattle.display_owner.proofs.owner.Owner.publish.Goals as goal
-
-pub returns-clause-owned : goal.returns-clause-owned
-returns-clause-owned g c =
-    shown c.job_laws.ensures.stays c.args.self.now c.args.last c.publish.new.self c.in_ok-version.version c.show.new.writer c.show.result
-    c.in_ok-version.ensures.published c.in_ok-version.ensures.version c.show.ensures.shown c.requires.owned

@@ -1,5 +1,0 @@
--- The version may come right after the newest one that the board shows.
-use Rattle.display_owner.proofs.owner.show.Goals as goal
-
-pub publish-requires : goal.publish-requires
-publish-requires g c = c.requires c.in-Some.writer c.in-Some.is

@@ -1,0 +1,2 @@
+pub mod PlainSheets
+pub mod Waits
