@@ -1,5 +1,0 @@
-use Rattle.command_words.proofs.Decimals.{number_only, number_read}
-use Rattle.command_words.proofs.laws.number_laws.Goals as goal
-
-pub returns : goal.returns
-returns c = record { read = number_read; only = number_only }

@@ -1,5 +1,0 @@
-use Rattle.display_cli.proofs.Handled.{has-answer}
-use Rattle.program_rows.proofs.callers.first_answer.Goals as goal
-
-pub answer-requires : goal.answer-requires
-answer-requires c = has-answer _ _ c.requires

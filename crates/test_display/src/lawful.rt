@@ -1,0 +1,125 @@
+//! What a view, a version and a display promise of their history is what laws and plain functions ask.
+ghost use Rattle.std.specs.Prelude.{◌≡◌, ℕ, IsTrue, List, None, map, slice_range, take, IfOk};
+ghost use Rattle.cell_units.specs.declared.place.Bias.TheVariants.{Left};
+ghost use Rattle.cell_line.specs.declared.element.Element.{Element};
+ghost use Rattle.wrap_workers.specs.Jobs.{JobParts};
+ghost use Rattle.plain_rows.specs.Spots.{back, clip, show, spot_le};
+ghost use Rattle.display_sheet.specs.Changes.{ChangeParts, operations_in, refusal_of};
+ghost use Rattle.edit_patch.specs.declared.edit.Edit.{Edit};
+ghost use Rattle.display_map.specs.Events.{Did, Event};
+ghost use Rattle.display_map.specs.Identity.{HaveSameLines};
+ghost use Rattle.display_map.specs.LawfulStates.{ChangeInsertsUtf8, EventsFit};
+ghost use Rattle.display_map.specs.LinePatches.{CameByStamp, IsPatchOver};
+ghost use Rattle.display_map.specs.Replay.{appended, begun, present_of, replayed, state_of};
+ghost use Rattle.display_map.specs.Sending.{GivesCuts, IsOutstanding};
+
+use crate::callers::built_rows;
+use crate::displays::{first_landing, view_of};
+use cell_units::{Bias, NoMemory, Spot, Steps, Text};
+use display_map::{Display, Version, View, landing_laws, line_patch_laws, replay_laws, stamp_laws};
+use plain_rows::{back, clip, show};
+use spot_laws::laws::show_laws;
+use std::alloc::Global;
+use std::process::Abort;
+use std::test::Fail;
+
+/// The offset that a spot leads back to, the nearest spot that is shown, and where the offset is shown, from scratch.
+fn placed(alloc: Global, view: &View, spot: Spot) -> Result<(u32, Spot, Spot), NoMemory>
+    ensures { let r = present_of view.now in let o = back r spot Left in
+        IfOk result (λ found. found ≡ (o, clip r spot Left, show r o Left)) }
+{
+    show_laws();
+    let plain = view.plain(alloc, &mut Steps::new())?;
+    let offset = back(alloc, &plain, spot, Bias::Left)?;
+    let nearest = clip(alloc, &plain, spot, Bias::Left)?;
+    let shown = show(alloc, &plain, offset, Bias::Left)?;
+    Ok((offset, nearest, shown))
+}
+
+/// The text between the offsets that two spots lead back to, the second of them at or behind the first.
+fn text_between(alloc: Global, view: &View, first: Spot, second: Spot) -> Result<Text, NoMemory>
+    requires { IsTrue (spot_le first second) }
+    ensures { let r = present_of view.now in IfOk result (λ text.
+        text ≡ slice_range r.text (back r first Left) (back r second Left)) }
+{
+    view.lawful();
+    show_laws();
+    let mut steps = Steps::new();
+    let start = view.back(alloc, first, Bias::Left, &mut steps)?;
+    let end = view.back(alloc, second, Bias::Left, &mut steps)?;
+    view.slice(alloc, start, end, &mut steps)
+}
+
+/// Lines of one stamp have equal elements in the record of a version and in each one before it.
+fn same_lines(version: &Version)
+    ensures { (n : ℕ) → HaveSameLines
+        (replayed (begun version.now.opening) (take n version.now.events)).present
+        (present_of version.now) }
+{
+    version.lawful();
+    stamp_laws();
+}
+
+/// From an earlier view of a display to a later one there is a line patch, by which lines came from lines of their stamp.
+fn line_patch(earlier: &View, later: &View)
+    ensures { (events : List Event) → later.now ≡ appended earlier.now events →
+        (patch : List Edit) × IsPatchOver (state_of earlier.now) events patch
+        × CameByStamp patch (present_of earlier.now) (present_of later.now) }
+{
+    let _ = &earlier;
+    later.lawful();
+    line_patch_laws();
+}
+
+/// The operations of a change that a display doesn't refuse are allowed, each in the record that it finds.
+fn fitting_changes(display: &Display)
+    ensures { (change : ChangeParts) → ChangeInsertsUtf8 change →
+        refusal_of (present_of display.now) change ≡ None →
+        EventsFit (state_of display.now) (map Did (operations_in change)) }
+{
+    display.lawful();
+    replay_laws();
+}
+
+/// A job that is out has the cuts of exactly the lines that its landing marks.
+fn landing_cuts(display: &Display)
+    ensures { (job : JobParts (List (List Element))) → IsOutstanding display.now job →
+        GivesCuts (state_of display.now) job }
+{
+    display.lawful();
+    landing_laws();
+}
+
+#[test]
+fn plain_functions_read_a_view(rt: HostRuntime) -> Result<(), Fail> {
+    let alloc = rt.alloc();
+    let view = view_of(alloc, b"abc\ndefg")?;
+    assert_eq!(rt; built_rows(alloc, &view)?, 2);
+    let spot = Spot { row: 1, col: 9 };
+    let end = Spot { row: 1, col: 4 };
+    assert_eq!(rt; placed(alloc, &view, spot)?, (8, end, end));
+    let first = Spot { row: 0, col: 2 };
+    let text = text_between(alloc, &view, first, spot)?;
+    assert_eq!(rt; text.as_str(), "c\ndefg");
+    Ok(())
+}
+
+/// Publishes a display.
+fn published(rt: &impl Abort, alloc: Global, display: &mut Display) -> Result<Version, NoMemory> {
+    assert!(rt; display.room() > 0);
+    display.publish(alloc, false)
+}
+
+#[test]
+fn laws_hold_of_a_display(rt: HostRuntime) -> Result<(), Fail> {
+    let alloc = rt.alloc();
+    let mut display = first_landing(&rt, alloc)?;
+    let earlier = display.view()?;
+    let version = published(&rt, alloc, &mut display)?;
+    same_lines(&version);
+    line_patch(&earlier, version.view());
+    fitting_changes(&display);
+    landing_cuts(&display);
+    assert_eq!(rt; version.number(), 2);
+    Ok(())
+}

@@ -1,0 +1,5 @@
+use Rattle.display_cli.proofs.Handled.{has-answer}
+use Rattle.test_program.proofs.callers.first_answer.Goals as goal
+
+pub answer-requires : goal.answer-requires
+answer-requires c = has-answer _ _ c.requires

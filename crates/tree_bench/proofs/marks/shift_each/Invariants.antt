@@ -1,6 +1,0 @@
-use Rattle.std.proofs.Common.{◌+◌}
-use Rattle.tree_bench.proofs.Marked.{AreWithin}
-use Rattle.tree_bench.proofs.marks.shift_each.Given as goal
-
-abbrev pub invariant-loop-turn : goal.invariant-loop-turn
-invariant-loop-turn l = AreWithin (33554432 + l.turn) l.tree
