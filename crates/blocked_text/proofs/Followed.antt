@@ -27,7 +27,7 @@ use Rattle.edit_patch.specs.declared.edit.Edit.{Edit}
 use Rattle.edit_patch.specs.Fits.{Fits, replacement}
 use Rattle.edit_patch.proofs.Fitting.{fits-none}
 use Rattle.plain_rows.proofs.RisingLines.{row_end-within, row_start-le}
-use Rattle.shifted_lists.specs.Leads.{LeadsAt}
+use Rattle.edit_patch.specs.Leads.{LeadsAt}
 use Rattle.text_rope.specs.Edits.{IsRange}
 use Rattle.wrap_map.specs.Landing.{IsPatchOfLanded, is_landed, standing_landed}
 use Rattle.wrap_map.specs.Standing.{Standing, shown_rows, standing_after}

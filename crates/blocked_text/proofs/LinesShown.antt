@@ -6,7 +6,7 @@ use Rattle.std.proofs.lemmas.List.{drop_at, length-replicate, length-take-le, ta
 use Rattle.cell_line.specs.declared.element.Element.{Element}
 use Rattle.cell_units.specs.declared.place.Shift.{Shift}
 use Rattle.cell_units.specs.Rows.{all_rows, rows_before}
-use Rattle.shifted_lists.specs.Leads.{LeadsAt}
+use Rattle.edit_patch.specs.Leads.{LeadsAt}
 use Rattle.wrap_map.specs.Standing.{Standing, shown_rows, standing_after}
 use Rattle.wrap_map.specs.Stood.{rows_in}
 use Rattle.wrap_map.proofs.Standings.{all-unwrapped, length-pairs, mapped-after, put-in, rows_in-unwrapped, rows_of-texts, texts}

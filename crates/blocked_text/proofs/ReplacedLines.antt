@@ -8,7 +8,7 @@ use Rattle.std.proofs.lemmas.List.{get_or-drop, get_or-take, length-drop, take-t
 use Rattle.cell_units.specs.Rows.{all_rows, line_rows, rows_before}
 use Rattle.edit_patch.specs.Came.{Came, IsReplaced, edit_of, origin_of}
 use Rattle.edit_patch.specs.Fits.{replacement}
-use Rattle.shifted_lists.specs.Leads.{LeadsAt}
+use Rattle.edit_patch.specs.Leads.{LeadsAt}
 
 abbrev Lines : Type 0
 Lines = List (List (List ℕ))

@@ -15,7 +15,7 @@ use Rattle.cell_units.proofs.ReplacedRows.{row_of-le, take-replaced_text}
 use Rattle.edit_patch.specs.declared.edit.Edit.{Edit}
 use Rattle.edit_patch.specs.Came.{Came}
 use Rattle.edit_patch.specs.Fits.{replacement}
-use Rattle.shifted_lists.specs.Leads.{LeadsAt}
+use Rattle.edit_patch.specs.Leads.{LeadsAt}
 use Rattle.block_map.specs.Follows.{GoesTo, KeepsLine}
 use Rattle.block_map.specs.Maps.{Kept, line_of_kept, row_at_line}
 use Rattle.blocked_text.specs.Standing.{IsBlockOf}

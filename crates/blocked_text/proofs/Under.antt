@@ -18,7 +18,7 @@ use Rattle.cell_line.specs.Elements.{elements_of}
 use Rattle.cell_units.proofs.ReplacedRows.{length-replaced_text}
 use Rattle.edit_patch.specs.declared.edit.Edit.{Edit}
 use Rattle.edit_patch.specs.Fits.{Fits, replacement}
-use Rattle.shifted_lists.specs.Leads.{LeadsAt, LeadsBy}
+use Rattle.edit_patch.specs.Leads.{LeadsAt, LeadsBy}
 use Rattle.tab_map.specs.TabLines.{lines_at}
 use Rattle.tab_map.proofs.PlainTexts.{plain-few}
 use Rattle.text_rope.specs.Edits.{IsRange}

@@ -7,7 +7,7 @@ ghost use Rattle.cell_units.specs.Operation.{replaced_text};
 ghost use Rattle.cell_units.specs.Text.{clean};
 ghost use Rattle.cell_units.specs.declared.limits.TheConstants.{TEXT_LIMIT};
 ghost use Rattle.edit_patch.specs.Fits.{Fits};
-ghost use Rattle.shifted_lists.specs.Leads.{LeadsBy};
+ghost use Rattle.edit_patch.specs.Leads.{LeadsBy};
 ghost use Rattle.text_rope.specs.Edits.{IsRange, IsReplaceFault};
 ghost use Rattle.wrap_map.specs.Landing.{cuts_of_run, standing_landed};
 ghost use Rattle.wrap_map.specs.Standing.{shown_rows, standing_after};

@@ -13,3 +13,5 @@ pub mod Fitting
 pub mod Meeting
 pub mod Worked
 pub mod Replacing
+pub mod CoverLeads
+pub mod TokenPlaces

@@ -3,6 +3,7 @@ ghost use Rattle.std.specs.Prelude.{◌≡◌, ◌↔◌, ℕ, ◌+◌, ◌^◌,
 ghost use Rattle.edit_patch.specs.declared.edit.Edit.{Edit};
 ghost use Rattle.edit_patch.specs.Came.{origin_of, carry_of, Came, CorrespondsInOrder, inverted, edit_of};
 ghost use Rattle.edit_patch.specs.Patch.{IsPatch, IsComposed, AllFit};
+ghost use Rattle.edit_patch.specs.Covering.{CoverLeads};
 ghost use Rattle.edit_patch.specs.Fits.{Fits, replacement, HaveCommon, MeetsOld, MeetsNew};
 
 /// What a patch says of positions is the one correspondence in order that its edits leave.
@@ -64,6 +65,12 @@ pub fn meeting()
     ensures order { (start end first last : ℕ) → start ≤ end → first ≤ last →
         HaveCommon start end first last ↔ ((start ≤ last) × (first ≤ end)) }
     ensures inverse { (a : List Edit) (first last : ℕ) → MeetsNew (inverted a) first last ↔ MeetsOld a first last }
+{}
+
+/// Where one replacement leads from a list to a second, and another from that to a third, the one that covers both leads from
+/// the first to the third.
+pub fn covering_laws()
+    ensures { CoverLeads }
 {}
 
 /// Of the new positions of a replacement the next patch deletes all but the first, and the position behind them.

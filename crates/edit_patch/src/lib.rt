@@ -5,14 +5,19 @@
 //! this is all that it means: two patches that say the same are equal. Positions are counted in whatever the two
 //! lists hold, as bytes, lines or rows.
 //!
+//! Each map returns one replacement, which leads from what it showed last to what it shows now. What that means is said
+//! here once for all maps, with the one replacement that covers two.
+//!
 //! The crate promises the exact answer of each call on patches, and laws above the definitions: what a patch says is
 //! the one correspondence in order that its edits leave, inverses go back, and patches compose to exactly one patch.
 #![tactic(auto)]
 
+mod cover;
 pub mod edit;
 pub mod laws;
 mod merge;
 pub mod patch;
 
+pub use cover::{covering, with_pending};
 pub use edit::Edit;
 pub use patch::Patch;

@@ -16,7 +16,7 @@ use Rattle.mark_tree.specs.declared.mark.RangeMark.{RangeMark}
 use Rattle.mark_tree.specs.Bounds.{meeting, shrinking}
 use Rattle.mark_tree.specs.Ranges.{IsRangeList, has_in_common, is_range_met}
 use Rattle.mark_tree.proofs.Sorting.{length-insert, length-sort}
-use Rattle.shifted_lists.specs.Leads.{Reach, reach_of}
+use Rattle.edit_patch.specs.Leads.{Reach, reach_of}
 use Rattle.sum_core.specs.declared.load.NoLoad.{NoLoad}
 use Rattle.splice_tree.specs.Splices.{Piece}
 use Rattle.sum_tree.specs.Bounds.{TakesAtMost}

@@ -19,9 +19,9 @@ use Rattle.joined_folds.specs.declared.joined_fold.JoinedFold.{JoinedFold}
 use Rattle.joined_folds.specs.JoinedLists.{AreAllJoined, AreJoined, EndBy}
 use Rattle.joined_folds.specs.Windows.{AreAlike, moved_on}
 use Rattle.joined_folds.proofs.JoinedLists.{covered_past, joined-order, open_first, shown-joined}
-use Rattle.shifted_lists.specs.LayerLeads.{LayerLeads, layer_places, offset_after, token_after}
-use Rattle.shifted_lists.specs.Leads.{Leads, Reach}
-use Rattle.shifted_lists.proofs.TokenPlaces.{at_places, length-at_places}
+use Rattle.edit_patch.specs.LayerLeads.{LayerLeads, layer_places, offset_after, token_after}
+use Rattle.edit_patch.specs.Leads.{Leads, Reach}
+use Rattle.edit_patch.proofs.TokenPlaces.{at_places, length-at_places}
 use Rattle.fold_map.specs.Replaced.{shown_change}
 use Rattle.fold_map.proofs.MapPlaces.{every-by}
 use Rattle.fold_map.proofs.MapTokens.{HideAlike, bare, drop-bare, fold_each, folds-lead, front-left, front-right, layer-is, rest-after, rest_from, take-bare}

@@ -16,8 +16,8 @@ use Rattle.cell_units.proofs.LineSpans.{inlays-at}
 use Rattle.cell_units.proofs.ShownMoved.{Every-show_each, Every-shown, show_each-append}
 use Rattle.cell_units.proofs.ShownPlaces.{places-rise}
 use Rattle.joined_folds.specs.Windows.{moved_on}
-use Rattle.shifted_lists.specs.LayerLeads.{offset_after, token_after}
-use Rattle.shifted_lists.specs.Leads.{Leads, Reach}
+use Rattle.edit_patch.specs.LayerLeads.{offset_after, token_after}
+use Rattle.edit_patch.specs.Leads.{Leads, Reach}
 use Rattle.fold_map.proofs.MapTokens.{bare, behind-from, drop-bare, front-left, place-size, take-bare}
 
 pub every-by : {X : Type 0} (P Q : X → Type 0) → ((x : X) → P x → Q x) → (xs : List X) → Every P xs → Every Q xs

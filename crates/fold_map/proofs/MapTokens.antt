@@ -15,9 +15,9 @@ use Rattle.cell_units.specs.Text.{clean}
 use Rattle.cell_units.proofs.CutLists.{Every, Every-append}
 use Rattle.cell_units.proofs.LineSpans.{inlays-at}
 use Rattle.cell_units.proofs.ShownMoved.{Every-show_each, Every-shown, show_each-append}
-use Rattle.shifted_lists.specs.LayerLeads.{layer_places, offset_after, token_after, token_places}
-use Rattle.shifted_lists.specs.Leads.{Leads, Reach}
-use Rattle.shifted_lists.proofs.TokenPlaces.{at_places, leads-by_parts}
+use Rattle.edit_patch.specs.LayerLeads.{layer_places, offset_after, token_after, token_places}
+use Rattle.edit_patch.specs.Leads.{Leads, Reach}
+use Rattle.edit_patch.proofs.TokenPlaces.{at_places, leads-by_parts}
 
 -- ---- tokens under folds
 

@@ -18,9 +18,9 @@ use Rattle.cell_units.proofs.ShownPlaces.{place-le, places-left_first, places-ri
 use Rattle.cell_units.proofs.Sources.{row-lt}
 use Rattle.joined_folds.specs.Windows.{AreAlike, moved_on}
 use Rattle.joined_folds.proofs.Sweeps.{all-at}
-use Rattle.shifted_lists.specs.LayerLeads.{LayerLeads, layer_places, offset_after, token_after}
-use Rattle.shifted_lists.specs.Leads.{Leads, LeadsIfAny, Reach, reach_of, unmoved}
-use Rattle.shifted_lists.proofs.TokenPlaces.{length-at_places}
+use Rattle.edit_patch.specs.LayerLeads.{LayerLeads, layer_places, offset_after, token_after}
+use Rattle.edit_patch.specs.Leads.{Leads, LeadsIfAny, Reach, reach_of, unmoved}
+use Rattle.edit_patch.proofs.TokenPlaces.{length-at_places}
 use Rattle.text_rope.proofs.Layers.{row_end_is}
 use Rattle.text_rope.proofs.RowStarts.{row_start_is}
 use Rattle.fold_map.specs.Amounts.{line_at}

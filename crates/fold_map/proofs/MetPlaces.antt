@@ -18,9 +18,9 @@ use Rattle.cell_units.proofs.Folding.{folded_before-folded, inlays-folded}
 use Rattle.cell_units.proofs.LineSpans.{feeds-tokens}
 use Rattle.cell_units.proofs.SortedLists.{count-cons, count-map}
 use Rattle.cell_units.proofs.ShownMoved.{ended-inside, inside_covered}
-use Rattle.shifted_lists.specs.LayerLeads.{layer_places, offset_after, token_after}
-use Rattle.shifted_lists.specs.Leads.{Leads, Reach}
-use Rattle.shifted_lists.proofs.TokenPlaces.{at_places}
+use Rattle.edit_patch.specs.LayerLeads.{layer_places, offset_after, token_after}
+use Rattle.edit_patch.specs.Leads.{Leads, Reach}
+use Rattle.edit_patch.proofs.TokenPlaces.{at_places}
 use Rattle.joined_folds.specs.Windows.{AreAlike, moved_on}
 use Rattle.fold_map.proofs.MapPlaces.{behind-drop, byte-at, count-append, every-by, left-before, right-behind}
 use Rattle.fold_map.proofs.MapTokens.{HideAlike, bare, behind-from, drop-bare, each-moved, each-same, fold_each, front-left, take-bare}

@@ -15,8 +15,8 @@ use Rattle.cell_units.specs.Text.{clean, is_feed, row_end, row_of}
 use Rattle.cell_units.proofs.BufferLines.{feeds-cons, line_bounds, row_of_end, row_of_start}
 use Rattle.cell_units.proofs.ReplacedRows.{line_count_at, row_of-le}
 use Rattle.cell_units.proofs.SortedLists.{count-cons, count-map}
-use Rattle.shifted_lists.specs.LayerLeads.{token_after}
-use Rattle.shifted_lists.specs.Leads.{Leads, Reach}
+use Rattle.edit_patch.specs.LayerLeads.{token_after}
+use Rattle.edit_patch.specs.Leads.{Leads, Reach}
 use Rattle.text_rope.proofs.Layers.{row_end_is}
 use Rattle.text_rope.proofs.RowStarts.{row_start_is}
 use Rattle.fold_map.proofs.MapPlaces.{next-left}

@@ -8,11 +8,11 @@ use Rattle.cell_units.specs.Lawful.{IsWellFormed}
 use Rattle.cell_units.specs.Layers.{Source, unfolded}
 use Rattle.cell_units.proofs.ShownPlaces.{places-left_first, places-rise}
 use Rattle.joined_folds.specs.JoinedLists.{EndBy}
-use Rattle.shifted_lists.specs.Covering.{CoverFits, with_pending}
-use Rattle.shifted_lists.specs.LayerLeads.{LayerLeads, layer_places, token_after}
-use Rattle.shifted_lists.specs.Leads.{LeadsIfAny, Reach, reach_of}
-use Rattle.shifted_lists.proofs.CoverLeads.{covers, lists-fit}
-use Rattle.shifted_lists.proofs.TokenPlaces.{at_places, length-at_places}
+use Rattle.edit_patch.specs.Covering.{CoverFits, with_pending}
+use Rattle.edit_patch.specs.LayerLeads.{LayerLeads, layer_places, token_after}
+use Rattle.edit_patch.specs.Leads.{LeadsIfAny, Reach, reach_of}
+use Rattle.edit_patch.proofs.CoverLeads.{covers, lists-fit}
+use Rattle.edit_patch.proofs.TokenPlaces.{at_places, length-at_places}
 use Rattle.fold_map.specs.Maps.{FoldState, IsKept}
 use Rattle.fold_map.specs.Snapshots.{IsLawful, with_folds}
 use Rattle.fold_map.specs.Synced.{Follows, IsSynced, MeetsTouched, layer_change, row_end_at, row_start_at, source_after}

@@ -15,11 +15,11 @@ use Rattle.cell_units.specs.Layers.{Source, place_of, unfolded}
 use Rattle.cell_units.specs.Record.{Fold}
 use Rattle.cell_units.proofs.ShownPlaces.{place-le, places-left_first, places-rise}
 use Rattle.joined_folds.specs.Windows.{AreAlike}
-use Rattle.shifted_lists.specs.Covering.{CoverFits, with_pending}
-use Rattle.shifted_lists.specs.LayerLeads.{LayerLeads, layer_places, token_after}
-use Rattle.shifted_lists.specs.Leads.{Leads, Reach, reach_of}
-use Rattle.shifted_lists.proofs.CoverLeads.{covers, lists-fit}
-use Rattle.shifted_lists.proofs.TokenPlaces.{length-at_places}
+use Rattle.edit_patch.specs.Covering.{CoverFits, with_pending}
+use Rattle.edit_patch.specs.LayerLeads.{LayerLeads, layer_places, token_after}
+use Rattle.edit_patch.specs.Leads.{Leads, Reach, reach_of}
+use Rattle.edit_patch.proofs.CoverLeads.{covers, lists-fit}
+use Rattle.edit_patch.proofs.TokenPlaces.{length-at_places}
 use Rattle.fold_map.specs.Maps.{DifferWithin, IsKept, IsOwed, fold_change, shown_from, shown_to}
 use Rattle.fold_map.specs.Snapshots.{IsLawful, unfold_refusal}
 use Rattle.fold_map.proofs.MapLeads.{change-leads}

@@ -19,8 +19,8 @@ use Rattle.joined_folds.specs.Windows.{moved_on}
 use Rattle.joined_folds.proofs.JoinedLists.{joined-order}
 use Rattle.mark_tree.specs.declared.mark.RangeMark.{RangeMark}
 use Rattle.mark_tree.specs.Ranges.{move_range}
-use Rattle.shifted_lists.specs.LayerLeads.{layer_places, token_after}
-use Rattle.shifted_lists.specs.Leads.{Leads, Reach}
+use Rattle.edit_patch.specs.LayerLeads.{layer_places, token_after}
+use Rattle.edit_patch.specs.Leads.{Leads, Reach}
 use Rattle.sum_core.specs.declared.load.NoLoad.{NoLoad}
 use Rattle.splice_tree.specs.Splices.{Piece}
 use Rattle.fold_map.specs.declared.amount.Amount.{Amount}

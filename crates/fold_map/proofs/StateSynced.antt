@@ -18,9 +18,9 @@ use Rattle.cell_units.proofs.ReplacedRows.{row_of-le}
 use Rattle.cell_units.proofs.ShownPlaces.{places-rise}
 use Rattle.joined_folds.specs.Windows.{AreAlike, moved_on}
 use Rattle.joined_folds.proofs.Alike.{moved-alike}
-use Rattle.shifted_lists.specs.LayerLeads.{LayerLeads, layer_places, offset_after, token_after}
-use Rattle.shifted_lists.specs.Leads.{Leads, LeadsIfAny, Reach, unmoved}
-use Rattle.shifted_lists.proofs.TokenPlaces.{length-at_places}
+use Rattle.edit_patch.specs.LayerLeads.{LayerLeads, layer_places, offset_after, token_after}
+use Rattle.edit_patch.specs.Leads.{Leads, LeadsIfAny, Reach, unmoved}
+use Rattle.edit_patch.proofs.TokenPlaces.{length-at_places}
 use Rattle.text_rope.proofs.RowStarts.{end_boundary, start_boundary}
 use Rattle.fold_map.specs.Amounts.{amount_between, line_at}
 use Rattle.fold_map.specs.Changes.{AreSameAround, IsChange}

@@ -4,7 +4,7 @@ use Rattle.std.specs.Prelude.{ℕ, ◌+◌, ◌*◌, ◌^◌, ◌<◌, ◌≤◌
 use Rattle.cell_units.specs.Layers.{Source, unfolded}
 use Rattle.cell_units.specs.Record.{Fold}
 use Rattle.joined_folds.specs.Sweeps.{count_met}
-use Rattle.shifted_lists.specs.Leads.{Reach}
+use Rattle.edit_patch.specs.Leads.{Reach}
 use Rattle.fold_map.specs.Synced.{end_after, folds_after, row_end_at, row_start_at}
 
 -- A call may look at each of n folds twice, both times on a fifth as many nodes, and takes at most `cost h` steps beside.

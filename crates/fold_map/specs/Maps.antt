@@ -11,9 +11,9 @@ use Rattle.cell_units.specs.Record.{Fold, fold_le}
 use Rattle.cell_units.specs.Sorting.{insert_by}
 use Rattle.cell_units.specs.Text.{IsBoundary, row_end, row_start}
 use Rattle.joined_folds.specs.Windows.{AreAlike}
-use Rattle.shifted_lists.specs.Covering.{with_pending}
-use Rattle.shifted_lists.specs.LayerLeads.{LayerLeads}
-use Rattle.shifted_lists.specs.Leads.{Reach}
+use Rattle.edit_patch.specs.Covering.{with_pending}
+use Rattle.edit_patch.specs.LayerLeads.{LayerLeads}
+use Rattle.edit_patch.specs.Leads.{Reach}
 use Rattle.fold_map.specs.Amounts.{line_at}
 use Rattle.fold_map.specs.Replaced.{shown_change}
 use Rattle.fold_map.specs.Snapshots.{with_folds}

@@ -8,7 +8,7 @@ use Rattle.cell_units.specs.Lawful.{IsWellFormed}
 use Rattle.cell_units.specs.Layers.{Source, shown_lines, shown_text, span_of, unfolded}
 use Rattle.cell_units.specs.Record.{Fold}
 use Rattle.cell_units.specs.Text.{row_of}
-use Rattle.shifted_lists.specs.Leads.{reach_of}
+use Rattle.edit_patch.specs.Leads.{reach_of}
 use Rattle.fold_map.specs.Maps.{FoldState, folded_up, opened_up, state_of}
 use Rattle.fold_map.specs.Snapshots.{fold_refusal}
 use Rattle.fold_map.specs.Synced.{Follows, IsSynced}

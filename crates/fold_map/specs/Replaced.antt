@@ -2,7 +2,7 @@
 use Rattle.std.specs.Prelude.{ℕ, ◌-◌, length}
 use Rattle.cell_units.specs.declared.place.Bias.TheVariants.{Left, Right}
 use Rattle.cell_units.specs.Layers.{Source, place_of, shown_text}
-use Rattle.shifted_lists.specs.Leads.{Reach}
+use Rattle.edit_patch.specs.Leads.{Reach}
 
 -- All from the left place of an offset to the right place of another. In its stead stands what isn't before or behind it then.
 abbrev pub shown_change : Source → Source → ℕ → ℕ → Reach

@@ -7,9 +7,9 @@ use Rattle.cell_units.specs.Operation.{moved_folds}
 use Rattle.cell_units.specs.Record.{Fold}
 use Rattle.cell_units.specs.Text.{IsBoundary, row_of}
 use Rattle.joined_folds.specs.Windows.{moved_on}
-use Rattle.shifted_lists.specs.Covering.{with_pending}
-use Rattle.shifted_lists.specs.LayerLeads.{LayerLeads}
-use Rattle.shifted_lists.specs.Leads.{LeadsIfAny, Reach, unmoved}
+use Rattle.edit_patch.specs.Covering.{with_pending}
+use Rattle.edit_patch.specs.LayerLeads.{LayerLeads}
+use Rattle.edit_patch.specs.Leads.{LeadsIfAny, Reach, unmoved}
 use Rattle.fold_map.specs.Maps.{FoldState}
 use Rattle.fold_map.specs.Replaced.{shown_change}
 use Rattle.fold_map.specs.Snapshots.{PlacesFit, with_folds}

@@ -9,13 +9,13 @@ ghost use Rattle.text_rope.specs.Bounds.{ways};
 ghost use Rattle.fold_map.specs.Bounds.{SearchesTwice, folding, folds_met, syncing};
 ghost use Rattle.fold_map.specs.Maps.{DifferWithin, IsOwed, fold_with, folded_up, opened_up, state_of, turned_to, with_fold, without};
 ghost use Rattle.fold_map.specs.Synced.{Follows, IsSynced, synced};
-ghost use Rattle.shifted_lists.specs.Leads.{reach_of};
+ghost use Rattle.edit_patch.specs.Leads.{reach_of};
 ghost use Rattle.fold_map.specs.Snapshots.{PlacesFit, fold_refusal, unfold_refusal};
 
 use crate::snapshot::FoldSnapshot;
 use cell_units::{Fault, Layer, NoMemory, Refusal, Shift, Steps};
+use edit_patch::with_pending;
 use mark_tree::RangeMark;
-use shifted_lists::with_pending;
 use std::alloc::Global;
 use std::marker::Model;
 
@@ -41,7 +41,7 @@ impl<L: Layer> Drop for FoldMap<L> {
 
 impl<L: Layer> Model for FoldMap<L> {
     ghost use Rattle.std.specs.Prelude.{option_map};
-    ghost use Rattle.shifted_lists.specs.Leads.{reach_of};
+    ghost use Rattle.edit_patch.specs.Leads.{reach_of};
     ghost use Rattle.fold_map.specs.Maps.{FoldState, IsKept};
 
     ghost Value = { FoldState };

@@ -6,7 +6,7 @@ ghost use Rattle.cell_units.specs.Layers.{shown_lines, shown_text, span_of, unfo
 ghost use Rattle.joined_folds.specs.Sweeps.{fold_of};
 ghost use Rattle.joined_folds.specs.Windows.{moved_on};
 ghost use Rattle.mark_tree.specs.Bounds.{shrinking};
-ghost use Rattle.shifted_lists.specs.Leads.{reach_of};
+ghost use Rattle.edit_patch.specs.Leads.{reach_of};
 ghost use Rattle.sum_tree.specs.Bounds.{TakesAtMost};
 ghost use Rattle.fold_map.specs.Bounds.{folds_met, syncing, touched};
 ghost use Rattle.fold_map.specs.Snapshots.{with_folds};

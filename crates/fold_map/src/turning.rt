@@ -7,7 +7,7 @@ ghost use Rattle.cell_units.specs.Record.{Fold};
 ghost use Rattle.cell_units.specs.Text.{IsBoundary};
 ghost use Rattle.joined_folds.specs.Sweeps.{count_met, fold_of};
 ghost use Rattle.mark_tree.specs.Bounds.{SearchesAndTakes};
-ghost use Rattle.shifted_lists.specs.Leads.{reach_of};
+ghost use Rattle.edit_patch.specs.Leads.{reach_of};
 ghost use Rattle.sum_tree.specs.Bounds.{ChangesAtMost, TakesAtMost, way};
 ghost use Rattle.text_rope.specs.Bounds.{ways};
 ghost use Rattle.fold_map.specs.Bounds.{refolding, rejoining};

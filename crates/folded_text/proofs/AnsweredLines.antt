@@ -19,9 +19,9 @@ use Rattle.cell_units.proofs.PlainLayers.{no_entries}
 use Rattle.cell_units.proofs.SortedLists.{count-cons}
 use Rattle.cell_units.proofs.TextLaws.{tells_boundaries}
 use Rattle.cell_units.proofs.FoundEntries.{some_is}
-use Rattle.shifted_lists.specs.LayerLeads.{LayerLeads}
-use Rattle.shifted_lists.specs.Leads.{Leads, Reach, reach_of, unmoved}
-use Rattle.shifted_lists.proofs.TokenPlaces.{length-at_places}
+use Rattle.edit_patch.specs.LayerLeads.{LayerLeads}
+use Rattle.edit_patch.specs.Leads.{Leads, Reach, reach_of, unmoved}
+use Rattle.edit_patch.proofs.TokenPlaces.{length-at_places}
 use Rattle.inlay_map.specs.Met as inlays
 use Rattle.inlay_map.specs.Met.{AddedTouches, RemovedTouches, ReplacedTouches, TouchesRowOf, TouchesRows}
 use Rattle.inlay_map.specs.InlaidShifts.{inlaid_shift, inlay_shift}

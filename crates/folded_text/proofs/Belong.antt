@@ -15,8 +15,8 @@ use Rattle.cell_units.specs.Record.{Fold, Inlay, inlay_le}
 use Rattle.cell_units.specs.Sorting.{insert_by}
 use Rattle.cell_units.proofs.ShownPlaces.{places-left_first}
 use Rattle.cell_units.proofs.TextLaws.{tells_boundaries}
-use Rattle.shifted_lists.specs.Covering.{covering, with_pending}
-use Rattle.shifted_lists.specs.Leads.{Reach}
+use Rattle.edit_patch.specs.Covering.{covering, with_pending}
+use Rattle.edit_patch.specs.Leads.{Reach}
 use Rattle.inlay_map.specs.InlaidShifts.{inlay_shift}
 use Rattle.inlay_map.specs.Kept.{IsInlaid}
 use Rattle.inlay_map.specs.Maps as inlaid

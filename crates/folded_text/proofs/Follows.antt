@@ -9,8 +9,8 @@ use Rattle.cell_units.specs.declared.place.Bias.TheVariants.{Right}
 use Rattle.cell_units.specs.declared.place.Shift.{Shift}
 use Rattle.cell_units.specs.Lawful.{AreFolds, IsWellFormed}
 use Rattle.cell_units.specs.Layers.{Source, unfolded}
-use Rattle.shifted_lists.specs.LayerLeads.{LayerLeads, layer_places}
-use Rattle.shifted_lists.specs.Leads.{LeadsIfAny, Reach, reach_of, unmoved}
+use Rattle.edit_patch.specs.LayerLeads.{LayerLeads, layer_places}
+use Rattle.edit_patch.specs.Leads.{LeadsIfAny, Reach, reach_of, unmoved}
 use Rattle.inlay_map.specs.InlaidShifts.{inlaid_shift}
 use Rattle.inlay_map.specs.Kept.{IsInlaid}
 use Rattle.inlay_map.specs.Maps as inlaid

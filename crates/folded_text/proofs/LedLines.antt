@@ -14,9 +14,9 @@ use Rattle.cell_units.proofs.ReplacedRows.{row_of-le}
 use Rattle.cell_units.proofs.ShownText.{folded_is}
 use Rattle.cell_units.proofs.SortedLists.{count-cons}
 use Rattle.cell_units.proofs.Sources.{ends_open, row-lt}
-use Rattle.shifted_lists.specs.LayerLeads.{LayerLeads, layer_places, token_after, token_places}
-use Rattle.shifted_lists.specs.Leads.{LeadsAt, Reach, reach_of}
-use Rattle.shifted_lists.proofs.TokenPlaces.{at_places}
+use Rattle.edit_patch.specs.LayerLeads.{LayerLeads, layer_places, token_after, token_places}
+use Rattle.edit_patch.specs.Leads.{LeadsAt, Reach, reach_of}
+use Rattle.edit_patch.proofs.TokenPlaces.{at_places}
 use Rattle.tab_map.specs.TabLines.{LinesFollow, line_texts}
 use Rattle.folded_text.proofs.PlaceTexts.{places-flipped, texts-lead, tokens-of}
 

@@ -8,9 +8,9 @@ use Rattle.cell_units.specs.Folded.{folded_to}
 use Rattle.cell_units.specs.Inlaid.{Byte, Hidden, InlayByte, Token, bytes_of}
 use Rattle.cell_units.specs.declared.place.Bias.TheVariants.{Right}
 use Rattle.cell_units.specs.Layers.{Source, shown_text}
-use Rattle.shifted_lists.specs.LayerLeads.{LayerLeads, token_after, token_places}
-use Rattle.shifted_lists.specs.Leads.{LeadsAt, Reach}
-use Rattle.shifted_lists.proofs.TokenPlaces.{at_places, length-at_places}
+use Rattle.edit_patch.specs.LayerLeads.{LayerLeads, token_after, token_places}
+use Rattle.edit_patch.specs.Leads.{LeadsAt, Reach}
+use Rattle.edit_patch.proofs.TokenPlaces.{at_places, length-at_places}
 
 -- ---- from the front
 

@@ -7,9 +7,9 @@ use Rattle.cell_units.specs.Lawful.{IsWellFormed}
 use Rattle.cell_units.specs.Layers.{Source, inlay_source, place_of, shown_text}
 use Rattle.cell_units.specs.Record.{Inlay}
 use Rattle.cell_units.proofs.ShownPlaces.{places-left_first}
-use Rattle.shifted_lists.specs.Covering.{covering, with_pending}
-use Rattle.shifted_lists.specs.LayerLeads.{LayerLeads, token_after}
-use Rattle.shifted_lists.specs.Leads.{Leads, Reach}
+use Rattle.edit_patch.specs.Covering.{covering, with_pending}
+use Rattle.edit_patch.specs.LayerLeads.{LayerLeads, token_after}
+use Rattle.edit_patch.specs.Leads.{Leads, Reach}
 use Rattle.inlay_map.specs.InlaidShifts.{inlaid_shift}
 use Rattle.inlay_map.specs.Maps.{InlayState, answer_of, source_after}
 use Rattle.inlay_map.proofs.MapStates.{source-is}

@@ -21,7 +21,7 @@ use Rattle.cell_units.proofs.Sources.{ends_open}
 use Rattle.plain_rows.proofs.LawfulSources.{lawful_source}
 use Rattle.plain_rows.proofs.ShownSizes.{folded-size, size, size-append}
 use Rattle.text_rope.specs.Edits.{IsRange}
-use Rattle.shifted_lists.specs.Leads.{LeadsIfAny, Reach, unmoved}
+use Rattle.edit_patch.specs.Leads.{LeadsIfAny, Reach, unmoved}
 use Rattle.inlay_map.specs.Maps as inlaid
 use Rattle.inlay_map.proofs.ReplacedTexts.{IsTold, told, told-leads, told-stand}
 use Rattle.fold_map.specs.Snapshots.{PlacesFit}

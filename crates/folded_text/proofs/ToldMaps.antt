@@ -13,8 +13,8 @@ use Rattle.cell_units.proofs.LawfulOperations.{lawful-operated}
 use Rattle.cell_units.proofs.PlainLayers.{no_entries}
 use Rattle.cell_units.proofs.ShownPlaces.{place-le}
 use Rattle.cell_units.specs.declared.limits.TheConstants.{LAID_LIMIT}
-use Rattle.shifted_lists.specs.LayerLeads.{LayerLeads}
-use Rattle.shifted_lists.specs.Leads.{Reach, reach_of}
+use Rattle.edit_patch.specs.LayerLeads.{LayerLeads}
+use Rattle.edit_patch.specs.Leads.{Reach, reach_of}
 use Rattle.inlay_map.specs.InlaidShifts.{inlaid_shift}
 use Rattle.inlay_map.specs.Maps as inlaid
 use Rattle.fold_map.specs.Maps.{FoldState}

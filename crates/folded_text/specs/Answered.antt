@@ -9,8 +9,8 @@ use Rattle.cell_units.specs.Record.{Fold, Inlay, Record}
 use Rattle.cell_units.specs.Text.{clean}
 use Rattle.cell_units.specs.Touched.{EachLine, NoLine, Rows, Touched, touched}
 use Rattle.cell_units.specs.declared.limits.TheConstants.{LAID_LIMIT}
-use Rattle.shifted_lists.specs.LayerLeads.{LayerLeads}
-use Rattle.shifted_lists.specs.Leads.{Reach, reach_of}
+use Rattle.edit_patch.specs.LayerLeads.{LayerLeads}
+use Rattle.edit_patch.specs.Leads.{Reach, reach_of}
 use Rattle.inlay_map.specs.Maps as inlaid
 use Rattle.inlay_map.specs.Maps.{InlayState, added, removed}
 use Rattle.fold_map.specs.Maps.{FoldState, folded_up, opened_up, state_of}

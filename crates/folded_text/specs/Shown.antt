@@ -4,8 +4,8 @@ use Rattle.std.specs.Str.{IsUtf8}
 use Rattle.cell_units.specs.Layers.{Source, plain_source, unfolded}
 use Rattle.cell_units.specs.Operation.{replaced_text}
 use Rattle.text_rope.specs.Edits.{IsRange}
-use Rattle.shifted_lists.specs.LayerLeads.{LayerLeads}
-use Rattle.shifted_lists.specs.Leads.{Reach}
+use Rattle.edit_patch.specs.LayerLeads.{LayerLeads}
+use Rattle.edit_patch.specs.Leads.{Reach}
 use Rattle.inlay_map.specs.Maps as inlaid
 use Rattle.inlay_map.specs.Maps.{InlayState}
 use Rattle.fold_map.specs.Maps.{FoldState}

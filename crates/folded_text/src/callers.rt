@@ -1,6 +1,6 @@
 //! The caller that the page of the fold map shows.
 ghost use Rattle.std.specs.Prelude.{◌≡◌, ◌≤◌, option_map, IfOk, OnErr, OnOk};
-ghost use Rattle.shifted_lists.specs.Leads.{reach_of};
+ghost use Rattle.edit_patch.specs.Leads.{reach_of};
 ghost use Rattle.folded_text.specs.Shown.{BelongTogether, IsReplacedIfAny, IsShown, folds_shown, inlays_shown};
 
 use cell_units::{Layer, NoMemory, Shift, Steps};

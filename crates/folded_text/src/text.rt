@@ -11,7 +11,7 @@ ghost use Rattle.inlay_map.specs.Maps.{add_refusal, added, inlay_with, remove_re
 ghost use Rattle.fold_map.specs.Maps as folded;
 ghost use Rattle.fold_map.specs.Maps.{fold_with, folded_up, opened_up};
 ghost use Rattle.fold_map.specs.Snapshots.{fold_refusal, unfold_refusal};
-ghost use Rattle.shifted_lists.specs.Leads.{reach_of};
+ghost use Rattle.edit_patch.specs.Leads.{reach_of};
 ghost use Rattle.folded_text.specs.Shown.{BelongTogether, IsReplacedIfAny, IsShown, folds_shown, inlays_shown, no_folds, no_inlays, put_at};
 
 use crate::callers::show;

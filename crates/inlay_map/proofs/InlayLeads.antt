@@ -15,9 +15,9 @@ use Rattle.cell_units.specs.Folded.{shown}
 use Rattle.cell_units.proofs.Moves.{move_token, move-above}
 use Rattle.cell_units.proofs.SortedLists.{IsSorted}
 use Rattle.cell_units.proofs.ShownMoved.{show_each-moved, inlays_before, inlays_behind}
-use Rattle.shifted_lists.proofs.TokenPlaces.{at_places, length-at_places}
-use Rattle.shifted_lists.specs.LayerLeads.{LayerLeads, token_after, token_places, layer_places, shown_shift, shown_between}
-use Rattle.shifted_lists.specs.Leads.{Leads, Reach}
+use Rattle.edit_patch.proofs.TokenPlaces.{at_places, length-at_places}
+use Rattle.edit_patch.specs.LayerLeads.{LayerLeads, token_after, token_places, layer_places, shown_shift, shown_between}
+use Rattle.edit_patch.specs.Leads.{Leads, Reach}
 use Rattle.inlay_map.specs.InlaidShifts.{inlaid_shift, inlay_shift}
 use Rattle.inlay_map.proofs.LayerLeads.{shown_left, shown_right, shown_behind, right-parts, same-front, leads-inlaid}
 

@@ -5,9 +5,9 @@ use Rattle.cell_units.specs.Inlaid.{Token, Byte, inlays_at, show_each}
 use Rattle.cell_units.specs.Record.{Inlay}
 use Rattle.cell_units.specs.Folded.{shown}
 use Rattle.cell_units.proofs.ShownMoved.{show_each-append, show_each-same}
-use Rattle.shifted_lists.proofs.TokenPlaces.{at_places, leads-by_parts}
-use Rattle.shifted_lists.specs.LayerLeads.{token_places}
-use Rattle.shifted_lists.specs.Leads.{Leads, Reach}
+use Rattle.edit_patch.proofs.TokenPlaces.{at_places, leads-by_parts}
+use Rattle.edit_patch.specs.LayerLeads.{token_places}
+use Rattle.edit_patch.specs.Leads.{Leads, Reach}
 
 module _ (inlays : List Inlay) where
   -- what a text shows before the inlays at its end, and behind them

@@ -22,11 +22,11 @@ use Rattle.cell_units.proofs.EntryOrders.{inlay_total, inlay_trans}
 use Rattle.cell_units.proofs.ShownMoved.{inlays_before, show_each-same}
 use Rattle.cell_units.proofs.SortedLists.{count-cons}
 use Rattle.cell_units.proofs.ShownPlaces.{places-left_first, places-rise}
-use Rattle.shifted_lists.proofs.CoverLeads.{covers, sum-fits}
-use Rattle.shifted_lists.proofs.TokenPlaces.{length-at_places}
-use Rattle.shifted_lists.specs.Covering.{CoverFits, with_pending}
-use Rattle.shifted_lists.specs.LayerLeads.{LayerLeads, layer_places}
-use Rattle.shifted_lists.specs.Leads.{Leads, LeadsIfAny, Reach, reach_of, unmoved}
+use Rattle.edit_patch.proofs.CoverLeads.{covers, sum-fits}
+use Rattle.edit_patch.proofs.TokenPlaces.{length-at_places}
+use Rattle.edit_patch.specs.Covering.{CoverFits, with_pending}
+use Rattle.edit_patch.specs.LayerLeads.{LayerLeads, layer_places}
+use Rattle.edit_patch.specs.Leads.{Leads, LeadsIfAny, Reach, reach_of, unmoved}
 use Rattle.inlay_map.specs.Kept.{IsKept}
 use Rattle.inlay_map.specs.InlaidShifts.{inlaid_shift, inlay_shift}
 use Rattle.inlay_map.specs.Maps.{add_refusal, shift_after, source_after}

@@ -21,7 +21,7 @@ use Rattle.cell_units.proofs.Sources.{ends_open, lines-are, row-lt}
 use Rattle.cell_units.proofs.ShownText.{EndsOpen}
 use Rattle.splice_tree.specs.Splices.{flipped, to_lower}
 use Rattle.splice_tree.proofs.LawProofs.{dont_fall}
-use Rattle.shifted_lists.specs.Leads.{Leads, Reach, unmoved}
+use Rattle.edit_patch.specs.Leads.{Leads, Reach, unmoved}
 use Rattle.inlay_map.specs.InlaidShifts.{inlaid_shift, inlay_shift}
 use Rattle.inlay_map.specs.Maps.{source_after}
 use Rattle.inlay_map.specs.Met.{MeetsLine, MeetsRow, MeetsRows, TouchesRows}

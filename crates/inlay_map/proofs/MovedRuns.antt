@@ -10,7 +10,7 @@ use Rattle.cell_units.specs.Operation.{move_inlay, moved_inlays}
 use Rattle.cell_units.specs.Record.{Inlay, inlay_le}
 use Rattle.mark_tree.proofs.Sorting as sorting
 use Rattle.splice_tree.specs.Splices.{with_first_gap}
-use Rattle.shifted_lists.specs.Leads.{Leads, reach_of, unmoved}
+use Rattle.edit_patch.specs.Leads.{Leads, reach_of, unmoved}
 use Rattle.inlay_map.specs.declared.amount.Amount.{Amount}
 use Rattle.inlay_map.specs.Bounds.{met}
 use Rattle.inlay_map.specs.Splices.{splices_from}

@@ -18,7 +18,7 @@ use Rattle.cell_units.proofs.SortedLists.{IsSorted}
 use Rattle.mark_tree.proofs.Moved.{move-before, move-behind, move-within}
 use Rattle.mark_tree.proofs.Sorting as sorting
 use Rattle.splice_tree.specs.Splices.{with_first_gap}
-use Rattle.shifted_lists.specs.Leads.{Leads, reach_of, unmoved}
+use Rattle.edit_patch.specs.Leads.{Leads, reach_of, unmoved}
 use Rattle.inlay_map.specs.declared.amount.Amount.{Amount}
 use Rattle.inlay_map.specs.Splices.{base_at, splice_of, splices_from}
 use Rattle.inlay_map.proofs.ShownFeeds.{count-between}

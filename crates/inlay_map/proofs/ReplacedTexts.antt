@@ -11,7 +11,7 @@ use Rattle.cell_units.proofs.Entries.{entries-moved}
 use Rattle.cell_units.proofs.EntryOrders.{inlay_total, inlay_trans}
 use Rattle.cell_units.proofs.MovedBoundaries.{boundary-moved}
 use Rattle.text_rope.specs.Edits.{IsRange}
-use Rattle.shifted_lists.specs.Leads.{Leads, Reach, unmoved}
+use Rattle.edit_patch.specs.Leads.{Leads, Reach, unmoved}
 
 -- s took the place of [a, b) of the text
 module _ (text s : List ℕ) (a b : ℕ) (range : IsRange text a b) where

@@ -11,7 +11,7 @@ use Rattle.cell_units.specs.Record.{Inlay}
 use Rattle.cell_units.proofs.SortedLists.{count-cons}
 use Rattle.mark_tree.specs.declared.mark.Mark.{Mark}
 use Rattle.mark_tree.specs.Marks.{is_met}
-use Rattle.shifted_lists.specs.Leads.{reach_of}
+use Rattle.edit_patch.specs.Leads.{reach_of}
 use Rattle.splice_tree.specs.Bounds.{splicing}
 use Rattle.inlay_map.specs.Bounds.{met}
 use Rattle.inlay_map.specs.Splices.{inlay_of}

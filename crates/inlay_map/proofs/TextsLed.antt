@@ -2,7 +2,7 @@
 use Rattle.std.proofs.Common.{◌≡◌, ℕ, ◌≤◌, List, ◌++◌, take, drop, sym, ap, ◌∙◌, arith}
 use Rattle.std.proofs.lemmas.List.{drop-drop, take-append-drop}
 use Rattle.cell_units.specs.Operation.{replaced_text}
-use Rattle.shifted_lists.specs.Leads.{Leads, Reach, unmoved}
+use Rattle.edit_patch.specs.Leads.{Leads, Reach, unmoved}
 
 -- the text that a replacement leads to
 pub text-led : (s : Reach) (old new : List ℕ) → s.start ≤ s.end → Leads unmoved old new s → new ≡ replaced_text old s.start s.end (take s.count (drop s.start new))

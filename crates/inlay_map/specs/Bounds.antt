@@ -4,7 +4,7 @@ use Rattle.std.specs.Prelude.{ℕ, ◌+◌, ◌*◌, ◌&&◌, ◌^◌, ◌<◌,
 use Rattle.cell_units.specs.Layers.{Source}
 use Rattle.cell_units.specs.Record.{Inlay}
 use Rattle.text_rope.specs.Ropes.{HasHeight}
-use Rattle.shifted_lists.specs.Leads.{Reach}
+use Rattle.edit_patch.specs.Leads.{Reach}
 
 -- neither the tree of the text nor that of n inlays is higher
 abbrev pub IsHeight : ℕ → List ℕ → ℕ → Type 0

@@ -1,8 +1,8 @@
 -- What a change of the text or of the inlays replaces of what is shown.
 use Rattle.std.specs.Prelude.{ℕ, ◌+◌}
 use Rattle.cell_units.specs.Layers.{Source}
-use Rattle.shifted_lists.specs.LayerLeads.{shown_between, shown_shift}
-use Rattle.shifted_lists.specs.Leads.{Reach}
+use Rattle.edit_patch.specs.LayerLeads.{shown_between, shown_shift}
+use Rattle.edit_patch.specs.Leads.{Reach}
 
 -- What a replacement of the text replaces of what is shown: also the inlays at both its ends.
 abbrev pub inlaid_shift : Source → Source → Reach → Reach

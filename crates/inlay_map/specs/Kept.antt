@@ -4,8 +4,8 @@ use Rattle.cell_units.specs.declared.limits.TheConstants.{LAID_LIMIT}
 use Rattle.cell_units.specs.Lawful.{AreInlays}
 use Rattle.cell_units.specs.Layers.{Source}
 use Rattle.cell_units.specs.Text.{IsText}
-use Rattle.shifted_lists.specs.LayerLeads.{LayerLeads}
-use Rattle.shifted_lists.specs.Leads.{Reach}
+use Rattle.edit_patch.specs.LayerLeads.{LayerLeads}
+use Rattle.edit_patch.specs.Leads.{Reach}
 
 -- A text within the limit of what is kept that has no carriage return, with inlays that fit it and without folds.
 pub record IsInlaid (s : Source) : Type 0 where

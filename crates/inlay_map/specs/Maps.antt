@@ -13,9 +13,9 @@ use Rattle.cell_units.specs.Record.{Inlay, inlay_le}
 use Rattle.cell_units.specs.Sorting.{insert_by}
 use Rattle.cell_units.specs.Operation.{moved_inlays, without_inlay}
 use Rattle.cell_units.specs.Layers.{Source, inlay_source, plain_source, shown_text}
-use Rattle.shifted_lists.specs.Covering.{with_pending}
-use Rattle.shifted_lists.specs.LayerLeads.{LayerLeads}
-use Rattle.shifted_lists.specs.Leads.{Reach}
+use Rattle.edit_patch.specs.Covering.{with_pending}
+use Rattle.edit_patch.specs.LayerLeads.{LayerLeads}
+use Rattle.edit_patch.specs.Leads.{Reach}
 use Rattle.inlay_map.specs.InlaidShifts.{inlaid_shift, inlay_shift}
 
 -- The text with its inlays as they are now, what the last snapshot showed, and the replacement that leads from that to now.

@@ -8,7 +8,7 @@ use Rattle.cell_units.specs.Operation.{without_inlay}
 use Rattle.cell_units.specs.Record.{Inlay, inlay_le}
 use Rattle.cell_units.specs.Sorting.{insert_by}
 use Rattle.cell_units.specs.Touched.{RowRange, row_range}
-use Rattle.shifted_lists.specs.Leads.{Leads, Reach, unmoved}
+use Rattle.edit_patch.specs.Leads.{Leads, Reach, unmoved}
 use Rattle.inlay_map.specs.InlaidShifts.{inlaid_shift, inlay_shift}
 use Rattle.inlay_map.specs.Maps.{source_after}
 

@@ -7,7 +7,7 @@ ghost use Rattle.cell_units.specs.BufferLines.{line_end, line_start};
 ghost use Rattle.cell_units.specs.Record.{Inlay, inlay_le, line_count};
 ghost use Rattle.cell_units.specs.Sorting.{insert_by};
 ghost use Rattle.splice_tree.specs.Splices.{with_first_gap};
-ghost use Rattle.shifted_lists.specs.Leads.{reach_of};
+ghost use Rattle.edit_patch.specs.Leads.{reach_of};
 ghost use Rattle.inlay_map.specs.declared.amount.Amount.{Amount};
 ghost use Rattle.cell_units.specs.Text.{IsBoundary, clean, row_end, row_of, row_start};
 ghost use Rattle.cell_units.specs.declared.limits.TheConstants.{INLAY_LIMIT};

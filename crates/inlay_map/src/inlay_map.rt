@@ -5,7 +5,7 @@ ghost use Rattle.cell_units.specs.Layers.{inlay_source};
 ghost use Rattle.cell_units.specs.Record.{Inlay};
 ghost use Rattle.sum_tree.specs.Bounds.{ChangesAtMost};
 ghost use Rattle.text_rope.specs.Bounds.{ways};
-ghost use Rattle.shifted_lists.specs.Leads.{Leads, LeadsIfAny, reach_of, unmoved};
+ghost use Rattle.edit_patch.specs.Leads.{Leads, LeadsIfAny, reach_of, unmoved};
 ghost use Rattle.inlay_map.specs.Bounds.{SearchesOnce, TakesInlaid, changing, met, met_by, syncing};
 ghost use Rattle.inlay_map.specs.Kept.{IsInlaid};
 ghost use Rattle.inlay_map.specs.Maps.{DifferAt, IsOwed, IsSynced, StandAfter, add_refusal, added, answer_of, inlay_with, remove_refusal, removed, source_after, state_of, synced, with_inlays};
@@ -13,8 +13,8 @@ ghost use Rattle.inlay_map.specs.Maps.{DifferAt, IsOwed, IsSynced, StandAfter, a
 use crate::inlay_text::InlayText;
 use crate::snapshot::InlaySnapshot;
 use cell_units::{Bias, Fault, NoMemory, Refusal, Shift, Steps};
+use edit_patch::with_pending;
 use mark_tree::Mark;
-use shifted_lists::with_pending;
 use std::alloc::Global;
 use std::marker::Model;
 use text_rope::Rope;
@@ -38,7 +38,7 @@ impl Drop for InlayMap {
 
 impl Model for InlayMap {
     ghost use Rattle.std.specs.Prelude.{option_map};
-    ghost use Rattle.shifted_lists.specs.Leads.{reach_of};
+    ghost use Rattle.edit_patch.specs.Leads.{reach_of};
     ghost use Rattle.inlay_map.specs.Maps.{InlayState};
     ghost use Rattle.inlay_map.specs.Kept.{IsKept};
 

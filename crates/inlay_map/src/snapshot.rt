@@ -8,7 +8,7 @@ ghost use Rattle.cell_units.specs.Record.{Inlay, inlay_le};
 ghost use Rattle.cell_units.specs.Sorting.{insert_by};
 ghost use Rattle.sum_tree.specs.Bounds.{ChangesAtMost, Searches, TakesAtMost, way};
 ghost use Rattle.text_rope.specs.Bounds.{ways};
-ghost use Rattle.shifted_lists.specs.Leads.{Leads, reach_of, unmoved};
+ghost use Rattle.edit_patch.specs.Leads.{Leads, reach_of, unmoved};
 ghost use Rattle.inlay_map.specs.Bounds.{SearchesOnce, TakesAmong, TakesInlaid, met, putting, relaying};
 ghost use Rattle.inlay_map.specs.InlaidShifts.{inlaid_shift, inlay_shift};
 ghost use Rattle.inlay_map.specs.Kept.{IsInlaid};

@@ -20,7 +20,7 @@ use Rattle.cell_line.specs.declared.element.Element.{Element}
 use Rattle.cell_line.specs.Elements.{bytes_in, elements_of}
 use Rattle.cell_line.specs.Lines.{FitsU32, LineFitsU32}
 use Rattle.cell_line.proofs.CellBounds.{length-elements_of, total_cells-le}
-use Rattle.shifted_lists.specs.Leads.{LeadsAt}
+use Rattle.edit_patch.specs.Leads.{LeadsAt}
 use Rattle.tab_map.specs.TabLines.{LiesWithin, LinesFollow, line_texts, lines_at}
 use Rattle.tab_map.proofs.TabLemmas.{leads-map}
 

@@ -13,7 +13,7 @@ use Rattle.cell_units.proofs.ReplacedRows.{row_of-le}
 use Rattle.cell_units.proofs.Sources.{row-lt}
 use Rattle.cell_line.specs.declared.element.Element.{Element}
 use Rattle.cell_line.specs.Elements.{clusters, elements_of, placed}
-use Rattle.shifted_lists.specs.Leads.{LeadsAt, LeadsBy}
+use Rattle.edit_patch.specs.Leads.{LeadsAt, LeadsBy}
 use Rattle.tab_map.specs.TabLines.{AreReplaced, IsShift, LiesWithin, LinesFollow, first_met, line_texts, lines_at, new_reach, old_reach}
 
 -- ---- elements by texts

@@ -5,7 +5,7 @@ use Rattle.cell_units.specs.Layers.{Source, shown_lines, shown_text}
 use Rattle.cell_units.specs.Text.{row_of}
 use Rattle.cell_line.specs.declared.element.Element.{Element}
 use Rattle.cell_line.specs.Elements.{elements_of}
-use Rattle.shifted_lists.specs.Leads.{LeadsAt, LeadsBy}
+use Rattle.edit_patch.specs.Leads.{LeadsAt, LeadsBy}
 
 -- the elements of each line of a layer at a tab size
 abbrev pub lines_at : Source → ℕ → List (List Element)

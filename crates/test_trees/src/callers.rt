@@ -13,6 +13,7 @@ use crate::rope_looks::shows;
 use crate::weights::Weight;
 use cell_line::Lines;
 use cell_units::{Bias, Layer, NoMemory, Shift, Steps};
+use edit_patch::{covering, with_pending};
 use mark_tree::MarkTree;
 use splice_tree::{ByBytes, Bytes, NoLoad, Splice, SpliceTree};
 use std::alloc::Global;
@@ -31,6 +32,17 @@ fn composes_across_an_edge(rt: HostRuntime) -> Result<(), Fail> {
     assert_eq!(rt; both.edits(), [edit(2, 5, 2, 3)].as_slice());
     let back = both.invert(rt.alloc())?;
     assert_eq!(rt; back.edits(), [edit(2, 3, 2, 5)].as_slice());
+    Ok(())
+}
+
+/// Three bytes at 4 and then one at 2: what was from 2 to 4 has become six bytes.
+#[test]
+fn covers_what_either_replaced(rt: HostRuntime) -> Result<(), Fail> {
+    let inlay = Shift::new(4, 4, 3);
+    let letter = Shift::new(2, 2, 1);
+    assert_eq!(rt; covering(inlay, letter), Shift::new(2, 4, 6));
+    assert_eq!(rt; with_pending(Some(inlay), letter), Shift::new(2, 4, 6));
+    assert_eq!(rt; with_pending(None, letter), letter);
     Ok(())
 }
 

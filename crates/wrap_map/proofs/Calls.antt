@@ -11,7 +11,7 @@ use Rattle.cell_units.specs.declared.place.Shift.{Shift}
 use Rattle.cell_units.specs.Lawful.{IsWidth}
 use Rattle.edit_patch.specs.declared.edit.Edit.{Edit}
 use Rattle.wrap_map.specs.Landing.{IsLanded, IsPatchOfLanded, cuts_of_run, is_landed, marks_landed, standing_landed}
-use Rattle.shifted_lists.specs.Leads.{LeadsBy}
+use Rattle.edit_patch.specs.Leads.{LeadsBy}
 use Rattle.wrap_map.specs.Standing.{HasRoom, IsStanding, IsSynced, StandSo, Standing, Wrapped, standing_after, standing_of, stood_of}
 use Rattle.wrap_map.specs.Stood.{Stood, marks_in}
 use Rattle.wrap_map.specs.inside.Changes.{AreRowsIfAny, cleared_if_any}

@@ -8,7 +8,7 @@ use Rattle.cell_line.specs.declared.element.Element.{Element}
 use Rattle.cell_line.specs.RowTexts.{later_text, parted, row_texts_of, texts_of_parts}
 use Rattle.cell_line.specs.Wrapping.{cuts_of, indent_of}
 use Rattle.cell_units.specs.Rows.{all_rows, rows_before}
-use Rattle.shifted_lists.specs.Leads.{LeadsAt}
+use Rattle.edit_patch.specs.Leads.{LeadsAt}
 use Rattle.wrap_map.specs.Standing.{Standing, shown_rows, stood_of, stood_with}
 use Rattle.wrap_map.specs.Stood.{Stood, rows_in, unwrapped}
 

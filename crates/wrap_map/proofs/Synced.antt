@@ -9,7 +9,7 @@ use Rattle.cell_line.specs.Lines.{FitsU32}
 use Rattle.cell_units.specs.declared.place.Shift.{Shift}
 use Rattle.cell_units.specs.Lawful.{IsWidth}
 use Rattle.cell_units.specs.Rows.{all_rows, rows_before}
-use Rattle.shifted_lists.specs.Leads.{LeadsAt, LeadsBy}
+use Rattle.edit_patch.specs.Leads.{LeadsAt, LeadsBy}
 use Rattle.wrap_map.specs.Standing.{AreReplaced, AreRowsOf, HasRoom, IsStanding, IsSynced, Standing, Wrapped, all_at, shown_rows, standing_after, stood_of}
 use Rattle.wrap_map.specs.Stood.{Stood, marks_in, rows_in}
 use Rattle.wrap_map.specs.inside.Changes.{AreRowsIfAny, AreRowsIn, cleared, cleared_if_any}

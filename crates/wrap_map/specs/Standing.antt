@@ -9,7 +9,7 @@ use Rattle.cell_units.specs.declared.place.Shift.{Shift}
 use Rattle.cell_units.specs.Lawful.{IsWidth}
 use Rattle.cell_units.specs.Rows.{all_rows, rows_before}
 use Rattle.cell_line.specs.declared.lines.MarkRun.{MarkRun}
-use Rattle.shifted_lists.specs.Leads.{LeadsBy}
+use Rattle.edit_patch.specs.Leads.{LeadsBy}
 use Rattle.wrap_map.specs.Stood.{Stood, marks_in}
 
 -- lines, and the mark of each: the width at which it stands wrapped, 0 where it stands in one row

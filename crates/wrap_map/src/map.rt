@@ -7,7 +7,7 @@ ghost use Rattle.cell_units.specs.Rows.{all_rows};
 ghost use Rattle.edit_patch.specs.Fits.{Fits};
 ghost use Rattle.sum_tree.specs.Bounds.{ChangesAtMost, TakesAtMost};
 ghost use Rattle.wrap_map.specs.Bounds.{beginning, finding, landing, syncing};
-ghost use Rattle.shifted_lists.specs.Leads.{LeadsBy};
+ghost use Rattle.edit_patch.specs.Leads.{LeadsBy};
 ghost use Rattle.wrap_map.specs.Items.{items_of};
 ghost use Rattle.wrap_map.specs.Landing.{IsLanded, cuts_of_run, standing_landed};
 ghost use Rattle.wrap_map.specs.Standing.{HasRoom, IsSynced, all_at, shown_rows, standing_after};

@@ -7,7 +7,7 @@ use Rattle.edit_patch.specs.Fits.{Fits, replacement}
 use Rattle.edit_patch.specs.Patch.{AllFit, IsComposed, IsPatch}
 use Rattle.edit_patch.proofs.Fitting.{fits-composed, fits-none, fits-u32}
 use Rattle.edit_patch.proofs.Replacing.{fits-replacement, replacement-patch}
-use Rattle.shifted_lists.specs.Leads.{LeadsAt, LeadsBy}
+use Rattle.edit_patch.specs.Leads.{LeadsAt, LeadsBy}
 use Rattle.wrap_map.proofs.Standings.{leads-parts, put-in}
 use Rattle.wrapped_text.specs.Shown.{patch_of}
 

@@ -8,7 +8,7 @@ use Rattle.cell_units.specs.Operation.{replaced_text}
 use Rattle.cell_units.specs.Text.{row_of}
 use Rattle.cell_units.proofs.PlainLayers.{text_of_plain}
 use Rattle.cell_units.proofs.ReplacedRows.{length-replaced_text}
-use Rattle.shifted_lists.specs.Leads.{LeadsBy}
+use Rattle.edit_patch.specs.Leads.{LeadsBy}
 use Rattle.tab_map.specs.TabLines.{AreMet, AreReplaced, IsSynced, LinesFollow, Tabbed, last_lines, lines_at}
 use Rattle.tab_map.proofs.PlainTexts.{plain-few, plain-fits, plain-follow}
 use Rattle.text_rope.specs.Edits.{IsRange, IsReplaceFault}

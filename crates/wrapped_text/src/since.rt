@@ -1,7 +1,7 @@
 //! What became of lines since a run of them was taken.
 ghost use Rattle.std.specs.Prelude.{◌≡◌, ◌+◌, ◌^◌, ◌<◌, IfOk, IfSome};
 ghost use Rattle.edit_patch.specs.Fits.{Fits};
-ghost use Rattle.shifted_lists.specs.Leads.{LeadsBy};
+ghost use Rattle.edit_patch.specs.Leads.{LeadsBy};
 ghost use Rattle.wrapped_text.specs.Shown.{patch_of};
 
 use cell_line::Lines;

@@ -7,7 +7,7 @@ use Rattle.cell_units.proofs.PlainLayers.{plain_well_formed}
 use Rattle.cell_units.proofs.ReplacedRows.{length-replaced_text}
 use Rattle.cell_line.specs.declared.element.Element.{Element}
 use Rattle.edit_patch.specs.declared.edit.Edit.{Edit}
-use Rattle.shifted_lists.specs.Leads.{LeadsBy}
+use Rattle.edit_patch.specs.Leads.{LeadsBy}
 use Rattle.wrap_map.specs.Standing.{Standing, shown_rows}
 use Rattle.wrapped_text.specs.Shown.{patch_of}
 use Rattle.wrapped_text.proofs.Texts.{memory-fault}

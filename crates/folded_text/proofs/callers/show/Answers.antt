@@ -1,5 +1,5 @@
 use Rattle.std.proofs.Common.{option_map, arith}
-use Rattle.shifted_lists.specs.Leads.{reach_of}
+use Rattle.edit_patch.specs.Leads.{reach_of}
 use Rattle.inlay_map.proofs.Sent.{sent}
 use Rattle.folded_text.proofs.Follows.{belong-made, follows-made, is-shown}
 use Rattle.folded_text.proofs.Texts.{inlays-stand, replaced-leads}

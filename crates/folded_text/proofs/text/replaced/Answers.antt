@@ -1,7 +1,7 @@
 use Rattle.std.proofs.Common.{◌-◌, List, ℕ, length, ap, arith}
 use Rattle.cell_units.specs.Text.{clean}
 use Rattle.cell_units.proofs.ReplacedRows.{length-replaced_text}
-use Rattle.shifted_lists.specs.Leads.{reach_of}
+use Rattle.edit_patch.specs.Leads.{reach_of}
 use Rattle.folded_text.proofs.Texts.{put-is}
 use Rattle.folded_text.proofs.text.replaced.Goals as goal
 

@@ -3,7 +3,7 @@ use Rattle.cell_units.specs.Operation.{replaced_text}
 use Rattle.cell_units.specs.Text.{clean}
 use Rattle.cell_units.proofs.Characters.{clean-utf8}
 use Rattle.text_rope.specs.Edits.{IsRange}
-use Rattle.shifted_lists.specs.Leads.{reach_of}
+use Rattle.edit_patch.specs.Leads.{reach_of}
 use Rattle.inlay_map.proofs.ReplacedTexts.{IsTold, told, told-leads, told-stand}
 use Rattle.test_inlays.proofs.callers.replace.Goals as goal
 use Rattle.test_inlays.proofs.callers.replace.Goals.{In_ok-next}

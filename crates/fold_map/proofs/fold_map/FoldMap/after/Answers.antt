@@ -1,7 +1,7 @@
 use Rattle.std.proofs.Common.{◌≡◌, ℕ, length, Option, option_map, None, Some, sym, subst}
 use Rattle.cell_units.specs.declared.place.Shift.{Shift}
 use Rattle.cell_units.specs.Layers.{Source, unfolded}
-use Rattle.shifted_lists.specs.Leads.{Reach, reach_of}
+use Rattle.edit_patch.specs.Leads.{Reach, reach_of}
 use Rattle.sum_tree.specs.Bounds.{TakesAtMost}
 use Rattle.fold_map.specs.Bounds.{folds_met, syncing}
 use Rattle.fold_map.specs.Maps.{FoldState}

@@ -1,6 +1,6 @@
 use Rattle.std.proofs.Common.{◌∙◌, option_map, None, sym, subst}
 use Rattle.cell_units.specs.Layers.{Source}
-use Rattle.shifted_lists.specs.Leads.{reach_of}
+use Rattle.edit_patch.specs.Leads.{reach_of}
 use Rattle.fold_map.specs.Maps.{IsKept}
 use Rattle.fold_map.specs.Synced.{IsSynced}
 use Rattle.fold_map.proofs.StateMaps.{kept-none}

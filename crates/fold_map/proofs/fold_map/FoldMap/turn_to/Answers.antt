@@ -1,8 +1,8 @@
 use Rattle.std.proofs.Common.{◌∙◌, ◌+◌, ◌*◌, ◌^◌, ◌<◌, length, Option, option_map, Some, ap, sym, subst}
 use Rattle.cell_units.specs.Layers.{Source}
 use Rattle.joined_folds.specs.Sweeps.{fold_of}
-use Rattle.shifted_lists.specs.Covering.{CoverFits, with_pending}
-use Rattle.shifted_lists.specs.Leads.{Reach, reach_of}
+use Rattle.edit_patch.specs.Covering.{CoverFits, with_pending}
+use Rattle.edit_patch.specs.Leads.{Reach, reach_of}
 use Rattle.fold_map.specs.Maps.{DifferWithin, FoldState, IsKept, fold_change}
 use Rattle.fold_map.proofs.StateMaps.{kept-turned, ordered-pending, turned-fits}
 use Rattle.fold_map.proofs.fold_map.FoldMap.turn_to.Goals as goal

@@ -5,7 +5,7 @@ use Rattle.cell_units.specs.Layers.{Source, shown_text, unfolded}
 use Rattle.cell_units.specs.Record.{Fold}
 use Rattle.cell_units.specs.Text.{IsBoundary}
 use Rattle.joined_folds.specs.Sweeps.{fold_of}
-use Rattle.shifted_lists.specs.Leads.{LeadsIfAny, reach_of, unmoved}
+use Rattle.edit_patch.specs.Leads.{LeadsIfAny, reach_of, unmoved}
 use Rattle.fold_map.specs.declared.met.Change.{Change}
 use Rattle.fold_map.specs.Changes.{IsChange}
 use Rattle.fold_map.specs.Replaced.{shown_change}

@@ -6,7 +6,7 @@ use Rattle.cell_units.specs.Operation.{moved_folds}
 use Rattle.cell_units.specs.Record.{Fold}
 use Rattle.joined_folds.specs.Sweeps.{fold_of}
 use Rattle.mark_tree.specs.declared.mark.RangeMark.{RangeMark}
-use Rattle.shifted_lists.specs.Leads.{reach_of}
+use Rattle.edit_patch.specs.Leads.{reach_of}
 use Rattle.fold_map.specs.Synced.{folds_after}
 use Rattle.fold_map.proofs.StateMoved.{moved-ranges}
 use Rattle.fold_map.proofs.StateOver.{moved-fit}

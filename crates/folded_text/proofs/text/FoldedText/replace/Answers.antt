@@ -1,7 +1,7 @@
 use Rattle.std.proofs.Common.{ℕ, List, Some, option_map, subst, sym}
 use Rattle.cell_units.proofs.Characters.{clean-utf8}
 use Rattle.cell_units.specs.Text.{clean}
-use Rattle.shifted_lists.specs.Leads.{Reach, reach_of}
+use Rattle.edit_patch.specs.Leads.{Reach, reach_of}
 use Rattle.folded_text.proofs.Texts.{is-replaced}
 use Rattle.folded_text.specs.Shown.{IsShown}
 use Rattle.folded_text.proofs.text.FoldedText.replace.Goals as goal

@@ -6,7 +6,7 @@ use Rattle.cell_units.specs.Operation.{moved_inlays}
 use Rattle.cell_units.specs.Text.{IsBoundary}
 use Rattle.mark_tree.specs.declared.mark.Mark.{Mark}
 use Rattle.mark_tree.specs.Marks.{is_met, move_mark, moved_marks}
-use Rattle.shifted_lists.specs.Leads.{reach_of}
+use Rattle.edit_patch.specs.Leads.{reach_of}
 use Rattle.inlay_map.specs.Splices.{inlay_of}
 use Rattle.inlay_map.proofs.InlayMarks.{moved-marks}
 use Rattle.inlay_map.proofs.MovedInlays.{marks-are, offsets-fit}

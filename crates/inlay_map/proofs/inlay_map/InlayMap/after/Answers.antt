@@ -1,6 +1,6 @@
 use Rattle.std.proofs.Common.{◌+◌, ◌≤◌, ◌∙◌, Option, option_map, ap, sym, subst}
 use Rattle.cell_units.specs.declared.place.Shift.{Shift}
-use Rattle.shifted_lists.specs.Leads.{LeadsIfAny, reach_of, unmoved}
+use Rattle.edit_patch.specs.Leads.{LeadsIfAny, reach_of, unmoved}
 use Rattle.inlay_map.specs.Bounds.{met_by, syncing}
 use Rattle.inlay_map.specs.Maps.{InlayState, StandAfter, answer_of, source_after}
 use Rattle.inlay_map.proofs.MapStates.{pending-alone}

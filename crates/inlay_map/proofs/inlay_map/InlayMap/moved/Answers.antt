@@ -2,8 +2,8 @@ use Rattle.std.proofs.Common.{◌≡◌, ◌+◌, ◌*◌, ◌≤◌, ◌<◌, �
 use Rattle.cell_units.specs.declared.place.Bias.TheVariants.{Left, Right}
 use Rattle.cell_units.specs.Layers.{Source, place_of}
 use Rattle.cell_units.specs.Operation.{move_inlay}
-use Rattle.shifted_lists.specs.Covering.{with_pending}
-use Rattle.shifted_lists.specs.Leads.{Leads, Reach, reach_of, unmoved}
+use Rattle.edit_patch.specs.Covering.{with_pending}
+use Rattle.edit_patch.specs.Leads.{Leads, Reach, reach_of, unmoved}
 use Rattle.inlay_map.specs.InlaidShifts.{inlaid_shift}
 use Rattle.inlay_map.specs.Maps.{InlayState, StandAfter, answer_of, source_after}
 use Rattle.inlay_map.proofs.MapStates.{left-moved, pending-fits, places-small, shown-small, source-is}

@@ -1,6 +1,6 @@
 use Rattle.std.proofs.Common.{◌∙◌, option_map, sym, subst}
 use Rattle.cell_units.specs.Layers.{Source}
-use Rattle.shifted_lists.specs.Leads.{reach_of}
+use Rattle.edit_patch.specs.Leads.{reach_of}
 use Rattle.inlay_map.specs.Kept.{IsKept}
 use Rattle.inlay_map.proofs.inlay_map.InlayMap.share.Goals as goal
 

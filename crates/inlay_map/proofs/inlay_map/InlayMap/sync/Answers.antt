@@ -1,7 +1,7 @@
 use Rattle.std.proofs.Common.{◌∙◌, Option, option_map, None, sym, subst}
 use Rattle.cell_units.specs.Layers.{Source}
-use Rattle.shifted_lists.specs.LayerLeads.{LayerLeads}
-use Rattle.shifted_lists.specs.Leads.{LeadsIfAny, Reach, reach_of, unmoved}
+use Rattle.edit_patch.specs.LayerLeads.{LayerLeads}
+use Rattle.edit_patch.specs.Leads.{LeadsIfAny, Reach, reach_of, unmoved}
 use Rattle.inlay_map.specs.Kept.{IsKept}
 use Rattle.inlay_map.specs.Maps.{InlayState, answer_of, source_after}
 use Rattle.inlay_map.proofs.MapStates.{kept-none, leads-after, ordered-pending}

@@ -2,8 +2,8 @@ use Rattle.std.proofs.Common.{◌≡◌, ◌+◌, ◌*◌, ◌≤◌, ◌<◌, �
 use Rattle.cell_units.specs.declared.place.Bias.TheVariants.{Left, Right}
 use Rattle.cell_units.specs.Inlaid.{inlays_at}
 use Rattle.cell_units.specs.Layers.{Source, inlay_source, place_of}
-use Rattle.shifted_lists.specs.Covering.{with_pending}
-use Rattle.shifted_lists.specs.Leads.{Reach, reach_of}
+use Rattle.edit_patch.specs.Covering.{with_pending}
+use Rattle.edit_patch.specs.Leads.{Reach, reach_of}
 use Rattle.inlay_map.specs.Kept.{IsKept}
 use Rattle.inlay_map.specs.InlaidShifts.{inlay_shift}
 use Rattle.inlay_map.specs.Maps.{InlayState}

@@ -6,7 +6,7 @@ use Rattle.cell_units.specs.Record.{Inlay}
 use Rattle.cell_units.specs.Text.{IsBoundary}
 use Rattle.sum_core.specs.declared.load.NoLoad.{NoLoad}
 use Rattle.splice_tree.specs.Splices.{Piece, with_first_gap}
-use Rattle.shifted_lists.specs.Leads.{Leads, reach_of, unmoved}
+use Rattle.edit_patch.specs.Leads.{Leads, reach_of, unmoved}
 use Rattle.inlay_map.specs.declared.amount.Amount.{Amount}
 use Rattle.inlay_map.specs.Bounds.{IsHeight, met}
 use Rattle.inlay_map.specs.Splices.{splices_from}

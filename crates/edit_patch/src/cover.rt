@@ -1,8 +1,8 @@
 //! One replacement in the place of two.
 ghost use Rattle.std.specs.Prelude.{◌≡◌, Some, option_map};
 ghost use Rattle.std.specs.Option.{ForSome};
-ghost use Rattle.shifted_lists.specs.Covering.{CoverFits, covering, with_pending};
-ghost use Rattle.shifted_lists.specs.Leads.{reach_of};
+ghost use Rattle.edit_patch.specs.Covering.{CoverFits, covering, with_pending};
+ghost use Rattle.edit_patch.specs.Leads.{reach_of};
 
 use cell_units::Shift;
 

@@ -1,5 +1,5 @@
 use Rattle.std.proofs.Common.{◌≡◌, ◌+◌, ◌-◌, max, min, arith}
-use Rattle.shifted_lists.proofs.replacing.covering.Goals as goal
+use Rattle.edit_patch.proofs.cover.covering.Goals as goal
 
 pub returns : goal.returns
 returns c =

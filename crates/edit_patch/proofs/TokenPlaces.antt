@@ -5,8 +5,8 @@ use Rattle.std.proofs.lemmas.List.{length-map, map-append}
 use Rattle.std.proofs.lemmas.List.Concat.{flat_map-append}
 use Rattle.std.proofs.Math.Seq.{take-append_seam, drop-append_seam}
 use Rattle.cell_units.specs.Inlaid.{Token, bytes_of}
-use Rattle.shifted_lists.specs.LayerLeads.{token_places}
-use Rattle.shifted_lists.specs.Leads.{Leads, Reach}
+use Rattle.edit_patch.specs.LayerLeads.{token_places}
+use Rattle.edit_patch.specs.Leads.{Leads, Reach}
 
 -- what stands at the places of tokens
 abbrev pub at_places : List Token → List Token

@@ -5,7 +5,7 @@ use Rattle.cell_units.specs.Anchor.{move}
 use Rattle.cell_units.specs.Inlaid.{Token, Byte, InlayByte, Hidden, bytes_of}
 use Rattle.cell_units.specs.Folded.{folded_to}
 use Rattle.cell_units.specs.Layers.{Source, place_of}
-use Rattle.shifted_lists.specs.Leads.{LeadsIfAny, Reach}
+use Rattle.edit_patch.specs.Leads.{LeadsIfAny, Reach}
 
 -- the offset of a byte behind a replacement of the buffer's text, or before it
 abbrev pub offset_after : Option Reach → ℕ → ℕ

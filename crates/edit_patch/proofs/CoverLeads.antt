@@ -3,9 +3,9 @@ use Rattle.std.proofs.Common.{◌≡◌, ℕ, ◌+◌, ◌-◌, ◌<◌, ◌≤�
 use Rattle.std.proofs.lemmas.List.{drop-drop, drop-map, length-drop, length-map, take-take}
 use Rattle.cell_units.specs.Inlaid.{Token, Byte, InlayByte, Hidden}
 use Rattle.cell_units.specs.Layers.{Source}
-use Rattle.shifted_lists.specs.Covering.{CoverFits, CoverLeads, covering, with_pending}
-use Rattle.shifted_lists.specs.LayerLeads.{LayerLeads, layer_places, token_after}
-use Rattle.shifted_lists.specs.Leads.{Leads, Reach}
+use Rattle.edit_patch.specs.Covering.{CoverFits, CoverLeads, covering, with_pending}
+use Rattle.edit_patch.specs.LayerLeads.{LayerLeads, layer_places, token_after}
+use Rattle.edit_patch.specs.Leads.{Leads, Reach}
 
 drop-on : {X : Type 0} (m n k : ℕ) (xs : List X) → n ≤ k → k ≡ n + m → drop k xs ≡ drop m (drop n xs)
 drop-on m n k xs le e = ap (λ j. drop j xs) e ∙ sym (drop-drop m n xs)

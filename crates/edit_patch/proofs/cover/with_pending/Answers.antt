@@ -1,7 +1,7 @@
 use Rattle.std.proofs.Common.{◌∙◌, option_map, Some, ap, sym}
-use Rattle.shifted_lists.specs.Leads.{reach_of}
-use Rattle.shifted_lists.specs.Covering.{with_pending}
-use Rattle.shifted_lists.proofs.replacing.with_pending.Goals as goal
+use Rattle.edit_patch.specs.Leads.{reach_of}
+use Rattle.edit_patch.specs.Covering.{with_pending}
+use Rattle.edit_patch.proofs.cover.with_pending.Goals as goal
 
 pub returns-in-None : goal.returns-in-None
 returns-in-None c = λ i. with_pending (option_map reach_of (sym c.in-None.is i)) (Some (reach_of c.args.second))

@@ -1,8 +1,8 @@
 -- One replacement in the place of two.
 use Rattle.std.specs.Prelude.{◌+◌, ◌-◌, ◌<◌, ◌≤◌, ◌^◌, min, max, Option, Some, None}
 use Rattle.cell_units.specs.Layers.{Source}
-use Rattle.shifted_lists.specs.LayerLeads.{LayerLeads}
-use Rattle.shifted_lists.specs.Leads.{Reach}
+use Rattle.edit_patch.specs.LayerLeads.{LayerLeads}
+use Rattle.edit_patch.specs.Leads.{Reach}
 
 -- The replacement that covers both, of which the second replaces what the first has left: it reaches over what either replaced.
 abbrev pub covering : Reach → Reach → Reach

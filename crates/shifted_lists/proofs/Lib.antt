@@ -1,2 +1,0 @@
-pub mod CoverLeads
-pub mod TokenPlaces

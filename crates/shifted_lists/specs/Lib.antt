@@ -1,3 +1,0 @@
-pub mod Covering
-pub mod LayerLeads
-pub mod Leads
