@@ -84,7 +84,7 @@ impl<L: Layer> FoldSnapshot<L> {
     }
 
     /// Whether there is a fold of this id.
-    pub(crate) fn has_id(&self, id: u32, steps: &mut Steps) -> bool
+    pub fn has_id(&self, id: u32, steps: &mut Steps) -> bool
         ensures value { result ≡ list_any (λ f. f.id == id) self.now.folds }
         ensures counted { steps.old ≤ steps.new }
         ensures steps { Searches (length self.now.folds) steps.old steps.new }
@@ -126,8 +126,8 @@ impl<L: Layer> FoldSnapshot<L> {
         start < end && is_first && is_last
     }
 
-    /// Why a fold isn't added, if it isn't.
-    pub(crate) fn refusal_to_fold(
+    /// Why a fold isn't added to these, if it isn't.
+    pub fn refusal_to_fold(
         &self,
         id: u32,
         start: u32,

@@ -1,6 +1,6 @@
 //! What an inlay map shows at one moment.
 ghost use Rattle.std.specs.Prelude.{◌≡◌, ◌==◌, ◌+◌, ◌<◌, ◌≤◌, Some, length, slice_get, IfOk, MatchOption};
-ghost use Rattle.std.specs.List.{position};
+ghost use Rattle.std.specs.List.{list_any, position};
 ghost use Rattle.cell_units.specs.declared.place.Bias.TheVariants.{Left};
 ghost use Rattle.cell_units.specs.Lawful.{HasRoom, IsInlayOf};
 ghost use Rattle.cell_units.specs.Layers.{inlay_source, place_of, plain_source};
@@ -108,8 +108,17 @@ impl InlaySnapshot {
         self.inlaid.find(id, steps)
     }
 
-    /// Why an inlay isn't added, if it isn't.
-    pub(crate) fn refusal_to_add(
+    /// Whether there is an inlay of this id.
+    pub fn has_id(&self, id: u32, steps: &mut Steps) -> bool
+        ensures value { result ≡ list_any (λ i. i.id == id) self.now.inlays }
+        ensures counted { steps.old ≤ steps.new }
+        ensures steps { Searches (length self.now.inlays) steps.old steps.new }
+    {
+        self.inlaid.has_id(id, steps)
+    }
+
+    /// Why an inlay isn't added to these, if it isn't.
+    pub fn refusal_to_add(
         &self,
         id: u32,
         offset: u32,
