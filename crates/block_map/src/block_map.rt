@@ -151,7 +151,7 @@ impl<R: Rows> BlockMap<R> {
     }
 
     /// The side of the block of this id, if there is one.
-    fn side_of(&self, id: u32, steps: &mut Steps) -> Option<Side>
+    pub fn side_of(&self, id: u32, steps: &mut Steps) -> Option<Side>
         ensures side { MatchOption result (has_block id self.now ≡ false) (λ side.
             is_kept id (on_side side self.now) ≡ true) }
         ensures counted { steps.old ≤ steps.new }
@@ -167,8 +167,8 @@ impl<R: Rows> BlockMap<R> {
         None
     }
 
-    /// Why a block isn't added, if it isn't.
-    fn refusal_to_add<P: Layer>(
+    /// Why a block isn't added to these, if it isn't.
+    pub fn refusal_to_add<P: Layer>(
         &self,
         layer: &P,
         id: u32,
