@@ -1,5 +1,6 @@
 //! The map: blocks that are added and removed, over lines that change.
-ghost use Rattle.std.specs.Prelude.{◌≡◌, ◌+◌, ◌<◌, ◌≤◌, None, true, false, length, IfErr, IfOk, MatchOption, OnErr, OnOk};
+ghost use Rattle.std.specs.Prelude.{◌≡◌, ◌==◌, ◌+◌, ◌<◌, ◌≤◌, None, true, false, length, IfErr, IfOk, MatchOption, OnErr, OnOk};
+ghost use Rattle.std.specs.List.{list_any};
 ghost use Rattle.cell_units.specs.declared.limits.TheConstants.{ENTRY_LIMIT};
 ghost use Rattle.cell_units.specs.Lawful.{AreBlockLines};
 ghost use Rattle.sum_tree.specs.Bounds.{TakesAtMost, way};
@@ -153,7 +154,7 @@ impl<R: Rows> BlockMap<R> {
     /// The side of the block of this id, if there is one.
     pub fn side_of(&self, id: u32, steps: &mut Steps) -> Option<Side>
         ensures side { MatchOption result (has_block id self.now ≡ false) (λ side.
-            is_kept id (on_side side self.now) ≡ true) }
+            list_any (λ k. k.id == id) (on_side side self.now) ≡ true) }
         ensures counted { steps.old ≤ steps.new }
         ensures steps { let count = length self.now.above + length self.now.below in
             SearchesBoth count steps.old steps.new }
