@@ -55,12 +55,13 @@ impl Reader {
         self.kept.version()
     }
 
-    /// What is shown, where the board can be entered and the version shared.
+    /// What is shown, where it is later than what is kept, and the board can be entered and the version shared.
     fn enter(&mut self) -> Option<Kept>
         ensures board { IfSome result (λ found. found.board ≡ self.old.board) }
         ensures same { self.new ≡ self.old }
     {
-        let (seat, found) = enter(self.seat.take()?);
+        let number = self.kept.version().number();
+        let (seat, found) = enter(self.seat.take()?, number);
         self.seat = Some(seat);
         found
     }

@@ -68,15 +68,26 @@ pub type Seat = reader::Reader<Shown, View, BoardRule>;
 /// The place of the writer, which shows versions.
 pub type Desk = writer::Writer<Shown, Kept, View, BoardRule>;
 
-/// What is shown, where the board can be entered and shared.
-pub fn enter(seat: Seat) -> (Seat, Option<Kept>)
+/// A share of what is shown, if its number is greater.
+fn later(shown: &Kept, number: u64) -> Option<Kept>
+    ensures { IfSome result (λ kept. kept ≡ shown.now) }
+{
+    if shown.version().number() <= number {
+        return None;
+    }
+    shown.share().ok()
+}
+
+/// What is shown, where the board can be entered, and what is shown is later than the version of a number and can be
+/// shared. An earlier one isn't shared, since all readers together count the owners of one version.
+pub fn enter(seat: Seat, number: u64) -> (Seat, Option<Kept>)
     ensures same { known_at result.0.place ≡ known_at seat.place }
     ensures board { IfSome result.1 (λ kept. MayBeOf kept.board (known_at seat.place)) }
 {
     match seat.enter_as::<See>() {
         Ok(reading) => {
-            let kept = reading.get().kept.share().ok();
-            (reading.leave(), kept)
+            let found = later(&reading.get().kept, number);
+            (reading.leave(), found)
         }
         Err(seat) => (seat, None),
     }

@@ -55,7 +55,7 @@ impl Model for Told {
 impl Writer {
     /// Adds a version at the end of the row, and shows it. It may wait for readers.
     ///
-    /// After `Err` the version is given up: no reader ever sees it.
+    /// After `Err` the version is given up.
     pub fn publish<R: Wait>(&mut self, rt: &R, alloc: Global, next: Version) -> Result<(), NoMemory>
         // The version may come right after the newest one.
         requires { Follows self.old.newest next }
