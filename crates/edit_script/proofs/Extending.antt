@@ -3,9 +3,7 @@ use Rattle.std.proofs.Common.{◌≡◌, ℕ, List, [], ◌∷◌, Option, Some,
 use Rattle.std.specs.Option.{option_or}
 use Rattle.serde_json.specs.Data.{Data, Items, no_items, item}
 use Rattle.serde_json.specs.Find.{as_str, as_array}
-use Rattle.cell_units.specs.declared.place.Bias.{Bias}
 use Rattle.cell_units.specs.Operation.{AddInlay, AddFold}
-use Rattle.display_sheet.specs.declared.change.Splice.{Splice}
 use Rattle.display_sheet.specs.Changes.{Edit, inlay_of, fold_of}
 use Rattle.edit_script.specs.declared.asked.Form.TheVariants.{First, Second}
 use Rattle.edit_script.specs.declared.asked.Query.TheVariants as queries
@@ -86,6 +84,8 @@ at-key text keys.Peek value = same (command_at First text keys.Peek value)
 at-key text keys.Display value = display text value
 at-key text keys.Buffer value = same (command_at First text keys.Buffer value)
 at-key text keys.Clip value = same (command_at First text keys.Clip value)
+at-key text keys.Move value = same (command_at First text keys.Move value)
+at-key text keys.Select value = same (command_at First text keys.Select value)
 
 pub command_of-extends : (text line : List ℕ) (command : Command) → command_of First text line ≡ Some command → command_of Second text line ≡ Some command
 command_of-extends text line =

@@ -36,3 +36,7 @@ value_of-unread line h = none_either_way (is_utf8 line) (read line) (λ e. h (Is
 
 pub command_of-read : (form : Form) (text line : List ℕ) (value : Data) → IsUtf8 line → read line ≡ Some value → command_of_value form text value ≡ command_of form text line
 command_of-read form text line value utf8 found = ap (option_and_then (command_of_value form text)) (value_of-read line value utf8 found)
+
+-- bytes that aren't text are no value
+pub value_of-no_text : (line : List ℕ) → ¬ (IsUtf8 line) → value_of line ≡ None
+value_of-no_text line bad = sym (value_of-unread line (λ utf8. absurd (bad utf8)))

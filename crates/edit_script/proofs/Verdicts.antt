@@ -1,5 +1,5 @@
 -- The verdict on a line, by what reading it gave.
-use Rattle.std.proofs.Common.{◌≡◌, ◌≤◌, ◌<◌, ℕ, List, [], length, refl, Bool, true, false, Option, Some, None, option_map, if◌then◌else◌, ap, ◌∙◌}
+use Rattle.std.proofs.Common.{◌≡◌, ◌≤◌, ◌<◌, ℕ, List, length, refl, Bool, true, false, Option, Some, None, option_map, if◌then◌else◌, ap, ◌∙◌}
 use Rattle.std.proofs.lemmas.Bool.{lt-ltb, le-ltb}
 use Rattle.cell_units.specs.declared.fault.Refusal.{Refusal}
 use Rattle.cell_units.specs.declared.fault.Refusal.TheVariants.{NotCommand, BadRange, IdInUse, UnknownId, TooLong, BadNumber, BadText, NothingThere}
@@ -9,10 +9,10 @@ use Rattle.edit_script.specs.declared.asked.Form.{Form}
 use Rattle.display_sheet.specs.declared.change.Change.{Change}
 use Rattle.display_sheet.specs.Changes.{change_refusal, ops_of as display_ops_of}
 use Rattle.edit_script.specs.declared.asked.Asked.TheVariants as asks
-use Rattle.edit_script.specs.Commands.{Command, command_of, meaning}
-use Rattle.edit_script.specs.Printed.{command_lines}
+use Rattle.edit_script.specs.declared.asked.CaretQuery.{CaretQuery}
+use Rattle.edit_script.specs.Commands.{Command, AskCaret, command_of, meaning}
 use Rattle.edit_script.specs.declared.blank.TheConstants.{LINE_LIMIT}
-use Rattle.edit_script.specs.Verdict.{Verdict, Refused, is_over, ops_of, refused_or, command_refusal, form_verdict, verdict, IsLineRefused}
+use Rattle.edit_script.specs.Verdict.{Verdict, Refused, Accepted, is_over, ops_of, refused_or, command_refusal, form_verdict, verdict, IsLineRefused}
 
 by_length : Form → Record → List ℕ → Bool → Verdict
 by_length form r line is_over = if is_over then Refused TooLong else form_verdict r (command_of form r.text line)
@@ -61,6 +61,9 @@ change-refusal r change = refl
 pub change-ops : (change : Change) → ops_of (meaning (asks.Change change)) ≡ display_ops_of change
 change-ops change = refl
 
--- it has no answer
-pub change-silent : (r : Record) (versions : ℕ) (change : Change) → command_lines r versions (meaning (asks.Change change)) ≡ []
-change-silent r versions change = refl
+-- ---- questions about a caret
+
+-- none is refused
+pub verdict-caret : (form : Form) (r : Record) (line : List ℕ) (query : CaretQuery) → length line ≤ LINE_LIMIT
+    → command_of form r.text line ≡ Some (AskCaret query) → verdict form r line ≡ Accepted (AskCaret query)
+verdict-caret form r line query h read = verdict-read form r line (AskCaret query) h read refl

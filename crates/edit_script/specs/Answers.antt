@@ -51,7 +51,7 @@ HasAnswer versions (queries.Clip spot bias) = Unit {0}
 abbrev pub lines_of : History → Query → List (List ℕ)
 lines_of h query = query_lines (present_of h) (versions_of h.events) query
 
--- why a question is not answered on a record. Want of memory comes only where no refusal is owed
+-- why a question is not answered on a record. Out of memory comes only where no refusal is owed
 abbrev pub IsUnanswered : Record → Query → Fault → Type 0
 IsUnanswered r query (faults.Refused refusal) = query_refusal r query ≡ Some refusal
 IsUnanswered r query faults.NoMemory = query_refusal r query ≡ None

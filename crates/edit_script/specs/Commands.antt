@@ -7,6 +7,8 @@ use Rattle.serde_json.specs.Find.{as_number, as_u64, as_bool, as_str, as_array, 
 use Rattle.serde_json.specs.Read.{read}
 use Rattle.cell_units.specs.declared.place.Bias.{Bias}
 use Rattle.cell_units.specs.declared.place.Bias.TheVariants.{Left, Right}
+use Rattle.cell_units.specs.declared.place.Motion.{Motion}
+use Rattle.cell_units.specs.declared.place.Motion.TheVariants as motions
 use Rattle.cell_units.specs.declared.place.Point.{Point}
 use Rattle.cell_units.specs.declared.place.Spot.{Spot}
 use Rattle.cell_units.specs.declared.place.Side.{Side}
@@ -17,6 +19,8 @@ use Rattle.display_sheet.specs.declared.change.Splice.{Splice}
 use Rattle.display_sheet.specs.Changes.{ChangeParts, Edit, One, parts_of, inlay_of, fold_of}
 use Rattle.edit_script.specs.declared.asked.Form.{Form}
 use Rattle.edit_script.specs.declared.asked.Form.TheVariants.{First, Second}
+use Rattle.edit_script.specs.declared.asked.CaretQuery.{CaretQuery}
+use Rattle.edit_script.specs.declared.asked.CaretQuery.TheVariants as carets
 use Rattle.edit_script.specs.declared.asked.Query.{Query}
 use Rattle.edit_script.specs.declared.asked.Query.TheVariants as queries
 use Rattle.edit_script.specs.declared.asked.Asked.{Asked}
@@ -24,16 +28,18 @@ use Rattle.edit_script.specs.declared.asked.Asked.TheVariants as asks
 use Rattle.edit_script.specs.declared.key.Key.{Key}
 use Rattle.edit_script.specs.declared.key.Key.TheVariants as keys
 
--- a change, a question, or the wish that every display line stands wrapped at the width
+-- a change, a question, one about a caret, or the wish that every display line is wrapped at the width
 pub data Command : Type 0 where
   Apply : ChangeParts → Command
   Ask : Query → Command
+  AskCaret : CaretQuery → Command
   Settle : Command
 
 -- the command that a value of the program stands for
 abbrev pub meaning : Asked → Command
 meaning (asks.Change change) = Apply (parts_of change)
 meaning (asks.Query query) = Ask query
+meaning (asks.Caret query) = AskCaret query
 meaning asks.Settle = Settle
 
 -- ---- values
@@ -66,6 +72,24 @@ side_of name =
 
 abbrev pub side_in : Data → Option Side
 side_in value = option_and_then side_of (as_str value)
+
+abbrev pub motion_of : List ℕ → Option Motion
+motion_of name =
+    if bytes_eq name (codes "left") then Some motions.Left
+    else if bytes_eq name (codes "right") then Some motions.Right
+    else if bytes_eq name (codes "up") then Some motions.Up
+    else if bytes_eq name (codes "down") then Some motions.Down
+    else if bytes_eq name (codes "start") then Some motions.Start
+    else if bytes_eq name (codes "end") then Some motions.End
+    else None
+
+abbrev pub motion_in : Data → Option Motion
+motion_in value = option_and_then motion_of (as_str value)
+
+-- a spot of the display, by its row and its column
+abbrev pub spot_of : Data → Data → Option Spot
+spot_of row col =
+    option_and_then (λ r. option_map (λ c. record { row = r; col = c }) (number_in col)) (number_in row)
 
 -- a list of texts, of any length
 abbrev pub texts_of_items : Items → Option (List (List ℕ))
@@ -191,13 +215,29 @@ show_in form text value =
 abbrev pub aim_in : Data → Option (Spot × Bias)
 aim_in value =
     option_and_then (λ v.
-    option_and_then (λ row.
-    option_and_then (λ col.
-    option_map (λ bias. (record { row = row; col = col }, bias))
-    (bias_in v.2)) (number_in v.1)) (number_in v.0)) (three_in value)
+    option_and_then (λ spot.
+    option_map (λ bias. (spot, bias))
+    (bias_in v.2)) (spot_of v.0 v.1)) (three_in value)
 
 abbrev pub spot_in : (Spot → Bias → Query) → Data → Option Command
 spot_in query value = option_map (λ a. Ask (query a.0 a.1)) (aim_in value)
+
+-- [row, col, goal, motion]
+abbrev pub move_in : Data → Option CaretQuery
+move_in value =
+    option_and_then (λ v.
+    option_and_then (λ from.
+    option_and_then (λ goal.
+    option_map (λ motion. carets.Move from goal motion)
+    (motion_in v.3)) (number_in v.2)) (spot_of v.0 v.1)) (four_in value)
+
+-- [row, col, row, col]
+abbrev pub select_in : Data → Option CaretQuery
+select_in value =
+    option_and_then (λ v.
+    option_and_then (λ one.
+    option_map (λ other. carets.Select one other)
+    (spot_of v.2 v.3)) (spot_of v.0 v.1)) (four_in value)
 
 -- true
 abbrev pub settle_in : Data → Option Command
@@ -223,6 +263,8 @@ key_of name =
     else if bytes_eq name (codes "display") then Some keys.Display
     else if bytes_eq name (codes "buffer") then Some keys.Buffer
     else if bytes_eq name (codes "clip") then Some keys.Clip
+    else if bytes_eq name (codes "move") then Some keys.Move
+    else if bytes_eq name (codes "select") then Some keys.Select
     else None
 
 -- the command of a key and its value
@@ -242,6 +284,8 @@ command_at form text keys.Peek value = rows_in queries.Peek value
 command_at form text keys.Display value = show_in form text value
 command_at form text keys.Buffer value = spot_in queries.Back value
 command_at form text keys.Clip value = spot_in queries.Clip value
+command_at form text keys.Move value = option_map AskCaret (move_in value)
+command_at form text keys.Select value = option_map AskCaret (select_in value)
 
 -- the command of a key's name and its value
 abbrev pub command_named : Form → List ℕ → List ℕ → Data → Option Command

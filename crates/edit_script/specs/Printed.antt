@@ -12,7 +12,6 @@ use Rattle.cell_line.specs.declared.lines.MarkRun.{MarkRun}
 use Rattle.display_sheet.specs.Shown.{mark_runs}
 use Rattle.edit_script.specs.declared.asked.Query.{Query}
 use Rattle.edit_script.specs.declared.asked.Query.TheVariants as queries
-use Rattle.edit_script.specs.Commands.{Command, Apply, Ask, Settle}
 
 -- <row> <kind>|<text>
 abbrev pub row_line : ℕ → Row → List ℕ
@@ -46,12 +45,6 @@ query_lines r versions (queries.Peek first count) = version_line versions (mark_
 query_lines r versions (queries.Show offset bias) = spot_line (show r offset bias) ∷ []
 query_lines r versions (queries.Back spot bias) = decimal (back r spot bias) ∷ []
 query_lines r versions (queries.Clip spot bias) = spot_line (clip r spot bias) ∷ []
-
--- the lines that answer an accepted command
-abbrev pub command_lines : Record → ℕ → Command → List (List ℕ)
-command_lines r versions (Apply change) = []
-command_lines r versions (Ask query) = query_lines r versions query
-command_lines r versions Settle = []
 
 -- the line of a refusal
 abbrev pub refusal_text : Refusal → List ℕ

@@ -1,5 +1,5 @@
 -- The form of a script, and which of its lines are skipped.
-use Rattle.std.specs.Prelude.{ℕ, ◌==◌, ◌&&◌, Bool, true, false, not, nat_le, bytes_eq, codes, if◌then◌else◌, List, [], ◌∷◌, length, filter, option_and_then}
+use Rattle.std.specs.Prelude.{ℕ, ◌==◌, ◌&&◌, Bool, false, not, nat_le, bytes_eq, codes, if◌then◌else◌, List, [], ◌∷◌, length, filter, option_and_then}
 use Rattle.std.specs.Option.{option_map_or}
 use Rattle.std.specs.List.{enumerate_from}
 use Rattle.serde_json.specs.Data.{Data}

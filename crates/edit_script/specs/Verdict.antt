@@ -1,6 +1,7 @@
 -- Which lines are skipped, which of the others are refused on a record, and what an accepted command does.
 use Rattle.std.specs.Prelude.{ℕ, ◌≡◌, ◌<◌, ◌≤◌, ◌==◌, ◌&&◌, ◌||◌, Bool, true, false, nat_lt, nat_le, if◌then◌else◌, List, [], length, Result, Ok, Err, Option, Some, None, option_map}
 use Rattle.std.specs.List.{list_all}
+use Rattle.std.specs.Str.{IsUtf8}
 use Rattle.cell_units.specs.declared.fault.Refusal.{Refusal}
 use Rattle.cell_units.specs.declared.fault.Refusal.TheVariants.{NotCommand, TooLong, BadNumber}
 use Rattle.cell_units.specs.declared.fault.Fault.{Fault}
@@ -16,7 +17,7 @@ use Rattle.edit_script.specs.declared.asked.Asked.{Asked}
 use Rattle.edit_script.specs.declared.blank.TheConstants.{LINE_LIMIT}
 use Rattle.edit_script.specs.declared.read.Unread.{Unread}
 use Rattle.edit_script.specs.declared.read.Unread.TheVariants as unread
-use Rattle.edit_script.specs.Commands.{Command, Apply, Ask, Settle, command_of, meaning, greatest_number}
+use Rattle.edit_script.specs.Commands.{Command, Apply, Ask, AskCaret, Settle, command_of, meaning, greatest_number}
 
 -- a space, a tab or a carriage return
 abbrev pub is_blank_byte : ℕ → Bool
@@ -51,12 +52,14 @@ abbrev pub is_over : Command → Bool
 is_over (Apply (Edit splices)) = false
 is_over (Apply (One operation)) = is_operation_over operation
 is_over (Ask query) = false
+is_over (AskCaret query) = false
 is_over Settle = false
 
 -- the operations that an accepted command does
 abbrev pub ops_of : Command → List Operation
 ops_of (Apply change) = operations_in change
 ops_of (Ask query) = []
+ops_of (AskCaret query) = []
 ops_of Settle = []
 
 -- why a record refuses a question, if it does
@@ -71,6 +74,7 @@ query_refusal r (queries.Clip spot bias) = None
 abbrev pub command_refusal : Record → Command → Option Refusal
 command_refusal r (Apply change) = refusal_of r change
 command_refusal r (Ask query) = query_refusal r query
+command_refusal r (AskCaret query) = None
 command_refusal r Settle = None
 
 -- the verdict on a command: its ids are judged before the record is asked
@@ -99,10 +103,11 @@ query_wants_settled (queries.Clip spot bias) = true
 abbrev pub wants_settled : Command → Bool
 wants_settled (Apply change) = false
 wants_settled (Ask query) = query_wants_settled query
+wants_settled (AskCaret query) = true
 wants_settled Settle = true
 
 -- what reading gives of the command that a line has, if it has one: that command, or why there is none that a display
--- can be asked. Want of memory may come at any time
+-- can be asked. Out of memory may come at any time
 abbrev pub IsReadAs : Option Command → Result Asked Unread → Type 0
 IsReadAs command (Ok asked) = (command ≡ Some (meaning asked)) × (is_over (meaning asked) ≡ false)
 IsReadAs command (Err unread.NoForm) = command ≡ None
@@ -110,7 +115,7 @@ IsReadAs command (Err unread.IdOver) = option_map is_over command ≡ Some true
 IsReadAs command (Err unread.NoMemory) = Unit {0}
 
 -- why a line is not read on a text: it is over the limit, or else it is no command, or else an id of it is over the
--- greatest number. Want of memory comes only within the limit
+-- greatest number. Out of memory comes only where it is text within the limit
 abbrev pub IsLineRefused : Form → List ℕ → List ℕ → Fault → Type 0
 IsLineRefused form text line (faults.Refused TooLong) = LINE_LIMIT < length line
 IsLineRefused form text line (faults.Refused NotCommand) =
@@ -118,4 +123,4 @@ IsLineRefused form text line (faults.Refused NotCommand) =
 IsLineRefused form text line (faults.Refused BadNumber) =
     (length line ≤ LINE_LIMIT) × (option_map is_over (command_of form text line) ≡ Some true)
 IsLineRefused form text line (faults.Refused _) = ⊥
-IsLineRefused form text line faults.NoMemory = length line ≤ LINE_LIMIT
+IsLineRefused form text line faults.NoMemory = (length line ≤ LINE_LIMIT) × IsUtf8 line

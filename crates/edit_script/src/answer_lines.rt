@@ -48,7 +48,7 @@ impl<'a> RowsLeft<'a> {
         requires made { AreMade self.old }
         requires some { 0 < self.old.left }
 
-        // The same rows are left as before, also after want of memory.
+        // The same rows are left as before, also where there was no memory.
         ensures made { AreMade self.new }
         ensures kept { rows_left self.new ≡ rows_left self.old }
         ensures left { self.new.left ≡ self.old.left }
@@ -76,7 +76,7 @@ impl<'a> RowsLeft<'a> {
         ensures line { IfOk result (λ line. line ≡ slice_get (rows_left self.old) 0) }
         ensures rest { OnOk result (rows_left self.new ≡ drop 1 (rows_left self.old)) }
 
-        // Want of memory takes no row.
+        // Where there is no memory, no row is taken.
         ensures unchanged { OnErr result (rows_left self.new ≡ rows_left self.old) }
 
         // The work.
@@ -132,7 +132,7 @@ impl<'a> Answer<'a> {
     }
 
     /// The next line, without a line feed; `None` past the last. The rows that are made of a display line for it are kept
-    /// for the lines behind it. After want of memory the same line comes next.
+    /// for the lines after it. After out of memory the same line comes next.
     pub fn next_line(&mut self, alloc: Global, steps: &mut Steps) -> Result<Option<Text>, NoMemory>
         ensures line { IfOk result (λ line. line ≡ slice_get self.old 0) }
         ensures rest { OnOk result (self.new ≡ drop 1 self.old) }

@@ -1,5 +1,5 @@
 //! What a line asks.
-use cell_units::{Bias, Spot};
+use cell_units::{Bias, Motion, Spot};
 use display_map::Change;
 
 /// The form of a script, in which its lines are read.
@@ -16,7 +16,7 @@ pub enum Form {
 pub enum Query {
     /// The rows from number `first` on, as many as there are up to `count`.
     Rows { first: u32, count: u32 },
-    /// The same as they are now, behind the number of the newest version and the marks.
+    /// The same as they are now, after the number of the newest version and the marks.
     Peek { first: u32, count: u32 },
     /// Where an offset is shown.
     Show { offset: u32, bias: Bias },
@@ -26,10 +26,27 @@ pub enum Query {
     Clip { spot: Spot, bias: Bias },
 }
 
-/// What a line asks: a change, the answer to a question, or only that every display line is wrapped at the width.
+/// A question about a caret or a selection, which changes nothing. Rows and columns are those of the display, in cells.
+#[derive(Clone, Copy, Debug)]
+pub enum CaretQuery {
+    /// Where a motion takes the caret from a spot. The goal is the column at which Up and Down aim.
+    Move {
+        from: Spot,
+        goal: u32,
+        motion: Motion,
+    },
+    /// What a selection between two spots covers.
+    Select {
+        one: Spot,
+        other: Spot,
+    },
+}
+
+/// What a line asks: a change, a question, or only that every display line is wrapped at the width.
 #[derive(Debug, Drop)]
 pub enum Asked {
     Change(Change),
     Query(Query),
+    Caret(CaretQuery),
     Settle,
 }

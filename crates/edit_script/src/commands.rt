@@ -7,13 +7,15 @@ ghost use Rattle.display_map.specs.Replay.{present_of};
 ghost use Rattle.display_sheet.specs.declared.change.Change.TheVariants as changes;
 ghost use Rattle.edit_script.specs.declared.asked.Asked.TheVariants as asks;
 ghost use Rattle.edit_script.specs.declared.asked.Query.TheVariants as queries;
-ghost use Rattle.edit_script.specs.Commands.{Ask, greatest_number, place_in, point_in, offset_in, splice_of, splices_of_items, edit_in, one, inlay_in, fold_in, block_in, remove_in, set_in, settle_in, numbers_in, rows_in, show_in, aim_in, spot_in, texts_of_items, command_at};
+ghost use Rattle.edit_script.specs.Commands.{Ask, AskCaret, greatest_number, place_in, point_in, offset_in, splice_of, splices_of_items, edit_in, one, inlay_in, fold_in, block_in, remove_in, set_in, settle_in, numbers_in, rows_in, show_in, aim_in, spot_in, move_in, select_in, texts_of_items, command_at};
 ghost use Rattle.edit_script.specs.Verdict.{IsReadAs};
 
-use crate::asked::{Asked, Form, Query};
+use crate::asked::{Asked, CaretQuery, Form, Query};
 use crate::key::Key;
 use crate::read::Unread;
-use crate::values::{bias_in, four_in, id_in, number_in, side_in, texts_of, three_in, two_in};
+use crate::values::{
+    bias_in, four_in, id_in, motion_in, number_in, side_in, spot_of, texts_of, three_in, two_in,
+};
 use cell_units::{Bias, NoMemory, Point, Side, Spot, Steps, Text};
 use display_map::{Change, Op, Splice, View};
 use serde_json::Value;
@@ -48,6 +50,8 @@ pub(crate) fn command_at(
         Key::Display => display_in(value, form, view, steps),
         Key::Buffer => buffer_in(value),
         Key::Clip => clip_in(value),
+        Key::Move => about_caret(move_in(value)),
+        Key::Select => about_caret(select_in(value)),
     }
 }
 
@@ -406,9 +410,8 @@ fn aim_in(value: &Value) -> Option<(Spot, Bias)>
     ensures { result ≡ aim_in (data_of value.now) }
 {
     let (row, col, bias) = three_in(value)?;
-    let row = number_in(row)?;
-    let col = number_in(col)?;
-    Some((Spot { row, col }, bias_in(bias)?))
+    let spot = spot_of(row, col)?;
+    Some((spot, bias_in(bias)?))
 }
 
 fn buffer_in(value: &Value) -> Result<Asked, Unread>
@@ -427,4 +430,35 @@ fn clip_in(value: &Value) -> Result<Asked, Unread>
         Some((spot, bias)) => Ok(Asked::Query(Query::Clip { spot, bias })),
         None => Err(Unread::NoForm),
     }
+}
+
+/// A question about a caret or a selection, where a value has the form of one.
+fn about_caret(query: Option<CaretQuery>) -> Result<Asked, Unread>
+    ensures { IsReadAs (option_map AskCaret query) result }
+{
+    match query {
+        Some(query) => Ok(Asked::Caret(query)),
+        None => Err(Unread::NoForm),
+    }
+}
+
+/// `[row, col, goal, motion]`.
+fn move_in(value: &Value) -> Option<CaretQuery>
+    ensures { result ≡ move_in (data_of value.now) }
+{
+    let (row, col, goal, motion) = four_in(value)?;
+    let from = spot_of(row, col)?;
+    let goal = number_in(goal)?;
+    let motion = motion_in(motion)?;
+    Some(CaretQuery::Move { from, goal, motion })
+}
+
+/// `[row, col, row, col]`.
+fn select_in(value: &Value) -> Option<CaretQuery>
+    ensures { result ≡ select_in (data_of value.now) }
+{
+    let (row, col, other_row, other_col) = four_in(value)?;
+    let one = spot_of(row, col)?;
+    let other = spot_of(other_row, other_col)?;
+    Some(CaretQuery::Select { one, other })
 }

@@ -1,8 +1,8 @@
 //! The keys of a script, and the words of its values.
 ghost use Rattle.std.specs.Prelude.{◌≡◌};
-ghost use Rattle.edit_script.specs.Commands.{key_of, bias_of, side_of};
+ghost use Rattle.edit_script.specs.Commands.{key_of, bias_of, motion_of, side_of};
 
-use cell_units::{Bias, Side};
+use cell_units::{Bias, Motion, Side};
 
 /// The key of a line, which says what it asks.
 #[derive(Clone, Copy, Debug, PartialEq, Eq)]
@@ -22,6 +22,8 @@ pub(crate) enum Key {
     Display,
     Buffer,
     Clip,
+    Move,
+    Select,
 }
 
 /// The key of this name.
@@ -58,6 +60,10 @@ pub(crate) fn key_of(name: &str) -> Option<Key>
         Some(Key::Buffer)
     } else if name == "clip" {
         Some(Key::Clip)
+    } else if name == "move" {
+        Some(Key::Move)
+    } else if name == "select" {
+        Some(Key::Select)
     } else {
         None
     }
@@ -84,6 +90,27 @@ pub(crate) fn side_of(word: &str) -> Option<Side>
         Some(Side::Above)
     } else if word == "below" {
         Some(Side::Below)
+    } else {
+        None
+    }
+}
+
+/// The motion of this word.
+pub(crate) fn motion_of(word: &str) -> Option<Motion>
+    ensures { result ≡ motion_of word.now }
+{
+    if word == "left" {
+        Some(Motion::Left)
+    } else if word == "right" {
+        Some(Motion::Right)
+    } else if word == "up" {
+        Some(Motion::Up)
+    } else if word == "down" {
+        Some(Motion::Down)
+    } else if word == "start" {
+        Some(Motion::Start)
+    } else if word == "end" {
+        Some(Motion::End)
     } else {
         None
     }

@@ -6,22 +6,27 @@ ghost use Rattle.cell_units.specs.declared.fault.Fault.TheVariants as faults;
 ghost use Rattle.cell_units.specs.declared.fault.Refusal.{Refusal};
 ghost use Rattle.cell_units.specs.declared.fault.Refusal.TheVariants.{NotCommand, BadRange};
 ghost use Rattle.cell_units.specs.declared.place.Bias.TheVariants.{Left, Right};
+ghost use Rattle.cell_units.specs.declared.place.Motion.TheVariants as motions;
 ghost use Rattle.cell_units.specs.Operation.{AddFold, AddInlay};
 ghost use Rattle.cell_units.specs.Record.{Record, opened};
 ghost use Rattle.plain_rows.specs.Rows.{head_kind, more_kind, block_kind};
+ghost use Rattle.plain_rows.specs.Worked.{spot};
 ghost use Rattle.display_sheet.specs.declared.change.Splice.{Splice};
 ghost use Rattle.edit_script.specs.declared.asked.Form.{Form};
 ghost use Rattle.edit_script.specs.declared.asked.Form.TheVariants.{First, Second};
+ghost use Rattle.edit_script.specs.declared.asked.CaretQuery.{CaretQuery};
+ghost use Rattle.edit_script.specs.declared.asked.CaretQuery.TheVariants as carets;
 ghost use Rattle.edit_script.specs.declared.asked.Query.TheVariants as queries;
 ghost use Rattle.display_sheet.specs.Changes.{Edit, inlay_of, fold_of};
-ghost use Rattle.edit_script.specs.Commands.{Command, Apply, Ask, Settle, one, greatest_number, command_of};
+ghost use Rattle.edit_script.specs.Commands.{Command, Apply, Ask, AskCaret, Settle, one, greatest_number, command_of};
 ghost use Rattle.edit_script.specs.declared.blank.TheConstants.{LINE_LIMIT};
 ghost use Rattle.edit_script.specs.Verdict.{Accepted, Refused, IsLineRefused, refused_or, command_refusal, is_over, is_blank, verdict};
 ghost use Rattle.edit_script.specs.Laws.{IsWritable, two_rows, written_edit, written_rows};
 ghost use Rattle.edit_script.specs.Script.{asking_from, filled_from, form_of, is_header};
 ghost use Rattle.edit_script.specs.Printed.{refusal_text, row_lines};
 
-/// What reading a line says of the verdict on it, on every record of the text. It does nothing.
+/// What reading a line says of the verdict on it, on every record of the text. A question about a caret is never refused.
+/// It does nothing.
 pub fn verdict_laws()
     ensures unread { (form : Form) (r : Record) (line : List ℕ) (refusal : Refusal)
         → IsLineRefused form r.text line (faults.Refused refusal) → verdict form r line ≡ Refused refusal }
@@ -29,6 +34,9 @@ pub fn verdict_laws()
         → length line ≤ LINE_LIMIT
         → command_of form r.text line ≡ Some command → is_over command ≡ false
         → verdict form r line ≡ refused_or command (command_refusal r command) }
+    ensures caret { (form : Form) (r : Record) (line : List ℕ) (query : CaretQuery)
+        → length line ≤ LINE_LIMIT → command_of form r.text line ≡ Some (AskCaret query)
+        → verdict form r line ≡ Accepted (AskCaret query) }
 {}
 
 /// The line that is written for an edit is read as that edit, whatever its numbers and texts, and the line that is
@@ -96,6 +104,39 @@ pub fn worked_commands()
     ensures text_missing { command_of First [] (codes "{\"edit\":[[0,1]]}") ≡ None }
     ensures flat_edit { command_of First [] (codes "{\"edit\":[0,1,\"\"]}") ≡ None }
     ensures not_utf8 { command_of First [] (255 ∷ []) ≡ None }
+{}
+
+/// Lines that ask about a caret or a selection, and such that have no form. It does nothing.
+pub fn worked_carets()
+    ensures left { command_of First [] (codes "{\"move\":[0,4,4,\"left\"]}")
+        ≡ Some (AskCaret (carets.Move (spot 0 4) 4 motions.Left)) }
+    ensures right { command_of First [] (codes "{\"move\":[0,5,5,\"right\"]}")
+        ≡ Some (AskCaret (carets.Move (spot 0 5) 5 motions.Right)) }
+    ensures up { command_of First [] (codes "{\"move\":[1,2,3,\"up\"]}")
+        ≡ Some (AskCaret (carets.Move (spot 1 2) 3 motions.Up)) }
+    ensures down { command_of First [] (codes "{\"move\":[1,5,9,\"down\"]}")
+        ≡ Some (AskCaret (carets.Move (spot 1 5) 9 motions.Down)) }
+    ensures start { command_of First [] (codes "{\"move\":[1,5,9,\"start\"]}")
+        ≡ Some (AskCaret (carets.Move (spot 1 5) 9 motions.Start)) }
+    ensures end { command_of First [] (codes "{\"move\":[1,5,9,\"end\"]}")
+        ≡ Some (AskCaret (carets.Move (spot 1 5) 9 motions.End)) }
+    ensures select { command_of First [] (codes "{\"select\":[0,3,1,2]}")
+        ≡ Some (AskCaret (carets.Select (spot 0 3) (spot 1 2))) }
+    ensures backwards { command_of First [] (codes "{\"select\":[1,2,0,3]}")
+        ≡ Some (AskCaret (carets.Select (spot 1 2) (spot 0 3))) }
+    ensures greatest { command_of First []
+        (codes "{\"move\":[4294967296,0,18446744073709551615,\"end\"]}")
+        ≡ Some (AskCaret (carets.Move (spot 4294967295 0) 4294967295 motions.End)) }
+    ensures second_form { command_of Second [] (codes "{\"select\":[0,3,1,2]}")
+        ≡ Some (AskCaret (carets.Select (spot 0 3) (spot 1 2))) }
+    ensures another_motion { command_of First [] (codes "{\"move\":[0,0,0,\"above\"]}") ≡ None }
+    ensures motion_missing { command_of First [] (codes "{\"move\":[0,0,0]}") ≡ None }
+    ensures fifth_item { command_of First [] (codes "{\"select\":[0,3,1,2,0]}") ≡ None }
+    ensures bias { command_of First [] (codes "{\"select\":[0,3,\"left\",2]}") ≡ None }
+    ensures below_zero { command_of First [] (codes "{\"move\":[0,0,-1,\"up\"]}") ≡ None }
+    ensures point { command_of Second two_rows
+        (codes "{\"select\":[[0,0,\"left\"],3,1,2]}") ≡ None }
+    ensures lists { command_of Second two_rows (codes "{\"select\":[[0,3],[1,2]]}") ≡ None }
 {}
 
 /// What lines are on a text of three bytes. It does nothing.

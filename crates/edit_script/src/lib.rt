@@ -16,8 +16,8 @@ pub mod script;
 mod values;
 
 pub use answer_lines::Answer;
-pub use asked::{Asked, Form, Query};
+pub use asked::{Asked, CaretQuery, Form, Query};
 pub use blank::skipped;
-pub use query::{answer, refusal_line};
+pub use query::{answer, query_refusal, refusal_line};
 pub use read::read_line;
 pub use script::header;

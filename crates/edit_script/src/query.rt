@@ -12,6 +12,26 @@ use cell_units::{Fault, NoMemory, Refusal, Spot, Steps, Text};
 use display_map::{MarkRun, View};
 use std::alloc::Global;
 
+/// Why a view refuses a query, if it does: one that shows an offset, past the end of the text or off a boundary. Out of
+/// memory is no refusal.
+pub fn query_refusal(
+    alloc: Global,
+    view: &View,
+    query: &Query,
+    steps: &mut Steps,
+) -> Option<Refusal>
+    ensures refusal { result ≡ query_refusal (present_of view.now) query.now }
+    ensures counted { steps.old ≤ steps.new }
+{
+    let Query::Show { offset, bias } = query else {
+        return None;
+    };
+    match view.show(alloc, *offset, *bias, steps) {
+        Err(Fault::Refused(refusal)) => Some(refusal),
+        Ok(_) | Err(Fault::NoMemory) => None,
+    }
+}
+
 /// The lines that answer a query on a view, one after the other. A query that shows an offset is refused as `BadRange`
 /// where the offset is past the end of the text or off a boundary; no other is refused.
 pub fn answer<'a>(

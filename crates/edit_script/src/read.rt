@@ -51,12 +51,12 @@ impl From<AllocError> for Unread {
 
 /// What a line asks, in this form of a script and on this view's text. A line is one JSON text, an object of exactly one
 /// key. An edit, an inlay, a fold, a block, the tab size and the width are changes; `settle` asks only that every display
-/// line is wrapped at the width; `rows`, `peek`, `display`, `buffer` and `clip` are queries. The README of this crate has
-/// the value of each key. A point of the second form is asked as the offset that it has in the view's text.
+/// line is wrapped at the width; `rows`, `peek`, `display`, `buffer` and `clip` are queries, and `move` and `select` ask
+/// about a caret. The README of this crate has the value of each key. A point of the second form is asked as the offset that it has in the view's text.
 ///
 /// A number that is no id and doesn't fit 32 bits counts as the greatest that does. A line over 1,048,576 bytes is
 /// refused as `TooLong`, any other that is no such text as `NotCommand`, and else one with an id over 4,294,967,295 as
-/// `BadNumber`.
+/// `BadNumber`. Only a line that is UTF-8 and within the limit takes memory.
 pub fn read_line(
     alloc: Global,
     line: &[u8],
@@ -77,7 +77,11 @@ pub fn read_line(
     if line.len() > LINE_LIMIT {
         return Err(Fault::Refused(Refusal::TooLong));
     }
-    match read_command(alloc, line, form, view, steps) {
+    // What isn't text is judged before any memory is taken.
+    let Ok(text) = str::from_utf8(line) else {
+        return Err(Fault::Refused(Refusal::NotCommand));
+    };
+    match read_command(alloc, text, form, view, steps) {
         Ok(asked) => Ok(asked),
         Err(Unread::NoForm) => Err(Fault::Refused(Refusal::NotCommand)),
         Err(Unread::IdOver) => Err(Fault::Refused(Refusal::BadNumber)),
@@ -85,9 +89,10 @@ pub fn read_line(
     }
 }
 
+/// The command that a line of text is.
 fn read_command(
     alloc: Global,
-    line: &[u8],
+    line: &str,
     form: Form,
     view: &View,
     steps: &mut Steps,

@@ -1,5 +1,5 @@
 //! The header of a script, which says that its lines have the second form.
-ghost use Rattle.std.specs.Prelude.{◌≡◌, false, IfOk};
+ghost use Rattle.std.specs.Prelude.{◌≡◌, ◌≤◌, false, length, IfOk, OnErr, IsUtf8};
 ghost use Rattle.std.specs.Option.{option_map_or};
 ghost use Rattle.serde_json.specs.View.{view as data_of};
 ghost use Rattle.edit_script.specs.Script.{is_form_two, is_header};
@@ -13,14 +13,18 @@ use std::alloc::Global;
 
 /// Whether a line is a header: it is within the limit of 1,048,576 bytes, and is one JSON text, an object whose one key is
 /// `script` and whose value is the number 2. A script whose first line that isn't blank is a header has the second form,
-/// and that line is skipped.
+/// and that line is skipped. Only a line that is UTF-8 and within the limit takes memory.
 pub fn header(alloc: Global, line: &[u8]) -> Result<bool, NoMemory>
-    ensures { IfOk result (λ is. is ≡ is_header line.now) }
+    ensures header { IfOk result (λ is. is ≡ is_header line.now) }
+    ensures memory { OnErr result ((length line.now ≤ LINE_LIMIT) × IsUtf8 line.now) }
 {
     if line.len() > LINE_LIMIT {
         return Ok(false);
     }
-    match value_of(alloc, line)? {
+    let Ok(text) = str::from_utf8(line) else {
+        return Ok(false);
+    };
+    match value_of(alloc, text)? {
         Some(value) => Ok(names_form_two(&value)),
         None => Ok(false),
     }

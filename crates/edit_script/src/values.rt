@@ -1,18 +1,18 @@
 //! Values of a line: numbers, words and lists.
 ghost use Rattle.std.specs.Prelude.{◌≡◌, length, map, option_map, IfOk};
 ghost use Rattle.serde_json.specs.View.{view as data_of, items_view as data_of_items};
-ghost use Rattle.edit_script.specs.Commands.{value_of, member_in, number_of, number_in, bias_in, side_in, texts_of_items, two_in, three_in, four_in};
+ghost use Rattle.edit_script.specs.Commands.{value_of, member_in, number_of, number_in, bias_in, side_in, motion_in, spot_of, texts_of_items, two_in, three_in, four_in};
 
-use crate::key::{bias_of, side_of};
-use cell_units::{Bias, NoMemory, Side, Text};
+use crate::key::{bias_of, motion_of, side_of};
+use cell_units::{Bias, Motion, NoMemory, Side, Spot, Text};
 use serde_json::Value;
 use std::alloc::Global;
 
 /// The value that a line is, if it is one JSON text.
-pub(crate) fn value_of(alloc: Global, line: &[u8]) -> Result<Option<Value>, NoMemory>
+pub(crate) fn value_of(alloc: Global, line: &str) -> Result<Option<Value>, NoMemory>
     ensures { IfOk result (λ value. option_map data_of value ≡ value_of line.now) }
 {
-    match Value::from_slice(alloc, line) {
+    match Value::from_str(alloc, line) {
         Ok(value) => Ok(Some(value)),
         Err(error) => {
             if error.is_memory() {
@@ -61,6 +61,21 @@ pub(crate) fn side_in(value: &Value) -> Option<Side>
     ensures { result ≡ side_in (data_of value.now) }
 {
     side_of(value.as_str()?)
+}
+
+pub(crate) fn motion_in(value: &Value) -> Option<Motion>
+    ensures { result ≡ motion_in (data_of value.now) }
+{
+    motion_of(value.as_str()?)
+}
+
+/// A spot of the display, by its row and its column.
+pub(crate) fn spot_of(row: &Value, col: &Value) -> Option<Spot>
+    ensures { result ≡ spot_of (data_of row.now) (data_of col.now) }
+{
+    let row = number_in(row)?;
+    let col = number_in(col)?;
+    Some(Spot { row, col })
 }
 
 /// The texts of a list.
