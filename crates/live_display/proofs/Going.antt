@@ -1,10 +1,14 @@
 -- Steps behind steps.
-use Rattle.std.proofs.Common.{◌≡◌, ℕ, ◌≤◌, List, [], ◌∷◌, ◌++◌, length, arith, sym, ap, ◌∙◌, refl, subst}
-use Rattle.std.proofs.lemmas.List.{length-append}
-use Rattle.display_map.specs.Replay.{History, state_of}
+use Rattle.std.proofs.Common.{◌≡◌, ℕ, ◌≤◌, Bool, false, List, [], ◌∷◌, ◌++◌, length, append_assoc, arith, sym, ap, ◌∙◌, refl, subst}
+use Rattle.std.specs.Prelude.{◌||◌}
+use Rattle.std.specs.List.{list_any}
+use Rattle.std.proofs.lemmas.List.{append-nil, length-append}
+use Rattle.std.proofs.lemmas.List.Folds.{list_any-append}
+use Rattle.display_map.specs.Events.{Event}
+use Rattle.display_map.specs.Replay.{History, state_of, appended}
 use Rattle.live_display.specs.declared.halt.Halt.{Halt}
 use Rattle.live_display.specs.declared.halt.Halt.TheVariants.{Full, Memory}
-use Rattle.live_display.specs.Beside.{Step, behind, behind_all, events_of, MayTake, MayTakeAll, HasGone, IsHalted}
+use Rattle.live_display.specs.Beside.{Step, behind, behind_all, events_of, MayTake, MayTakeAll, HasGone, GoesWithout, IsHalted}
 
 behind-append : (h : History) (xs ys : List Step) → behind_all h (xs ++ ys) ≡ behind_all (behind_all h xs) ys
 behind-append h [] ys = refl
@@ -41,3 +45,22 @@ behind-longer h (step ∷ steps) =
 
 pub gone-longer : (w : ℕ) (h h' : History) → HasGone w h h' → length h.events ≤ length h'.events
 gone-longer w h h' gone = subst (λ (x : History). length h.events ≤ length x.events) (sym gone.display) (behind-longer h gone.steps)
+
+-- ---- without events of a kind
+
+pub without-none : (is_such : Event → Bool) (h h' : History) → h' ≡ h → GoesWithout is_such h h'
+without-none is_such h h' same =
+    record { more = []; display = same ∙ ap (λ es. record { opening = h.opening; events = es }) (sym (append-nil h.events)); none = refl }
+
+or-false : (a b : Bool) → a ≡ false → b ≡ false → (a || b) ≡ false
+or-false a b p q = ap (λ a. a || b) p ∙ q
+
+pub without-without : (is_such : Event → Bool) (a b c : History) → GoesWithout is_such a b → GoesWithout is_such b c → GoesWithout is_such a c
+without-without is_such a b c x y =
+    record {
+      more = x.more ++ y.more;
+      display = y.display
+          ∙ (ap (λ h. appended h y.more) x.display
+          ∙ ap (λ es. record { opening = a.opening; events = es }) (append_assoc a.events x.more y.more));
+      none = list_any-append is_such x.more y.more ∙ or-false (list_any is_such x.more) (list_any is_such y.more) x.none y.none;
+    }

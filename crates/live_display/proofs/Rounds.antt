@@ -2,14 +2,14 @@
 use Rattle.std.proofs.Common.{◌≡◌, ℕ, ◌-◌, ◌<◌, ◌≤◌, ◌⊎◌, inl, inr, not, Bool, true, false, List, [], ◌∷◌, length, map, Result, Ok, Err, refl, sym, ap, ◌∙◌, subst, arith, true≢false}
 use Rattle.std.specs.Prelude.{IfErr, OnOk}
 use Rattle.std.specs.Result.{IsErrAnd}
-use Rattle.display_map.specs.Events.{event_limit}
+use Rattle.display_map.specs.Events.{Event, event_limit}
 use Rattle.display_map.specs.Replay.{History, state_of, present_of, is_settled}
 use Rattle.live_display.specs.declared.owner.Owner.{Owner}
 use Rattle.live_display.specs.declared.halt.Halt.{Halt}
-use Rattle.live_display.specs.Beside.{HasGone, IsHalted, outstanding}
+use Rattle.live_display.specs.Beside.{HasGone, GoesWithout, IsHalted, is_any_landing, is_send, outstanding}
 use Rattle.live_display.specs.Owned.{IsBusy, IsOwned, IsSameTeam}
 use Rattle.live_display.specs.Stepping.{HasLanded, HasLandedOne, HasSent, IsLonger}
-use Rattle.live_display.proofs.Going.{gone-none, gone-gone, gone-longer, halted-behind}
+use Rattle.live_display.proofs.Going.{gone-none, gone-gone, gone-longer, halted-behind, without-none}
 use Rattle.live_display.proofs.Outs.{Job, outstanding-is}
 use Rattle.live_display.proofs.Settled.{all-settled}
 
@@ -18,6 +18,11 @@ pub record Keeps (first now : Owner) : Type 0 where
   pub gone : HasGone first.crew.workers first.display now.display
   pub owned : IsOwned now
   pub team : IsSameTeam first now
+
+-- ... and no event of the journal since is such a one
+pub record KeepsWithout (is_such : Event → Bool) (first now : Owner) : Type 0 where
+  pub keeps : Keeps first now
+  pub without : GoesWithout is_such first.display now.display
 
 team-team : (a b c : Owner) → IsSameTeam a b → IsSameTeam b c → IsSameTeam a c
 team-team a b c x y = record { workers = y.workers ∙ x.workers; board = y.board ∙ x.board }
@@ -40,7 +45,15 @@ sent-gone o o' false sent = gone-none o.crew.workers o.display o'.display sent.1
 
 pub landed-gone : (o o' : Owner) (more : Bool) → HasLandedOne o o' more → HasGone o.crew.workers o.display o'.display
 landed-gone o o' true landed = landed.0.gone
-landed-gone o o' false same = gone-none o.crew.workers o.display o'.display same
+landed-gone o o' false none = gone-none o.crew.workers o.display o'.display none.0
+
+pub sent-without : (o o' : Owner) (more : Bool) → HasSent o o' more → GoesWithout is_any_landing o.display o'.display
+sent-without o o' true sent = sent.3
+sent-without o o' false sent = without-none is_any_landing o.display o'.display sent.1
+
+pub landed-without : (o o' : Owner) (more : Bool) → HasLandedOne o o' more → GoesWithout is_send o.display o'.display
+landed-without o o' true landed = landed.0.unsent
+landed-without o o' false none = without-none is_send o.display o'.display none.0
 
 -- where a display isn't settled, or its crew is full, and it is busy, a job is out
 none-out : (h : History) (out : List Job) → map (λ j. j.number) out ≡ [] → length out ≡ 0

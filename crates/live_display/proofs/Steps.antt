@@ -8,7 +8,7 @@ use Rattle.display_map.specs.Sending.{IsOutstanding, IsRunTaken, IsSent, sending
 use Rattle.version_board.specs.Known.{Known}
 use Rattle.live_display.specs.declared.owner.Owner.{Owner}
 use Rattle.live_display.specs.declared.halt.Halt.TheVariants as halts
-use Rattle.live_display.specs.Beside.{Sends, Lands, behind, IsHalted, IsOut}
+use Rattle.live_display.specs.Beside.{Sends, Lands, behind, events_of, IsHalted, IsOut}
 use Rattle.live_display.specs.Owned.{HasTeam, IsLanding, IsNewest, IsOwned}
 use Rattle.live_display.specs.Stepping.{HasLanded, HasSent}
 use Rattle.live_display.proofs.Going.{gone-none, gone-one}
@@ -45,6 +45,7 @@ has-sent o o' job sent owned few room =
           (record { run = sent.run_is; number = sent.number_is; room = omega (arith, outstanding, few) }) sent.event_is,
       omega (arith, count),
       omega (arith, count, room),
+      record { more = sending job ∷ []; display = sent.event_is; none = refl },
     )
 
 pub team-sent : Stays → ((before after : History) (job : Job) → IsSent before after job → IsOutstanding after job)
@@ -94,6 +95,7 @@ has-landed o o' between job landing landed published room =
     let two = longer between o'.display (Published false ∷ []) published in
     record {
       gone = gone-one o.crew.workers o.display o'.display (Lands job.number) (landing-is-out o job landing) (both o.display between o'.display job.number landed published);
+      unsent = record { more = events_of (Lands job.number); display = both o.display between o'.display job.number landed published; none = refl };
       longer = omega (arith, one, two);
       within = omega (arith, one, two, room);
     }

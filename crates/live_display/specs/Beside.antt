@@ -1,5 +1,6 @@
 -- What an owner does beside the lines of a script.
-use Rattle.std.specs.Prelude.{ℕ, ◌≡◌, ◌+◌, ◌*◌, ◌<◌, ◌⊎◌, not, false, List, [], ◌∷◌, length, count_by, Some}
+use Rattle.std.specs.Prelude.{ℕ, ◌≡◌, ◌+◌, ◌*◌, ◌<◌, ◌⊎◌, Bool, not, true, false, List, [], ◌∷◌, length, count_by, Some}
+use Rattle.std.specs.List.{list_any}
 use Rattle.std.specs.Option.{option_map}
 use Rattle.display_map.specs.Events.{Event, Sent, Landed, Published, event_limit}
 use Rattle.display_map.specs.Replay.{History, State, state_of, appended, next_run, job_numbered}
@@ -24,6 +25,22 @@ behind h step = appended h (events_of step)
 abbrev pub behind_all : History → List Step → History
 behind_all h [] = h
 behind_all h (step ∷ steps) = behind_all (behind h step) steps
+
+-- a run is sent
+abbrev pub is_send : Event → Bool
+is_send (Sent job first count) = true
+is_send _ = false
+
+-- a job lands, whichever it is
+abbrev pub is_any_landing : Event → Bool
+is_any_landing (Landed job) = true
+is_any_landing _ = false
+
+-- the display went on by events of which none is such a one
+pub record GoesWithout (is_such : Event → Bool) (old new : History) : Type 0 where
+  pub more : List Event
+  pub display : new ≡ appended old more
+  pub none : list_any is_such more ≡ false
 
 -- how many jobs were sent and haven't landed
 abbrev pub outstanding : State → ℕ

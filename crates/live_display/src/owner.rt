@@ -12,9 +12,9 @@ ghost use Rattle.display_map.specs.Sending.{IsOutstanding};
 ghost use Rattle.display_map.specs.Replay.{appended, is_settled, present_of, state_of};
 ghost use Rattle.live_display.specs.declared.halt.Halt.TheVariants as halts;
 ghost use Rattle.live_display.specs.declared.owner.TheConstants.{EVENTS_AHEAD};
-ghost use Rattle.live_display.specs.Beside.{HasGone, IsHalted, outstanding};
+ghost use Rattle.live_display.specs.Beside.{GoesWithout, HasGone, IsHalted, is_any_landing, is_send, outstanding};
 ghost use Rattle.live_display.specs.Owned.{IsBusy, IsLanding, IsOwned, IsSameTeam};
-ghost use Rattle.live_display.specs.Stepping.{HasLanded, HasLandedOne, HasSent, IsLonger};
+ghost use Rattle.live_display.specs.Stepping.{HasLanded, HasLandedOne, HasSent, IsIdle, IsLonger, WasEmpty};
 
 use crate::halt::Halt;
 use cell_units::{Fault, NoMemory, Steps};
@@ -48,6 +48,7 @@ fn show<R: Wait>(
 ) -> Result<(), NoMemory>
     requires { ForSome writer.old (λ w. Follows w.newest version) }
     ensures shown { OnOk result (IfSome writer.new (λ w. w.newest ≡ version)) }
+    ensures unshown { OnErr result (writer.new ≡ writer.old) }
     ensures board { option_map (λ w. w.board) writer.new ≡ option_map (λ w. w.board) writer.old }
 {
     match writer {
@@ -109,9 +110,10 @@ impl Owner {
             (IfSome self.new.writer (λ writer. writer.newest ≡ self.new.display)) }
         ensures owned { OnOk result (last ≡ false → IsOwned self.new) }
 
-        // Where it is not shown.
+        // Where it is not shown, the board shows what it did.
         ensures unshown { OnErr result ((self.new.display ≡ self.old.display)
             ⊎ (self.new.display ≡ appended self.old.display (Published last ∷ []))) }
+        ensures kept { OnErr result (self.new.writer ≡ self.old.writer) }
 
         // The crew.
         ensures crew { self.new.crew ≡ self.old.crew }
@@ -127,10 +129,14 @@ impl Owner {
     pub fn land_ready<R: Wait>(&mut self, rt: &R) -> Result<(), Halt>
         requires { IsOwned self.old }
 
-        // The display goes on by steps that may be taken, and crew and board are still its own.
+        // The display goes on by steps that may be taken, none of them a send, and crew and board are still its own.
         ensures gone { OnOk result
             (HasGone self.old.crew.workers self.old.display self.new.display) }
+        ensures unsent { OnOk result (GoesWithout is_send self.old.display self.new.display) }
         ensures owned { OnOk result (IsOwned self.new) }
+
+        // No result is left: the queue of results was empty with the jobs that are out now.
+        ensures emptied { OnOk result (WasEmpty self.new.crew.out) }
 
         // Where it halts, and the crew.
         ensures halted { IfErr result
@@ -145,9 +151,11 @@ impl Owner {
     pub fn send_runs<R: Wait>(&mut self, rt: &R) -> Result<(), Halt>
         requires { IsOwned self.old }
 
-        // What is reached.
+        // What is reached, without a landing.
         ensures gone { OnOk result
             (HasGone self.old.crew.workers self.old.display self.new.display) }
+        ensures sends { OnOk result
+            (GoesWithout is_any_landing self.old.display self.new.display) }
         ensures owned { OnOk result (IsOwned self.new) }
         ensures busy { OnOk result (IsBusy self.new) }
 
@@ -160,7 +168,7 @@ impl Owner {
         Ok(())
     }
 
-    /// Sends runs and lands results until every line stands wrapped at the width. Where a result is wanted it does a waiting
+    /// Sends runs and lands results until every line is wrapped at the width. Where a result is wanted it does a waiting
     /// job itself, and waits for a worker only where no job waits.
     pub fn settle<R: Wait, G: Gate>(&mut self, rt: &R, gate: &G) -> Result<(), Halt>
         requires { IsOwned self.old }
@@ -235,7 +243,7 @@ impl Owner {
         Ok(())
     }
 
-    /// Whether a result is wanted before every line stands wrapped at the width. Where the crew is full a line may wait, and
+    /// Whether a result is wanted before every line is wrapped at the width. Where the crew is full a line may wait, and
     /// a look at all lines would be in vain.
     fn wants_result(&self) -> bool
         requires owned { IsOwned self.now }
@@ -246,7 +254,7 @@ impl Owner {
         self.crew.is_full() || !self.display.settled()
     }
 
-    /// Whether a job is out, or a line stands otherwise than at the width.
+    /// Whether a job is out, or a line is wrapped otherwise than at the width.
     fn is_unfinished(&self) -> bool
         // The crew is the display's, and no more may be sent.
         requires owned { IsOwned self.now }
@@ -255,7 +263,7 @@ impl Owner {
         // Where it is so, there is a result to come.
         ensures out { result ≡ true → 1 ≤ length self.now.crew.out }
 
-        // Where it isn't, each line stands wrapped at the width, and every job has landed.
+        // Where it isn't, each line is wrapped at the width, and every job has landed.
         ensures settled { result ≡ false → is_settled (present_of self.now.display) ≡ true }
         ensures landed { result ≡ false → outstanding (state_of self.now.display) ≡ 0 }
     {
@@ -315,7 +323,7 @@ impl Owner {
         requires free { IsFree job.number self.old.crew.out }
         requires room { length self.old.crew.out < 2 * self.old.crew.workers }
 
-        // So the crew takes it, behind those that are out.
+        // So the crew takes it, after those that are out.
         ensures taken { result ≡ true }
         ensures out { self.new.crew.out ≡ self.old.crew.out ++ job ∷ [] }
 
@@ -331,7 +339,7 @@ impl Owner {
     fn land_one<R: Wait>(&mut self, rt: &R) -> Result<bool, Halt>
         requires { IsOwned self.old }
 
-        // A result landed with its version and fewer jobs are out, or the display stays.
+        // A result landed with its version and fewer jobs are out, or none was there.
         ensures landed { IfOk result (HasLandedOne self.old self.new) }
         ensures owned { OnOk result (IsOwned self.new) }
 
@@ -388,6 +396,23 @@ impl Owner {
         if let Some(finished) = self.crew.help(rt, self.alloc, gate) {
             return finished;
         }
+        self.wait_result(rt)
+    }
+
+    /// Waits until a worker has a result.
+    fn wait_result<R: Wait>(&mut self, rt: &R) -> Finished<Held>
+        // There is a result to come, and no job waits that the owner could do itself.
+        requires some { 1 ≤ length self.old.crew.out }
+        requires idle { IsIdle self.old }
+
+        // It is of one of the jobs that were out, and the others still are.
+        ensures taken { IsTakenOff (job_of result) self.old.crew.out self.new.crew.out }
+
+        // The workers, the display and the writer stay.
+        ensures workers { self.new.crew.workers ≡ self.old.crew.workers }
+        ensures display { self.new.display ≡ self.old.display }
+        ensures writer { self.new.writer ≡ self.old.writer }
+    {
         self.crew.wait_one(rt)
     }
 
