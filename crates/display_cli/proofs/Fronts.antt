@@ -1,17 +1,18 @@
 -- What a sink took, and what was read, piece after piece.
-use Rattle.std.proofs.Common.{◌≡◌, ℕ, ◌+◌, ◌<◌, ◌≤◌, List, [], ◌∷◌, ◌++◌, length, take, drop, Option, Some, None, Result, Ok, refl, sym, ap, ◌∙◌, subst, append_assoc, arith}
+use Rattle.std.proofs.Common.{◌≡◌, ℕ, ◌+◌, ◌<◌, ◌≤◌, true, false, if◌then◌else◌, List, [], ◌∷◌, ◌++◌, length, map, take, drop, get_or, Option, Some, None, Result, Ok, refl, sym, ap, ◌∙◌, subst, append_assoc, arith}
 use Rattle.std.specs.Prelude.{slice_get, IfSome, IfOk}
-use Rattle.std.proofs.lemmas.List.{append-nil, take-append-le, length-drop, length-take}
-use Rattle.std.proofs.Math.Seq.{take-add}
+use Rattle.std.proofs.lemmas.List.{append-nil, drop_more, take-append-le, length-drop, length-take}
+use Rattle.std.proofs.lemmas.List.Sums.{sum_by-append, sum_by-cons}
+use Rattle.std.proofs.Math.Seq.{drop-append_seam, take-add}
 use Rattle.cell_units.specs.Text.{line_feed}
 use Rattle.display_cli.specs.declared.outside.Part.{Part}
-use Rattle.display_cli.specs.Outside.{Read, InputState, SinkState, HasRisen, IsGiven, Appends, Takes, TakesFront, Refuses}
+use Rattle.display_cli.specs.declared.outside.Part.TheVariants.{Text, Script}
+use Rattle.display_cli.specs.Outside.{Read, InputState, SinkState, HasRisen, IsGiven, Appends, Takes, TakesFront, Refuses, count_between, count_read, is_part}
 use Rattle.display_cli.specs.Ended.{AreReadsOf}
 use Rattle.display_cli.specs.Output.{printed}
 use Rattle.display_cli.specs.declared.stop.Stop.{Stop}
 use Rattle.display_cli.specs.declared.stop.Stop.TheVariants as stops
 use Rattle.display_cli.specs.declared.read.Unread.{Unread}
-use Rattle.display_cli.specs.declared.read.Unread.TheVariants as ends
 use Rattle.display_cli.specs.inside.Reading.{HasFront, IsUnwritten, ReadsOnce, ReadsName}
 
 pub appends-more : (a b c : Option (List ℕ)) (x y : List ℕ) → Appends a b x → Appends b c y → Appends a c (x ++ y)
@@ -109,6 +110,39 @@ written-stopped all left rest a b c line stop before is e why =
     unwritten-behind a b c before.front (line ++ line_feed ∷ []) (printed rest) (printed all) stop before.taken why
     (append_assoc before.front (line ++ line_feed ∷ []) (printed rest) ∙ (ap (λ l. before.front ++ l) (line-first left rest line is e) ∙ before.is_front))
 
+-- a first line of some, and the lines after it
+module _ (line : List ℕ) (lines : List (List ℕ)) (a b c : SinkState) (text : List ℕ) (stop : Stop) (e : text ≡ line) where
+  pub first-unwritten : IsUnwritten (text ++ line_feed ∷ []) a b stop → IsUnwritten (printed (line ∷ lines)) a b stop
+  first-unwritten why =
+      unwritten-behind a a b [] (text ++ line_feed ∷ []) (printed lines) (printed (line ∷ lines)) stop (takes-none a) why
+      (ap (λ t. (t ++ line_feed ∷ []) ++ printed lines) e)
+
+  pub others-unwritten : (some : List (List ℕ)) → some ≡ lines → Takes (text ++ line_feed ∷ []) a b → IsUnwritten (printed some) b c stop
+      → IsUnwritten (printed (line ∷ lines)) a c stop
+  others-unwritten some f taken why =
+      unwritten-behind a b c (text ++ line_feed ∷ []) (printed some) [] (printed (line ∷ lines)) stop taken why
+      (append-nil ((text ++ line_feed ∷ []) ++ printed some)
+      ∙ (ap (λ t. (t ++ line_feed ∷ []) ++ printed some) e ∙ ap (λ ls. (line ++ line_feed ∷ []) ++ printed ls) f))
+
+-- the lines of a list, one after the other
+module _ {X : Type 0} (line_of : X → List ℕ) (all : List X) (i : ℕ) (d : X) (lt : i < length all) (a b c : SinkState)
+    (before : AreWritten (map line_of all) (map line_of (drop i all)) a b) where
+  next-listed : AreWritten (map line_of all) (line_of (get_or all i d) ∷ map line_of (drop (i + 1) all)) a b
+  next-listed =
+      let P : List X → Type 0 = λ rest. AreWritten (map line_of all) (map line_of rest) a b in subst P (drop_more all i d lt) before
+
+  pub listed-written : (line : List ℕ) → line ≡ line_of (get_or all i d) → Takes (line ++ line_feed ∷ []) b c
+      → AreWritten (map line_of all) (map line_of (drop (i + 1) all)) a c
+  listed-written line e taken =
+      written-more (map line_of all) (line_of (get_or all i d) ∷ map line_of (drop (i + 1) all)) (map line_of (drop (i + 1) all)) a b c line
+      next-listed (ap Some e) refl taken
+
+  pub listed-unwritten : (line : List ℕ) (stop : Stop) → line ≡ line_of (get_or all i d) → IsUnwritten (line ++ line_feed ∷ []) b c stop
+      → IsUnwritten (printed (map line_of all)) a c stop
+  listed-unwritten line stop e why =
+      written-stopped (map line_of all) (line_of (get_or all i d) ∷ map line_of (drop (i + 1) all)) (map line_of (drop (i + 1) all)) a b c line stop
+      next-listed (ap Some e) refl why
+
 -- no line is left
 pub none-first : (left : List (List ℕ)) → None ≡ slice_get left 0 → left ≡ []
 none-first [] e = refl
@@ -152,40 +186,41 @@ reads_end-snoc at [] read = refl
 reads_end-snoc at (r ∷ reads) read = reads_end-snoc (at + r.count) reads read
 
 -- one more read from where the others end
-pub reads-snoc : (part : Part) (name : List ℕ) (at : ℕ) (reads : List Read) (from count : ℕ) → AreReadsOf part name at reads → from ≡ reads_end at reads
-    → AreReadsOf part name at (reads ++ record { part = part; name = name; at = from; count = count } ∷ [])
-reads-snoc part name at [] from count are e = (refl, refl, e, tt)
-reads-snoc part name at (r ∷ reads) from count are e = (are.0, are.1, are.2, reads-snoc part name (at + r.count) reads from count are.3 e)
+pub reads-snoc : (part : Part) (name : List ℕ) (limit at : ℕ) (reads : List Read) (from count : ℕ) → AreReadsOf part name limit at reads → from ≡ reads_end at reads
+    → from + count ≤ limit + 1 → AreReadsOf part name limit at (reads ++ record { part = part; name = name; at = from; count = count } ∷ [])
+reads-snoc part name limit at [] from count are e within = let W : ℕ → Type 0 = λ k. k + count ≤ limit + 1 in (refl, refl, e, subst W e within, tt)
+reads-snoc part name limit at (r ∷ reads) from count are e within =
+    (are.0, are.1, are.2, are.3, reads-snoc part name limit (at + r.count) reads from count are.4 e within)
 
 -- reads of a name so far, up to a byte, behind those of a state
-pub record ReadsUpTo (part : Part) (name : List ℕ) (end : ℕ) (old new : InputState) : Type 0 where
+pub record ReadsUpTo (part : Part) (name : List ℕ) (limit end : ℕ) (old new : InputState) : Type 0 where
   pub tells : (any : List ℕ) → new.told any ≡ old.told any
   pub reads : List Read
   pub made : new.reads ≡ old.reads ++ reads
-  pub in_order : AreReadsOf part name 0 reads
+  pub in_order : AreReadsOf part name limit 0 reads
   pub end_is : end ≡ reads_end 0 reads
   pub passed : new.faults ≡ old.faults
 
 -- whatever became of one more read, the reads are in order
-pub reads-once-more : (part : Part) (name : List ℕ) (end : ℕ) (result : Result ℕ Unread) (a b c : InputState)
-    → ReadsUpTo part name end a b → ReadsOnce part name end result b c → ReadsName part name a c
-reads-once-more part name end result a b c before once = record {
+pub reads-once-more : (part : Part) (name : List ℕ) (limit end : ℕ) (result : Result ℕ Unread) (a b c : InputState)
+    → ReadsUpTo part name limit end a b → ReadsOnce part name limit end result b c → ReadsName part name limit a c
+reads-once-more part name limit end result a b c before once = record {
   tells = λ any. once.tells any ∙ before.tells any;
   reads = before.reads ++ record { part = part; name = name; at = end; count = once.count } ∷ [];
   made = once.made ∙ (ap (λ l. l ++ record { part = part; name = name; at = end; count = once.count } ∷ []) before.made
       ∙ append_assoc a.reads before.reads (record { part = part; name = name; at = end; count = once.count } ∷ []));
-  in_order = reads-snoc part name 0 before.reads end once.count before.in_order before.end_is;
+  in_order = reads-snoc part name limit 0 before.reads end once.count before.in_order before.end_is once.within;
 }
 
 -- where it passed, they go on to its end
-pub up-to-more : (part : Part) (name : List ℕ) (end n new_end : ℕ) (result : Result ℕ Unread) (a b c : InputState)
-    → ReadsUpTo part name end a b → ReadsOnce part name end result b c → result ≡ Ok n → new_end ≡ end + n → c.faults ≡ b.faults
-    → ReadsUpTo part name new_end a c
+pub up-to-more : (part : Part) (name : List ℕ) (limit end n new_end : ℕ) (result : Result ℕ Unread) (a b c : InputState)
+    → ReadsUpTo part name limit end a b → ReadsOnce part name limit end result b c → result ≡ Ok n → new_end ≡ end + n → c.faults ≡ b.faults
+    → ReadsUpTo part name limit new_end a c
 unfolding reads-once-more
-up-to-more part name end n new_end result a b c before once is grows passed =
+up-to-more part name limit end n new_end result a b c before once is grows passed =
     let P : Result ℕ Unread → Type 0 = λ r. IfOk r (λ n. n ≡ once.count) in
     let counted : n ≡ once.count = subst P is once.counted in
-    let more = reads-once-more part name end result a b c before once in
+    let more = reads-once-more part name limit end result a b c before once in
     record {
       tells = more.tells;
       reads = before.reads ++ record { part = part; name = name; at = end; count = once.count } ∷ [];
@@ -195,3 +230,70 @@ up-to-more part name end n new_end result a b c before once is grows passed =
           ∙ sym (reads_end-snoc 0 before.reads (record { part = part; name = name; at = end; count = once.count }))));
       passed = passed ∙ before.passed;
     }
+
+-- ---- how many bytes were read
+
+same-part : (part : Part) → is_part part part ≡ true
+same-part Text = refl
+same-part Script = refl
+
+count-cons : (part : Part) (r : Read) (reads : List Read)
+    → count_read part (r ∷ reads) ≡ (if is_part part r.part then r.count else 0) + count_read part reads
+count-cons part r reads = sum_by-cons (λ (read : Read). if is_part part read.part then read.count else 0) r reads
+
+-- reads of a part gave as many bytes of it as they reach
+ends-counted : (part : Part) (name : List ℕ) (limit at : ℕ) (reads : List Read) → AreReadsOf part name limit at reads
+    → reads_end at reads ≡ at + count_read part reads
+ends-counted part name limit at [] are = omega arith
+ends-counted part name limit at (r ∷ reads) are =
+    let here : (if is_part part r.part then r.count else 0) ≡ r.count =
+    ap (λ p. if is_part part p then r.count else 0) are.0 ∙ ap (λ b. if b then r.count else 0) (same-part part) in
+    let rest = ends-counted part name limit (at + r.count) reads are.4 in
+    let all = count-cons part r reads in
+    omega arith
+
+-- ... and none of the other
+none-counted : (part other : Part) (name : List ℕ) (limit at : ℕ) (reads : List Read) → is_part part other ≡ false → AreReadsOf other name limit at reads
+    → count_read part reads ≡ 0
+none-counted part other name limit at [] apart are = refl
+none-counted part other name limit at (r ∷ reads) apart are =
+    let here : (if is_part part r.part then r.count else 0) ≡ 0 =
+    ap (λ p. if is_part part p then r.count else 0) are.0 ∙ ap (λ b. if b then r.count else 0) apart in
+    let rest = none-counted part other name limit (at + r.count) reads apart are.4 in
+    let all = count-cons part r reads in
+    omega arith
+
+since : (old new reads : List Read) → new ≡ old ++ reads → drop (length old) new ≡ reads
+since old new reads made = ap (λ l. drop (length old) l) made ∙ drop-append_seam old reads
+
+pub counted-up-to : (part : Part) (name : List ℕ) (limit end : ℕ) (a b : InputState) → ReadsUpTo part name limit end a b → end ≡ count_between part a b
+counted-up-to part name limit end a b up =
+    let all = ends-counted part name limit 0 up.reads up.in_order in
+    let these : count_between part a b ≡ count_read part up.reads = ap (count_read part) (since a.reads b.reads up.reads up.made) in
+    let reached = up.end_is in
+    omega arith
+
+-- the reads of a text and then of a script
+module _ (text_name script_name : List ℕ) (text_limit script_limit : ℕ) (a b c : InputState)
+    (of_text : ReadsName Text text_name text_limit a b) (of_script : ReadsName Script script_name script_limit b c) where
+  both : c.reads ≡ a.reads ++ (of_text.reads ++ of_script.reads)
+  both = of_script.made ∙ (ap (λ l. l ++ of_script.reads) of_text.made ∙ append_assoc a.reads of_text.reads of_script.reads)
+
+  counts-both : (part : Part) → count_between part a c ≡ count_read part of_text.reads + count_read part of_script.reads
+  counts-both part =
+      ap (count_read part) (since a.reads c.reads (of_text.reads ++ of_script.reads) both)
+      ∙ sum_by-append (λ (read : Read). if is_part part read.part then read.count else 0) of_text.reads of_script.reads
+
+  pub text-counted : count_between Text a c ≡ count_between Text a b
+  text-counted =
+      let all = counts-both Text in
+      let these : count_between Text a b ≡ count_read Text of_text.reads = ap (count_read Text) (since a.reads b.reads of_text.reads of_text.made) in
+      let none = none-counted Text Script script_name script_limit 0 of_script.reads refl of_script.in_order in
+      omega arith
+
+  pub script-counted : count_between Script a c ≡ count_between Script b c
+  script-counted =
+      let all = counts-both Script in
+      let these : count_between Script b c ≡ count_read Script of_script.reads = ap (count_read Script) (since b.reads c.reads of_script.reads of_script.made) in
+      let none = none-counted Script Text text_name text_limit 0 of_text.reads refl of_text.in_order in
+      omega arith

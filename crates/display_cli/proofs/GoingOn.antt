@@ -67,13 +67,13 @@ going-stopped course left tally s going =
 -- ... where its journal has no room for the next step
 pub going-full : (course : Course) (left : List (ℕ × Entry)) (tally : Tally) (s : Stage) → IsGoing course left tally s
     → event_limit < length s.history.events + 3 → IsCut None course s stops.JournalFull
-going-full course left tally s going full = record { stopped = going-stopped course left tally s going; why = omega arith }
+going-full course left tally s going full = record { opening = going.opening; stopped = going-stopped course left tally s going; why = omega arith }
 
 -- ... or where there is no memory
 pub going-short : (course : Course) (left : List (ℕ × Entry)) (tally : Tally) (s : Stage) → IsGoing course left tally s
     → length s.history.events < event_limit → IsCut None course s stops.Memory
 going-short course left tally s going room =
-    record { stopped = going-stopped course left tally s going; why = (room, going.written.passed) }
+    record { opening = going.opening; stopped = going-stopped course left tally s going; why = (room, going.written.passed) }
 
 pub going-quiet : (course : Course) (left : List (ℕ × Entry)) (tally : Tally) (s : Stage) (more : List Event)
     → IsGoing course left tally s → list_any is_line more ≡ false
@@ -163,6 +163,7 @@ module _ (course : Course) (left : List (ℕ × Entry)) (tally : Tally) (sink : 
       elim halted.0.last [
         | inl e ↦ subst P (sym e) (going-short course left tally (at between sink) before (subst R e halted.1))
         | inr it ↦ subst P (sym it.2) (record {
+          opening = before.opening;
           stopped = stopped-quiet course left tally (at between sink) (Landed it.0 ∷ []) before refl (landed-legal between it.0 it.1 before);
           why = (subst R it.2 halted.1, before.written.passed);
         })

@@ -1,5 +1,5 @@
 -- How the handling of an entry ends.
-use Rattle.std.proofs.Common.{◌≡◌, ℕ, ◌+◌, ◌<◌, ◌≤◌, inl, inr, Bool, true, false, List, [], ◌∷◌, ◌++◌, length, take, drop, Option, Some, None, true≢false, Result, Ok, Err, refl, sym, ap, ◌∙◌, subst, arith, length-append, if◌then◌else◌}
+use Rattle.std.proofs.Common.{◌≡◌, ℕ, ◌+◌, ◌<◌, ◌≤◌, inl, inr, Bool, false, List, [], ◌∷◌, ◌++◌, length, take, drop, Option, Some, None, Result, Ok, Err, refl, sym, ap, ◌∙◌, subst, arith, length-append, if◌then◌else◌}
 use Rattle.std.specs.Result.{IsErrAnd}
 use Rattle.std.proofs.lemmas.Bool.{le-ltb}
 use Rattle.std.specs.List.{enumerate_from}
@@ -15,6 +15,7 @@ use Rattle.display_sheet.specs.Changes.{ops_of, change_refusal}
 use Rattle.display_map.specs.Events.{event_limit}
 use Rattle.display_map.specs.Replay.{History, replayed, state_of, present_of, versions_of, appended}
 use Rattle.edit_script.specs.declared.asked.Form.{Form}
+use Rattle.edit_script.specs.declared.asked.CaretQuery.{CaretQuery}
 use Rattle.edit_script.specs.declared.asked.Query.{Query}
 use Rattle.edit_script.specs.declared.asked.Query.TheVariants as queries
 use Rattle.edit_script.specs.Answers.{HasAnswer, IsUnanswered}
@@ -22,25 +23,25 @@ use Rattle.edit_script.specs.declared.asked.Asked.{Asked}
 use Rattle.edit_script.specs.declared.asked.Asked.TheVariants as asks
 use Rattle.cell_units.specs.declared.fault.Fault.{Fault}
 use Rattle.cell_units.specs.declared.fault.Fault.TheVariants as faults
-use Rattle.edit_script.specs.Commands.{Command, Ask, Settle, command_of, meaning}
-use Rattle.edit_script.specs.Printed.{command_lines, query_lines, refusal_text, row_line, rows_from}
+use Rattle.edit_script.specs.Commands.{Command, Ask, AskCaret, Settle, command_of, meaning}
+use Rattle.edit_script.specs.Printed.{query_lines, refusal_text, row_line, rows_from}
 use Rattle.edit_script.specs.declared.blank.TheConstants.{LINE_LIMIT}
 use Rattle.edit_script.specs.Verdict.{Verdict, Refused, Accepted, verdict, refused_or, command_refusal, query_refusal}
 use Rattle.edit_script.specs.Verdict as verdicts
-use Rattle.edit_script.proofs.Verdicts.{verdict-read, verdict-unread, change-refusal, change-ops, change-silent}
+use Rattle.edit_script.proofs.Verdicts.{verdict-read, verdict-unread, change-refusal, change-ops}
 use Rattle.display_cli.specs.declared.stop.Stop.{Stop}
 use Rattle.display_cli.specs.declared.stop.Stop.TheVariants as stops
 use Rattle.display_cli.specs.declared.tally.Outcome.{Outcome}
 use Rattle.display_cli.specs.declared.tally.Outcome.TheVariants as outcomes
 use Rattle.display_cli.specs.declared.tally.Tally.{Tally}
 use Rattle.display_cli.specs.Entries.{Entry, Bytes, judged, asked_by, asked_by_command}
-use Rattle.display_cli.specs.Legal.{next_entry, history_of, needs_settled}
+use Rattle.display_cli.specs.Legal.{next_entry, history_of}
 use Rattle.display_cli.specs.Outside.{SinkState, Takes}
-use Rattle.display_cli.specs.Output.{answer, printed, refusals_in}
+use Rattle.display_cli.specs.Output.{answer, command_lines, printed, refusals_in}
 use Rattle.display_cli.specs.inside.Counting.{counted}
 use Rattle.display_cli.specs.Ended.{Course, asked_by_next}
 use Rattle.display_cli.specs.inside.Reading.{IsUnwritten}
-use Rattle.display_cli.specs.inside.Going.{Stage, at, IsGoing, IsCut, MayHandle, IsWhy, HasRoomAhead, IsUnrecorded, IsReadOn, IsUnreadOn, HasChanged, IsWithinChange, IsHandled, Handles, HandlesUnread, HandlesLine, HandlesChange, changed}
+use Rattle.display_cli.specs.inside.Going.{Stage, at, IsGoing, IsCut, MayHandle, IsWhy, HasRoomAhead, IsUnrecorded, IsReadOn, IsUnreadOn, HasChanged, IsWithinChange, IsHandled, Handles, HandlesUnread, HandlesLine, HandlesChange, IsPrepared, IsPreparedFor, changed}
 use Rattle.display_cli.proofs.LastLine.{dids}
 use Rattle.display_cli.proofs.Fronts.{front-none, risen-behind}
 use Rattle.display_cli.proofs.Sends.{state-append}
@@ -80,7 +81,7 @@ module _ (course : Course) (number : ℕ) (entry : Entry) (left : List (ℕ × E
       → operations ≤ asked_by (present_of old) entry → IsCut None course (at new sink) stop
   not-recorded new stop operations same why few =
       let P : History → Type 0 = λ h. IsCut None course (at h sink) stop in
-      subst P (sym same) (record { stopped = going-stopped course ((number, entry) ∷ left) tally (at old sink) going; why = because stop why })
+      subst P (sym same) (record { opening = going.opening; stopped = going-stopped course ((number, entry) ∷ left) tally (at old sink) going; why = because stop why })
     where
       because : (stop : Stop) → IsUnrecorded (length old.events + 3 + operations) stop → IsWhy course (at old sink) stop
       because stops.Write it = absurd it
@@ -100,11 +101,13 @@ module _ (course : Course) (number : ℕ) (entry : Entry) (left : List (ℕ × E
 
       by-stop : (stop : Stop) → IsUnwritten (printed lines) sink behind stop → IsCut None course (at (appended old (Line number ∷ [])) behind) stop
       by-stop stops.Write it = record {
+        opening = going.opening;
         stopped = stopped-line course number entry left tally old sink going may lines behind answered it.0;
         why = risen-behind course.sink.faults sink.faults behind.faults going.written.passed it.1;
       }
       by-stop stops.JournalFull it = absurd it
       by-stop stops.Memory it = record {
+        opening = going.opening;
         stopped = stopped-line course number entry left tally old sink going may lines behind answered it.0;
         why = (few, it.1 ∙ going.written.passed);
       }
@@ -149,7 +152,7 @@ module _ (course : Course) (number : ℕ) (entry : Entry) (left : List (ℕ × E
     same-present = ap present_of recorded ∙ ap (λ s. s.present) (line-state old number)
 
     silent : answer old.opening course.entries old.events (Some (Accepted (meaning (asks.Change change)))) ≡ []
-    silent = change-silent (present_of old) (versions_of old.events) change
+    silent = refl
 
     pub is-changed : (new : History) → HasChanged mid change new None → IsGoing course left (counted tally 0 0) (at new sink)
     is-changed new has =
@@ -176,6 +179,7 @@ module _ (course : Course) (number : ℕ) (entry : Entry) (left : List (ℕ × E
         let R : List Operation → Type 0 = λ ops. IsCut None course (at (appended (appended old (Line number ∷ [])) (dids ops)) sink) stops.Memory in
         elim within [
           | inl e ↦ subst P (sym (e ∙ recorded)) (record {
+            opening = going.opening;
             stopped = stopped-line course number entry left tally old sink going may
                 (answer old.opening course.entries old.events (Some (judged (present_of old) entry))) sink refl
                 (front-none sink (printed (answer old.opening course.entries old.events (Some (judged (present_of old) entry)))));
@@ -188,6 +192,7 @@ module _ (course : Course) (number : ℕ) (entry : Entry) (left : List (ℕ × E
               (let none : change_refusal (present_of old) change ≡ None = ap (λ r. change_refusal r change) (sym same-present) ∙ e in
               let accepted = asked ∙ ap (refused_or (meaning (asks.Change change))) none in
               subst P (sym some) (subst Q (sym recorded) (subst R (change-ops change) (record {
+                opening = going.opening;
                 stopped = stopped-dids course number entry left tally old sink going may (meaning (asks.Change change)) accepted silent;
                 why = (few-dids (verdicts.ops_of (meaning (asks.Change change))) (ap length (change-ops change)), going.written.passed);
               }))))
@@ -242,6 +247,12 @@ pub verdict-query : (form : Form) (r : Record) (line : List ℕ) (asked : Asked)
     → asked ≡ asks.Query query → verdict form r line ≡ refused_or (Ask query) (query_refusal r query)
 verdict-query form r line asked query read e =
     let P : Asked → Type 0 = IsReadOn form r.text line in verdict-asked form r line (asks.Query query) (subst P e read)
+
+-- a question about a caret is accepted
+pub verdict-caret : (form : Form) (r : Record) (line : List ℕ) (asked : Asked) (query : CaretQuery) → IsReadOn form r.text line asked
+    → asked ≡ asks.Caret query → verdict form r line ≡ Accepted (AskCaret query)
+verdict-caret form r line asked query read e =
+    let P : Asked → Type 0 = IsReadOn form r.text line in verdict-asked form r line (asks.Caret query) (subst P e read)
 
 pub verdict-settle : (form : Form) (r : Record) (line : List ℕ) (asked : Asked) → IsReadOn form r.text line asked
     → asked ≡ asks.Settle → verdict form r line ≡ Accepted Settle
@@ -338,10 +349,9 @@ module _ (workers number : ℕ) (old : History) (sink : SinkState) (change : Cha
       (refusal-answered course number entry left tally old sink going refusal it.1) why)
 
 -- a change wants nothing settled, and no refusal does
-pub change-calm : (change : Change) (o : Option Refusal) (P : Type 0)
-    → needs_settled (Some (refused_or (meaning (asks.Change change)) o)) ≡ true → P
-change-calm change None P e = absurd (true≢false (sym e))
-change-calm change (Some refusal) P e = absurd (true≢false (sym e))
+pub change-calm : (h : History) (change : Change) (o : Option Refusal) → IsPrepared false h → IsPreparedFor (refused_or (meaning (asks.Change change)) o) h
+change-calm h change None unsettled = unsettled
+change-calm h change (Some refusal) unsettled = unsettled
 
 -- a line that wasn't read
 pub handles-unread : (workers number : ℕ) (form : Form) (line : List ℕ) (fault : Fault) (old new : Stage) (r : Result Outcome Stop)

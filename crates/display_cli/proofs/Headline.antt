@@ -1,11 +1,14 @@
 -- What a run is by its note, and which notes are owed.
-use Rattle.std.proofs.Common.{◌≡◌, ℕ, ◌<◌, ◌≤◌, ◌⊎◌, inl, inr, false, List, [], ◌∷◌, ◌++◌, length, Result, Ok, Err, Option, Some, None, refl, sym, ap, ◌∙◌, subst, arith, append_assoc}
-use Rattle.std.specs.Prelude.{IfSome, OnOk, OnErr}
+use Rattle.std.proofs.Common.{◌≡◌, ◌≢◌, ℕ, ◌<◌, ◌≤◌, ◌⊎◌, inl, inr, false, true≢false, List, [], ◌∷◌, ◌++◌, length, Result, Ok, Err, Option, Some, None, refl, sym, ap, ◌∙◌, subst, arith, append_assoc}
+use Rattle.std.specs.Prelude.{IfOk, IfSome, OnOk, OnErr}
 use Rattle.std.specs.Str.{IsUtf8}
 use Rattle.std.specs.Str.Lossy.{utf8_valid_len}
+use Rattle.cell_units.specs.Text.{clean}
 use Rattle.display_map.specs.Events.{Event, Published}
 use Rattle.cell_units.specs.declared.limits.TheConstants.{TEXT_LIMIT}
-use Rattle.cell_units.specs.Refusal.{IsAccepted}
+use Rattle.cell_units.specs.declared.fault.TextFault.TheVariants.{NotUtf8}
+use Rattle.cell_units.specs.Refusal.{IsAccepted, IsTextRefused}
+use Rattle.display_map.specs.LawfulStates.{IsLawfulHistory}
 use Rattle.display_map.specs.Replay.{History, appended}
 use Rattle.live_display.specs.Owned.{IsUnopened}
 use Rattle.board_watch.specs.declared.seen.Seen.{Seen}
@@ -20,12 +23,13 @@ use Rattle.display_cli.specs.declared.tally.Tally.{Tally}
 use Rattle.display_cli.specs.declared.ended.Note.{Note}
 use Rattle.display_cli.specs.declared.ended.Note.TheVariants.{Fine, Usage, ReadText, ReadScript, Write, TextNotUtf8, TextTooLong, ScriptTooLong, JournalFull, Memory}
 use Rattle.display_cli.specs.Notes.{note_line}
-use Rattle.display_cli.specs.Outside.{Faults, InputState, SinkState, HasRisen, AreTold, Takes, TakesFront}
+use Rattle.display_cli.specs.Outside.{Faults, InputState, SinkState, HasRisen, AreTold, Takes, TakesFront, count_between}
 use Rattle.display_cli.specs.Entries.{numbered_lines}
+use Rattle.display_cli.specs.Legal.{history_of}
 use Rattle.display_cli.specs.Output.{no_lines, output}
-use Rattle.display_cli.specs.Ended.{Run, Course, IsStopped, IsRefused, HasRead, given, text_of, script_of, HasText, IsNotUtf8At, IsEndedAs, ReadsInOrder, IsTextUnfailed, IsScriptUnfailed, IsOwed, IsComplete, IsRun, Says, course_of}
+use Rattle.display_cli.specs.Ended.{Run, Course, IsStopped, IsRefused, HasRead, given, text_of, script_of, HasText, IsEndedAs, ReadsInOrder, HasReadsPassed, ends_at_text, IsTextUnfailed, IsScriptUnfailed, IsOwed, IsComplete, IsRun, Says, course_of}
 use Rattle.display_cli.specs.inside.Going.{at}
-use Rattle.display_cli.specs.inside.Opening.{IsOpenedOn, IsTextRefused, IsScript, IsScriptRefused, HasWatched, IsNoteOf, HasRun, note_of}
+use Rattle.display_cli.specs.inside.Opening.{IsOpenedOn, IsTextUnread, IsScript, IsScriptUnread, HasWatched, IsNoteOf, HasRun, note_of}
 use Rattle.display_cli.specs.inside.Reading.{ReadsName}
 use Rattle.display_cli.proofs.Fronts.{front-all, front-none}
 use Rattle.display_cli.proofs.GoingOn.{on, going-stopped}
@@ -78,29 +82,84 @@ run-unopened make course old new status note events watched opening fresh how sa
 
 -- ---- the reads of a run
 
-pub reads-both : (plan : Plan) (a b c : InputState) → plan.make ≡ None → ReadsName parts.Text plan.text a b → ReadsName parts.Script plan.script b c
-    → ReadsInOrder plan a.reads c.reads
-reads-both plan a b c named of_text of_script = record {
+pub reads-both : (plan : Plan) (note : Note) (a b c : InputState) → plan.make ≡ None → ends_at_text note ≡ false
+    → ReadsName parts.Text plan.text TEXT_LIMIT a b → ReadsName parts.Script plan.script SCRIPT_LIMIT b c → ReadsInOrder plan note a.reads c.reads
+reads-both plan note a b c named behind of_text of_script = record {
   text = of_text.reads;
   script = of_script.reads;
   made = of_script.made ∙ (ap (λ l. l ++ of_script.reads) of_text.made ∙ append_assoc a.reads of_text.reads of_script.reads);
   of_text = of_text.in_order;
   of_script = of_script.in_order;
+  judged = λ e. absurd (true≢false (sym e ∙ behind));
   none = λ made. absurd (made named);
 }
 
-pub reads-text : (plan : Plan) (a b : InputState) → plan.make ≡ None → ReadsName parts.Text plan.text a b → ReadsInOrder plan a.reads b.reads
-reads-text plan a b named of_text = record {
+pub reads-text : (plan : Plan) (note : Note) (a b : InputState) → plan.make ≡ None → ReadsName parts.Text plan.text TEXT_LIMIT a b
+    → ReadsInOrder plan note a.reads b.reads
+reads-text plan note a b named of_text = record {
   text = of_text.reads;
   script = [];
   made = of_text.made ∙ ap (λ l. a.reads ++ l) (sym (append-nil of_text.reads));
   of_text = of_text.in_order;
   of_script = tt;
+  judged = λ e. refl;
   none = λ made. absurd (made named);
 }
 
-pub reads-none : (plan : Plan) (a : InputState) → ReadsInOrder plan a.reads a.reads
-reads-none plan a = record { text = []; script = []; made = sym (append-nil a.reads); of_text = tt; of_script = tt; none = λ made. refl }
+pub reads-none : (plan : Plan) (note : Note) (a : InputState) → ReadsInOrder plan note a.reads a.reads
+reads-none plan note a =
+    record { text = []; script = []; made = sym (append-nil a.reads); of_text = tt; of_script = tt; judged = λ e. refl; none = λ made. refl }
+
+-- a note of the script, or of its run, isn't of the text alone
+pub unread-behind : (told : Option (List ℕ)) (old new : Faults) (note : Note) → IsScriptUnread told old new note → ends_at_text note ≡ false
+unread-behind told old new ReadScript it = refl
+unread-behind told old new ScriptTooLong it = refl
+unread-behind told old new Memory it = refl
+unread-behind told old new Fine it = absurd it
+unread-behind told old new Usage it = absurd it
+unread-behind told old new ReadText it = absurd it
+unread-behind told old new (TextNotUtf8 at) it = absurd it
+unread-behind told old new TextTooLong it = absurd it
+unread-behind told old new Write it = absurd it
+unread-behind told old new JournalFull it = absurd it
+
+pub run-behind : (make : Option ℕ) (course : Course) (status : ℕ) (events : List Event) (sink : SinkState) (watched : List (List Seen)) (note : Note)
+    → HasRun make course status events sink watched note → ends_at_text note ≡ false
+run-behind make course status events sink watched Fine it = refl
+run-behind make course status events sink watched Write it = refl
+run-behind make course status events sink watched JournalFull it = refl
+run-behind make course status events sink watched Memory it = refl
+run-behind make course status events sink watched Usage it = absurd it
+run-behind make course status events sink watched ReadText it = absurd it
+run-behind make course status events sink watched ReadScript it = absurd it
+run-behind make course status events sink watched (TextNotUtf8 at) it = absurd it
+run-behind make course status events sink watched TextTooLong it = absurd it
+run-behind make course status events sink watched ScriptTooLong it = absurd it
+
+-- where a text or a script wasn't read and the note isn't of a read, none failed
+pub text-passed : (told : Option (List ℕ)) (old new : Faults) (note : Note) → IsTextUnread told old new note → note ≢ ReadText → new ≡ old
+text-passed told old new ReadText it unfailed = absurd (unfailed refl)
+text-passed told old new TextTooLong it unfailed = it.0
+text-passed told old new (TextNotUtf8 at) it unfailed = it.0
+text-passed told old new Memory it unfailed = it
+text-passed told old new Fine it unfailed = absurd it
+text-passed told old new Usage it unfailed = absurd it
+text-passed told old new ReadScript it unfailed = absurd it
+text-passed told old new Write it unfailed = absurd it
+text-passed told old new ScriptTooLong it unfailed = absurd it
+text-passed told old new JournalFull it unfailed = absurd it
+
+pub script-passed : (told : Option (List ℕ)) (old new : Faults) (note : Note) → IsScriptUnread told old new note → note ≢ ReadScript → new ≡ old
+script-passed told old new ReadScript it unfailed = absurd (unfailed refl)
+script-passed told old new ScriptTooLong it unfailed = it.0
+script-passed told old new Memory it unfailed = it
+script-passed told old new Fine it unfailed = absurd it
+script-passed told old new Usage it unfailed = absurd it
+script-passed told old new ReadText it unfailed = absurd it
+script-passed told old new (TextNotUtf8 at) it unfailed = absurd it
+script-passed told old new TextTooLong it unfailed = absurd it
+script-passed told old new Write it unfailed = absurd it
+script-passed told old new JournalFull it unfailed = absurd it
 
 -- ---- what a run is by its note
 
@@ -116,6 +175,14 @@ told-fits {o} b bytes is told fits =
     let same : bytes ≡ b = subst P is told in
     let Q : List ℕ → Type 0 = λ l. length l ≤ SCRIPT_LIMIT in subst Q (sym same) fits
 
+-- a display that was started on what was read
+pub opened-told : (told : Option (List ℕ)) (count : ℕ) (bytes slice : List ℕ) (r : Result History Note) → AreTold told bytes → length bytes ≡ count → slice ≡ bytes
+    → IfOk r (IsOpenedOn (Some slice) (length slice)) → IfOk r (IsOpenedOn told count)
+opened-told told count bytes slice (Ok display) tells counted same opened =
+    let P : List ℕ → Type 0 = λ l. AreTold told l in
+    (opened.0, subst P (sym same ∙ opened.1) tells, opened.2, opened.3, opened.4 ∙ (ap length same ∙ counted))
+opened-told told count bytes slice (Err note) tells counted same opened = tt
+
 -- what is told of names is what a plan of names has
 pub named-text : (plan : Plan) (inputs : InputState) → plan.make ≡ None → inputs.told plan.text ≡ text_of plan inputs
 named-text plan inputs named = ap (λ m. given m (inputs.told plan.text) (λ made. made.text)) (sym named)
@@ -126,10 +193,10 @@ named-script plan inputs named = ap (λ m. given m (inputs.told plan.script) (λ
 module _ (plan : Plan) (run : Run) where
   -- a text that wasn't opened
   pub ended-unopened : (note : Note) → (note ≡ ReadText → plan.make ≡ None) → IsRefused run
-      → IsTextRefused (text_of plan run.inputs) run.inputs.faults run.inputs_after.faults note → IsEndedAs plan run note
+      → IsTextUnread (text_of plan run.inputs) run.inputs.faults run.inputs_after.faults note → IsEndedAs plan run note
   ended-unopened ReadText named refused it = (refused, it, named refl)
-  ended-unopened TextTooLong named refused it = (refused, it)
-  ended-unopened (TextNotUtf8 at) named refused it = (refused, it)
+  ended-unopened TextTooLong named refused it = (refused, it.1)
+  ended-unopened (TextNotUtf8 at) named refused it = (refused, it.1)
   ended-unopened Memory named refused it = record { ended = inr refused; reads_passed = it; writes_passed = ap (λ s. s.faults) refused.sink }
   ended-unopened Fine named refused it = absurd it
   ended-unopened Usage named refused it = absurd it
@@ -143,9 +210,9 @@ module _ (plan : Plan) (run : Run) where
   ended-short refused same = record { ended = inr refused; reads_passed = same; writes_passed = ap (λ s. s.faults) refused.sink }
 
   unread-as : (note : Note) → plan.make ≡ None → IsRefused run → HasText plan run
-      → IsScriptRefused (script_of plan run.inputs) run.inputs.faults run.inputs_after.faults note → IsEndedAs plan run note
+      → IsScriptUnread (script_of plan run.inputs) run.inputs.faults run.inputs_after.faults note → IsEndedAs plan run note
   unread-as ReadScript named refused text it = (refused, it, text, named)
-  unread-as ScriptTooLong named refused text it = (refused, it, text)
+  unread-as ScriptTooLong named refused text it = (refused, it.1, text)
   unread-as Memory named refused text it = record { ended = inr refused; reads_passed = it; writes_passed = ap (λ s. s.faults) refused.sink }
   unread-as Fine named refused text it = absurd it
   unread-as Usage named refused text it = absurd it
@@ -156,48 +223,52 @@ module _ (plan : Plan) (run : Run) where
   unread-as JournalFull named refused text it = absurd it
 
   -- a script that wasn't read, behind reads of the text that passed
-  pub ended-unread : (note : Note) (told : Option (List ℕ)) (faults : Faults) (display : History) → plan.make ≡ None → IsRefused run
-      → IsOpenedOn (text_of plan run.inputs) display → told ≡ script_of plan run.inputs → faults ≡ run.inputs.faults
-      → IsScriptRefused told faults run.inputs_after.faults note → IsEndedAs plan run note
-  ended-unread note told faults display named refused opened tells passed it =
-      let T : Option (List ℕ) → Type 0 = λ o. IsScriptRefused o faults run.inputs_after.faults note in
-      let F : Faults → Type 0 = λ f. IsScriptRefused (script_of plan run.inputs) f run.inputs_after.faults note in
+  pub ended-unread : (note : Note) (told : Option (List ℕ)) (faults : Faults) (count : ℕ) (display : History) → plan.make ≡ None → IsRefused run
+      → IsOpenedOn (text_of plan run.inputs) count display → told ≡ script_of plan run.inputs → faults ≡ run.inputs.faults
+      → IsScriptUnread told faults run.inputs_after.faults note → IsEndedAs plan run note
+  ended-unread note told faults count display named refused opened tells passed it =
+      let T : Option (List ℕ) → Type 0 = λ o. IsScriptUnread o faults run.inputs_after.faults note in
+      let F : Faults → Type 0 = λ f. IsScriptUnread (script_of plan run.inputs) f run.inputs_after.faults note in
       unread-as note named refused (opened.0, opened.1, opened.2) (subst F passed (subst T tells it))
 
   run-as : (note : Note) (read : HasRead plan run) → run.inputs_after.faults ≡ run.inputs.faults
+      → IsLawfulHistory (history_of (clean read.bytes) run.history)
       → HasRun plan.make (course_of plan read.bytes read.script run.sink) run.status run.history run.sink_after run.watched note → IsEndedAs plan run note
-  run-as Fine read passed it = record { read = read; finished = it }
-  run-as Write read passed it = record { read = read; stopped = it.0; caused = it.1 }
-  run-as JournalFull read passed it = record { read = read; stopped = it.0; caused = it.1 }
-  run-as Memory read passed it =
+  run-as Fine read passed lawful it = record { read = read; lawful = lawful; finished = it }
+  run-as Write read passed lawful it = record { read = read; lawful = lawful; stopped = it.0; caused = it.1 }
+  run-as JournalFull read passed lawful it = record { read = read; lawful = lawful; stopped = it.0; caused = it.1 }
+  run-as Memory read passed lawful it =
       record {
         ended = elim it.1 [
-          | inl stopped ↦ inl (record { read = read; stopped = stopped.0; caused = stopped.1 })
+          | inl stopped ↦ inl (record { read = read; lawful = lawful; stopped = stopped.0; caused = stopped.1 })
           | inr none ↦ inr (record { history = none.0; watched = none.1; sink = none.2 })
         ];
         reads_passed = passed;
         writes_passed = it.0;
       }
-  run-as Usage read passed it = absurd it
-  run-as ReadText read passed it = absurd it
-  run-as ReadScript read passed it = absurd it
-  run-as (TextNotUtf8 at) read passed it = absurd it
-  run-as TextTooLong read passed it = absurd it
-  run-as ScriptTooLong read passed it = absurd it
+  run-as Usage read passed lawful it = absurd it
+  run-as ReadText read passed lawful it = absurd it
+  run-as ReadScript read passed lawful it = absurd it
+  run-as (TextNotUtf8 at) read passed lawful it = absurd it
+  run-as TextTooLong read passed lawful it = absurd it
+  run-as ScriptTooLong read passed lawful it = absurd it
 
   -- the script was run
-  pub ended-run : (note : Note) (told : Option (List ℕ)) (display : History) (script : List ℕ)
-      → IsOpenedOn (text_of plan run.inputs) display → told ≡ script_of plan run.inputs → IsScript told script
-      → run.inputs_after.faults ≡ run.inputs.faults
+  pub ended-run : (note : Note) (told : Option (List ℕ)) (count : ℕ) (display : History) (script : List ℕ)
+      → IsOpenedOn (text_of plan run.inputs) count display → told ≡ script_of plan run.inputs → IsScript told script
+      → (plan.make ≡ None → count ≡ count_between parts.Text run.inputs run.inputs_after)
+      → (plan.make ≡ None → length script ≡ count_between parts.Script run.inputs run.inputs_after)
+      → run.inputs_after.faults ≡ run.inputs.faults → IsLawfulHistory (history_of display.opening run.history)
       → HasRun plan.make (record { text = display.opening; entries = numbered_lines script; workers = plan.workers; watchers = plan.watchers; sink = run.sink })
       run.status run.history run.sink_after run.watched note
       → IsEndedAs plan run note
-  ended-run note told display script opened tells read passed it =
+  ended-run note told count display script opened tells read of_text of_script passed lawful it =
       let T : Option (List ℕ) → Type 0 = λ o. IsScript o script in
       let script_read = subst T tells read in
       let H : History → Type 0 = λ h. HasRun plan.make
       (record { text = h.opening; entries = numbered_lines script; workers = plan.workers; watchers = plan.watchers; sink = run.sink })
       run.status run.history run.sink_after run.watched note in
+      let L : History → Type 0 = λ h. IsLawfulHistory (history_of h.opening run.history) in
       run-as note (record {
         bytes = opened.0;
         script = script;
@@ -205,7 +276,9 @@ module _ (plan : Plan) (run : Run) where
         script_told = script_read.0;
         text_accepted = opened.2;
         script_fits = script_read.1;
-      }) passed (subst H opened.3 it)
+        text_counted = λ named. opened.4 ∙ of_text named;
+        script_counted = of_script;
+      }) passed (subst L opened.3 lawful) (subst H opened.3 it)
 
   -- ---- what is owed
 
@@ -229,7 +302,7 @@ module _ (plan : Plan) (run : Run) where
   text-end ReadScript bytes it is unfailed = inr (inr (inr (told-accepted it.2.0 bytes is it.2.1 it.2.2)))
   text-end Write bytes it is unfailed = inr (inr (inr (read-text bytes is it.read)))
   text-end (TextNotUtf8 at) bytes it is unfailed =
-      let P : Option (List ℕ) → Type 0 = λ o. IfSome o (IsNotUtf8At at) in
+      let P : Option (List ℕ) → Type 0 = λ o. IfSome o (λ bytes. IsTextRefused bytes (NotUtf8 at)) in
       let bad = subst P is it.1 in inr (inr (inl (ap (λ n. TextNotUtf8 n) bad.2, bad.0, bad.1)))
   text-end TextTooLong bytes it is unfailed =
       let P : Option (List ℕ) → Type 0 = λ o. IfSome o (λ bytes. TEXT_LIMIT < length bytes) in inr (inl (refl, subst P is it.1))
@@ -252,7 +325,7 @@ module _ (plan : Plan) (run : Run) where
   script-end ReadScript bytes script it is is' unfailed unfailed' accepted = absurd (unfailed' it.1)
   script-end Write bytes script it is is' unfailed unfailed' accepted = inr (inr (read-script script is' it.read, inr (inr it.caused)))
   script-end (TextNotUtf8 at) bytes script it is is' unfailed unfailed' accepted =
-      let P : Option (List ℕ) → Type 0 = λ o. IfSome o (IsNotUtf8At at) in let bad = subst P is it.1 in absurd (bad.1 accepted.1)
+      let P : Option (List ℕ) → Type 0 = λ o. IfSome o (λ bytes. IsTextRefused bytes (NotUtf8 at)) in let bad = subst P is it.1 in absurd (bad.1 accepted.1)
   script-end TextTooLong bytes script it is is' unfailed unfailed' accepted =
       let P : Option (List ℕ) → Type 0 = λ o. IfSome o (λ bytes. TEXT_LIMIT < length bytes) in
       let long = subst P is it.1 in let fits = accepted.0 in absurd (omega arith)
@@ -271,11 +344,11 @@ module _ (plan : Plan) (run : Run) where
           | inr (inr (inl e)) ↦ absurd (let fits = e.1 in omega arith)
           | inr (inr (inr e)) ↦ absurd (let fits = e.0 in omega arith)
         ];
-        not_utf8 = λ bytes is unfailed fits bad. elim (text-end run.note bytes it is unfailed) [
+        not_utf8 = λ bytes at is unfailed bad. elim (text-end run.note bytes it is unfailed) [
           | inl e ↦ inr e
-          | inr (inl e) ↦ absurd (let long = e.1 in omega arith)
-          | inr (inr (inl e)) ↦ inl e.0
-          | inr (inr (inr e)) ↦ absurd (bad e.1)
+          | inr (inl e) ↦ absurd (let long = e.1 in let fits = bad.0 in omega arith)
+          | inr (inr (inl e)) ↦ inl (e.0 ∙ ap (λ n. TextNotUtf8 n) (sym bad.2))
+          | inr (inr (inr e)) ↦ absurd (bad.1 e.1)
         ];
         script_too_long = λ bytes script is is' unfailed unfailed' accepted long. elim (script-end run.note bytes script it is is' unfailed unfailed' accepted) [
           | inl e ↦ inr e
@@ -295,8 +368,8 @@ module _ (plan : Plan) (run : Run) where
         | inr (inr (e, inr (inr failed))) ↦ absurd (unwritten failed)
       ]
 
-  pub is-run : IsEndedAs plan run run.note → ReadsInOrder plan run.inputs.reads run.inputs_after.reads → IsRun run plan
-  is-run it reads = record { outcome = it; reads = reads; owed = owed it; complete = complete it }
+  pub is-run : IsEndedAs plan run run.note → ReadsInOrder plan run.note run.inputs.reads run.inputs_after.reads → HasReadsPassed run → IsRun run plan
+  is-run it reads passed = record { outcome = it; reads = reads; passed = passed; owed = owed it; complete = complete it }
 
 pub not-usage : (plan : Plan) (run : Run) (note : Note) → IsEndedAs plan run note → note ≡ Usage → ⊥
 not-usage plan run note it e = let P : Note → Type 0 = IsEndedAs plan run in subst P e it

@@ -1,5 +1,6 @@
 pub mod Snoc
 pub mod LastLine
+pub mod Unsettled
 pub mod Next
 pub mod Sends
 pub mod Ready

@@ -22,6 +22,7 @@ use Rattle.display_cli.specs.inside.Going.{IsFree, at, IsGoing, MayHandle, chang
 use Rattle.display_cli.proofs.Snoc.{quiet-append, answered-snoc, tally-snoc, lines-append, last-snoc, any-snoc}
 use Rattle.display_cli.proofs.LastLine.{dids, same-end, end-not-empty, begun-more, dids-more}
 use Rattle.display_cli.proofs.Next.{legal-snoc, free-snoc, next-line-event, next-did, next-published, all-done}
+use Rattle.display_cli.proofs.Unsettled.{is-settled, lands-first}
 use Rattle.display_cli.proofs.Sends.{none-wait}
 use Rattle.display_cli.proofs.Fronts.{takes-more, takes-none, takes-same, front-all, front-behind}
 use Rattle.display_cli.proofs.GoingOn.{stopped-at}
@@ -93,7 +94,8 @@ module _ (course : Course) (number : ℕ) (entry : Entry) (left : List (ℕ × E
   its-legal may =
       legal-snoc h.opening course.entries course.workers h.events (Line number) going.legal
       (next-line-event h.opening course.entries course.workers h.events number going.free (ap (option_map (λ l. l.0)) it-is-next)
-      (λ wanted. may.settled (sym (ap needs_settled its-verdict) ∙ wanted)) (elim may.busy [
+      (λ wanted. is-settled h (needs_settled (Some (judged (present_of h) entry))) (sym (ap needs_settled its-verdict) ∙ wanted) may.prepared)
+      (λ calm. lands-first h (needs_settled (Some (judged (present_of h) entry))) (sym (ap needs_settled its-verdict) ∙ calm) may.prepared) (elim may.busy [
         | inl none ↦ inl (none-wait (state_of h) none)
         | inr full ↦ inr full
       ]))

@@ -1,9 +1,10 @@
 -- A run whose text and script are made: its answers go nowhere, and their summary is written.
-use Rattle.std.proofs.Common.{◌≡◌, ℕ, ◌<◌, inl, inr, List, [], ◌∷◌, ◌++◌, length, Option, Some, None, Result, Ok, Err, refl, sym, ap, ◌∙◌, subst, arith}
+use Rattle.std.proofs.Common.{◌≡◌, ℕ, inl, inr, List, [], ◌∷◌, ◌++◌, length, Option, Some, None, Result, Ok, Err, refl, sym, ap, ◌∙◌, subst, arith}
 use Rattle.std.specs.Prelude.{IfSome, OnOk}
 use Rattle.std.specs.Result.{IsErrAnd}
 use Rattle.std.proofs.lemmas.List.Elements.{All-nil}
-use Rattle.cell_units.specs.declared.limits.TheConstants.{TEXT_LIMIT}
+use Rattle.cell_units.specs.declared.fault.TextFault.TheVariants.{NotUtf8, TooLong}
+use Rattle.cell_units.specs.Refusal.{IsTextRefused}
 use Rattle.board_watch.specs.Watching.{AreRising}
 use Rattle.display_map.specs.Replay.{History, present_of}
 use Rattle.live_display.specs.declared.owner.Owner.{Owner}
@@ -19,10 +20,10 @@ use Rattle.display_cli.specs.Entries.{Entry}
 use Rattle.display_cli.specs.Legal.{history_of}
 use Rattle.display_cli.specs.Outside.{Faults, InputState, SinkState, AreTold, Takes, TakesFront, nowhere}
 use Rattle.display_cli.specs.Output.{answered, answers_from, no_lines, output, printed, reported, summary_at, summary_line}
-use Rattle.display_cli.specs.Ended.{Run, Course, IsEndedAs, IsNotUtf8At, IsRefused, IsStopped, given, script_of, text_of}
+use Rattle.display_cli.specs.Ended.{Run, Course, IsEndedAs, IsRefused, IsStopped, given, script_of, text_of}
 use Rattle.display_cli.specs.inside.Going.{IsCut, IsGoing, IsPlayed, IsWhy, HasEnded, Stage, at}
 use Rattle.display_cli.specs.inside.Left.{HasLeft, HasLeftBy}
-use Rattle.display_cli.specs.inside.Opening.{IsStartRefused, IsTextRefused, Reports, to_nowhere}
+use Rattle.display_cli.specs.inside.Opening.{IsStartRefused, IsTextUnread, Reports, to_nowhere}
 use Rattle.display_cli.specs.inside.Reading.{IsUnwritten}
 use Rattle.display_cli.proofs.Fronts.{front-all, front-behind, risen-behind, takes-more, takes-none, takes-same}
 use Rattle.display_cli.proofs.Headline.{ended-unopened}
@@ -66,9 +67,9 @@ module _ (number : ℕ) (course : Course) (h : History) (old : SinkState) (befor
   -- it wasn't
   pub reported-not : (new : SinkState) (stop : Stop) → IsUnwritten (line_of h tally) old new stop → IsCut (Some number) course (at h new) stop
   reported-not new stops.Write why =
-      record { stopped = reported-front new why.0; why = risen-behind course.sink.faults old.faults new.faults empty.passed why.1 }
+      record { opening = played.opening; stopped = reported-front new why.0; why = risen-behind course.sink.faults old.faults new.faults empty.passed why.1 }
   reported-not new stops.JournalFull why = absurd why
-  reported-not new stops.Memory why = record { stopped = reported-front new why.0; why = (played.room, why.1 ∙ empty.passed) }
+  reported-not new stops.Memory why = record { opening = played.opening; stopped = reported-front new why.0; why = (played.room, why.1 ∙ empty.passed) }
 
 -- a play stopped, so nothing is reported
 module _ (number : ℕ) (course : Course) (h : History) (old : SinkState) (before behind : List ℕ) (empty : Takes [] course.sink old) where
@@ -80,6 +81,7 @@ module _ (number : ℕ) (course : Course) (h : History) (old : SinkState) (befor
   pub cut-nowhere : (stop : Stop) → IsCut None (to_nowhere course before) (at h (nowhere behind)) stop → IsCut (Some number) course (at h old) stop
   cut-nowhere stop cut =
       record {
+        opening = cut.opening;
         stopped = record {
           begun = cut.stopped.begun;
           legal = cut.stopped.legal;
@@ -159,6 +161,9 @@ left-made number script owner old new before behind left played went reports sam
 
 -- ---- what is made is told
 
+pub made-named : (plan : Plan) (number : ℕ) → plan.make ≡ Some number → plan.make ≡ None → ⊥
+made-named plan number made named = cc
+
 pub made-text : (plan : Plan) (inputs : InputState) (number : ℕ) → plan.make ≡ Some number → text_of plan inputs ≡ Some (made_of number).text
 made-text plan inputs number made = ap (λ m. given m (inputs.told plan.text) (λ made. made.text)) made
 
@@ -171,9 +176,9 @@ some-told (Some b) bytes P e it = subst P (sym e) it
 
 -- why a display wasn't started on a text that is told
 start-refused : (told : Option (List ℕ)) (bytes : List ℕ) (faults : Faults) (note : Note) → AreTold told bytes → IsStartRefused bytes note
-    → IsTextRefused told faults faults note
-start-refused told bytes faults TextTooLong is it = some-told told bytes (λ b. TEXT_LIMIT < length b) is it
-start-refused told bytes faults (TextNotUtf8 at) is it = some-told told bytes (IsNotUtf8At at) is it
+    → IsTextUnread told faults faults note
+start-refused told bytes faults TextTooLong is it = (refl, some-told told bytes (λ b. IsTextRefused b TooLong) is it)
+start-refused told bytes faults (TextNotUtf8 at) is it = (refl, some-told told bytes (λ b. IsTextRefused b (NotUtf8 at)) is it)
 start-refused told bytes faults Memory is it = refl
 start-refused told bytes faults Fine is it = absurd it
 start-refused told bytes faults Usage is it = absurd it
@@ -191,6 +196,6 @@ pub ended-unstarted : (plan : Plan) (run : Run) (note : Note) (bytes : List ℕ)
     → IsRefused run → IsStartRefused bytes note → IsEndedAs plan run note
 ended-unstarted plan run note bytes is same refused it =
     let T : Option (List ℕ) → Type 0 = λ o. AreTold o bytes in
-    let F : Faults → Type 0 = λ f. IsTextRefused (text_of plan run.inputs) run.inputs.faults f note in
+    let F : Faults → Type 0 = λ f. IsTextUnread (text_of plan run.inputs) run.inputs.faults f note in
     ended-unopened plan run note (no-read bytes note (plan.make ≡ None) it) refused
     (subst F (sym same) (start-refused (text_of plan run.inputs) bytes run.inputs.faults note (subst T (sym is) refl) it))

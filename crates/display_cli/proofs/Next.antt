@@ -11,7 +11,7 @@ use Rattle.edit_script.specs.Commands.{Command}
 use Rattle.edit_script.specs.Verdict.{Accepted, ops_of}
 use Rattle.display_cli.specs.Entries.{Entry}
 use Rattle.live_display.specs.Beside.{outstanding}
-use Rattle.display_cli.specs.Legal.{needs_settled, Opens, TakesNextLine, IsChanging, IsChanged, DoesChanges, PublishesLandings, IsSend, Sends, LandsOnce, AnswersSettled, KeepsBusy, IsDone, Ends, IsLegalSoFar, history_of, next_entry, next_verdict, is_landed, is_end}
+use Rattle.display_cli.specs.Legal.{needs_settled, Opens, TakesNextLine, IsChanging, IsChanged, DoesChanges, PublishesLandings, IsSend, Sends, LandsOnce, AnswersSettled, LandsFirst, GoesUnsettled, KeepsBusy, IsDone, Ends, IsLegalSoFar, history_of, next_entry, next_verdict, is_landed, is_end}
 use Rattle.display_cli.specs.inside.Going.{IsFree}
 use Rattle.display_cli.proofs.Snoc.{AtEach-snoc, last-snoc, any-snoc}
 use Rattle.display_cli.proofs.LastLine.{dids, is_change, same-end, end-changes, end-not-empty, append-same}
@@ -25,6 +25,7 @@ pub record IsNext (text : List ℕ) (entries : List (ℕ × Entry)) (workers : �
   pub sends : Sends text workers past e
   pub once : LandsOnce text past e
   pub settled : AnswersSettled text entries past e
+  pub unsettled : GoesUnsettled text entries past e
   pub busy : KeepsBusy text workers past e
   pub ending : Ends text entries past e
 
@@ -40,6 +41,7 @@ legal-snoc text entries workers h e legal next =
       sends = AtEach-snoc (Sends text workers) h e legal.sends next.sends;
       once = AtEach-snoc (LandsOnce text) h e legal.once next.once;
       settled = AtEach-snoc (AnswersSettled text entries) h e legal.settled next.settled;
+      unsettled = AtEach-snoc (GoesUnsettled text entries) h e legal.unsettled next.unsettled;
       busy = AtEach-snoc (KeepsBusy text workers) h e legal.busy next.busy;
       ending = AtEach-snoc (Ends text entries) h e legal.ending next.ending;
     }
@@ -88,6 +90,7 @@ next-opening text entries workers =
       sends = λ job first count e. cc;
       once = λ job e. cc;
       settled = λ number e q. cc;
+      unsettled = λ number e q. absurd (cc);
       busy = λ number e. cc;
       ending = record { is_done = λ e. cc; none_behind = refl };
     }
@@ -118,6 +121,7 @@ next-sent text entries workers h job first count free send =
       sends = λ j f c e. let P : Event → Type 0 = IsSendAt workers (state_of (history_of text h)) in subst P e send;
       once = λ j e. cc;
       settled = λ number e q. cc;
+      unsettled = λ number e q. absurd (cc);
       busy = λ number e. cc;
       ending = record { is_done = λ e. cc; none_behind = free.goes_on };
     }
@@ -148,6 +152,7 @@ next-landed text entries workers h job free out =
       sends = λ j f c e. cc;
       once = λ j e. let P : Event → Type 0 = job-is (state_of (history_of text h)) in subst P e out;
       settled = λ number e q. cc;
+      unsettled = λ number e q. absurd (cc);
       busy = λ number e. cc;
       ending = record { is_done = λ e. cc; none_behind = free.goes_on };
     }
@@ -171,6 +176,7 @@ next-published text entries workers h unchanging owed goes_on =
       sends = λ j f c e. cc;
       once = λ j e. cc;
       settled = λ number e q. cc;
+      unsettled = λ number e q. absurd (cc);
       busy = λ number e. cc;
       ending = record { is_done = λ e. cc; none_behind = goes_on };
     }
@@ -195,20 +201,22 @@ next-last text entries workers h free is_done =
       sends = λ j f c e. cc;
       once = λ j e. cc;
       settled = λ number e q. cc;
+      unsettled = λ number e q. absurd (cc);
       busy = λ number e. cc;
       ending = record { is_done = λ e. is_done; none_behind = free.goes_on };
     }
 
--- where no event is owed, the next line may be handled: all stands wrapped where it wants that, and no line of the display
--- waits or as many jobs are out as may be
+-- where no event is owed, the next line may be handled: all stands wrapped where it wants that, and else no job was waited
+-- for; and no line of the display waits or as many jobs are out as may be
 pub next-line-event :
     (text : List ℕ) (entries : List (ℕ × Entry)) (workers : ℕ) (h : List Event) (number : ℕ)
     → IsFree text entries h → option_map (λ l. l.0) (next_entry entries h) ≡ Some number
     → (needs_settled (next_verdict text entries h) ≡ true → is_settled (state_of (history_of text h)).present ≡ true)
+    → (needs_settled (next_verdict text entries h) ≡ false → LandsFirst h)
     → (list_any (waits (state_of (history_of text h))) (state_of (history_of text h)).present.marks ≡ false)
     ⊎ (outstanding (state_of (history_of text h)) ≡ 2 * workers)
     → IsNext text entries workers h (Line number)
-next-line-event text entries workers h number free line settled busy =
+next-line-event text entries workers h number free line settled unsettled busy =
     record {
       opening = λ e. absurd (free.begun e);
       lines_in_order = λ n e. line ∙ ap Some (line-same number n e);
@@ -224,6 +232,7 @@ next-line-event text entries workers h number free line settled busy =
       sends = λ j f c e. cc;
       once = λ j e. cc;
       settled = λ n e q. settled q;
+      unsettled = λ n e q. unsettled q;
       busy = λ n e. busy;
       ending = record { is_done = λ e. cc; none_behind = free.goes_on };
     }
@@ -298,6 +307,7 @@ module _ (text : List ℕ) (entries : List (ℕ × Entry)) (past : List Event) (
         sends = λ j f c e. cc;
         once = λ j e. cc;
         settled = λ n e q. cc;
+        unsettled = λ n e q. absurd (cc);
         busy = λ n e. cc;
         ending = record { is_done = λ e. cc; none_behind = goes_on };
       }

@@ -1,15 +1,16 @@
 -- A run whose owner was opened, from its opening to its last watch line.
-use Rattle.std.proofs.Common.{◌≡◌, ℕ, ◌≤◌, All, List, [], ◌∷◌, length, map, Option, Some, None, Result, Ok, Err, refl, sym, ap, ◌∙◌, subst, arith}
+use Rattle.std.proofs.Common.{◌≡◌, ℕ, ◌≤◌, inl, inr, false, All, List, [], ◌∷◌, ◌++◌, length, map, Option, Some, None, Result, Ok, Err, refl, sym, ap, ◌∙◌, subst, arith}
 use Rattle.std.specs.Prelude.{IfSome, OnOk, replicate}
 use Rattle.std.proofs.lemmas.List.{length-map, length-replicate}
 use Rattle.std.proofs.lemmas.List.Elements.{All-nil, All-cons, All-head, All-tail, All-map, All-replicate}
 use Rattle.logbook.specs.Pages.{Book}
-use Rattle.display_map.specs.Events.{Event}
-use Rattle.display_map.specs.Replay.{History}
+use Rattle.display_map.specs.Events.{Event, Published}
+use Rattle.display_map.specs.LawfulStates.{IsLawfulHistory}
+use Rattle.display_map.specs.Replay.{History, versions_of}
 use Rattle.version_board.specs.Known.{Known}
 use Rattle.live_display.specs.declared.owner.Owner.{Owner}
 use Rattle.live_display.specs.declared.opening.Opened.{Opened}
-use Rattle.live_display.specs.Owned.{HasOpened, IsSameTeam}
+use Rattle.live_display.specs.Owned.{HasOpened, IsSameTeam, IsUnopened}
 use Rattle.board_watch.specs.declared.seen.Seen.{Seen}
 use Rattle.board_watch.specs.Watching.{Watching}
 use Rattle.command_line.specs.declared.plan.Plan.{Plan}
@@ -19,12 +20,14 @@ use Rattle.display_cli.specs.declared.tally.Tally.{Tally}
 use Rattle.display_cli.specs.declared.beside.Left.{Left}
 use Rattle.display_cli.specs.Outside.{SinkState}
 use Rattle.display_cli.specs.Entries.{numbered_lines}
+use Rattle.display_cli.specs.Legal.{history_of}
 use Rattle.display_cli.specs.Output.{no_lines}
 use Rattle.display_cli.specs.Ended.{Course}
-use Rattle.display_cli.specs.inside.Going.{IsGoing, HasEnded, PlaysAll, at}
+use Rattle.display_cli.specs.inside.Going.{Stage, IsGoing, IsReady, IsUnsent, HasEnded, PlaysAll, at}
 use Rattle.display_cli.specs.inside.Left.{AreBoards, HasLeft, HasLeftBy, board_of}
 use Rattle.display_cli.specs.inside.Opening.{EndsWatch, HasRun, IsNoteOf}
 use Rattle.display_cli.proofs.Played.{going-fresh}
+use Rattle.display_cli.proofs.Unsettled.{unsent-opened}
 use Rattle.display_cli.proofs.Headline.{run-watched}
 
 -- ---- boards
@@ -72,6 +75,17 @@ module _ (display : History) (fresh : display.events ≡ []) (workers readers : 
       by None are unread none = ap length (none (unread refl)) ∙ sym (unread refl)
       by (Some writer) are unread none = ap length are ∙ length-replicate readers writer
 
+  -- its owner is ready
+  pub opened-ready : IsReady opened.owner
+  opened-ready =
+      let P : History → Type 0 = λ h. IsUnsent h.events in
+      let Q : History → Type 0 = λ h. 1 ≤ versions_of h.events in
+      let N : List Event → Type 0 = λ l. 1 ≤ versions_of (l ++ Published false ∷ []) in
+      record {
+        shown = record { owned = has.owned; published = subst Q (sym has.display) (subst N (sym fresh) (omega arith)) };
+        unsent = subst P (sym has.display) (unsent-opened display fresh);
+      }
+
 -- ---- what is left
 
 pub left-of : (script : List ℕ) (owner new : Owner) (sink after behind : SinkState) (left : Left)
@@ -99,6 +113,38 @@ team-count team old readers e f =
 
 -- ---- the run
 
+ended-opening : (make : Option ℕ) (course : Course) (s : Stage) (r : Result Tally Stop) → HasEnded make course s r → s.history.opening ≡ course.text
+ended-opening make course s (Ok tally) ended = ended.opening
+ended-opening make course s (Err stop) ended = ended.opening
+
+-- a display that wasn't opened has its text
+pub unopened-opening : (old new : History) → IsUnopened old new → new.opening ≡ old.opening
+unopened-opening old new (inl e) = ap (λ h. h.opening) e
+unopened-opening old new (inr e) = ap (λ h. h.opening) e
+
+-- the events of a lawful history are lawful on its text
+pub lawful-events : (text : List ℕ) (h : History) (events : List Event) → h.opening ≡ text → events ≡ h.events → IsLawfulHistory h
+    → IsLawfulHistory (history_of text events)
+lawful-events text h events opening same lawful =
+    let E : List Event → Type 0 = λ l. IsLawfulHistory (history_of text l) in
+    let T : List ℕ → Type 0 = λ t. IsLawfulHistory (history_of t h.events) in
+    subst E (sym same) (subst T opening lawful)
+
+module _ (plan : Plan) (display : History) (script : List ℕ) (old mid : SinkState) (opened : Opened) (left : Left)
+    (fresh : display.events ≡ []) (has : HasOpened display plan.workers plan.watchers opened) (went : HasLeftBy plan.make script opened.owner old mid left) where
+  abbrev its-course : Course
+  its-course = record { text = display.opening; entries = numbered_lines script; workers = plan.workers; watchers = plan.watchers; sink = old }
+
+  play-ended : HasEnded plan.make its-course (at left.display mid) left.played
+  play-ended =
+      let G : History → Type 0 = λ h. IsGoing its-course its-course.entries no_lines (at h old) in
+      went.played its-course (sym has.team)
+      (subst G (sym has.display) (going-fresh display fresh its-course.entries its-course.workers its-course.watchers old))
+
+  -- the text is still the one that was opened
+  pub left-opening : left.display.opening ≡ display.opening
+  left-opening = ended-opening plan.make its-course (at left.display mid) left.played play-ended
+
 pub run-opened : (plan : Plan) (display : History) (script : List ℕ) (old mid after : SinkState) (opened : Opened) (left : Left) (count : ℕ)
     (r : Result Tally Stop) (watched : List (List Seen)) (status : ℕ) (events : List Event) (note : Note)
     → display.events ≡ [] → HasOpened display plan.workers plan.watchers opened → HasLeftBy plan.make script opened.owner old mid left
@@ -109,9 +155,7 @@ pub run-opened : (plan : Plan) (display : History) (script : List ℕ) (old mid 
 run-opened plan display script old mid after opened left count r watched status events note fresh has went ends few all same says =
     let course : Course =
     record { text = display.opening; entries = numbered_lines script; workers = plan.workers; watchers = plan.watchers; sink = old } in
-    let G : History → Type 0 = λ h. IsGoing course course.entries no_lines (at h old) in
-    let going = subst G (sym has.display) (going-fresh display fresh course.entries course.workers course.watchers old) in
-    let ended : HasEnded plan.make course (at left.display mid) left.played = went.played course (sym has.team) going in
+    let ended : HasEnded plan.make course (at left.display mid) left.played = play-ended plan display script old mid opened left fresh has went in
     let counted = opened-count display fresh plan.workers plan.watchers opened has in
     let most : count ≤ plan.watchers = omega arith in
     let E : List Event → Type 0 = λ l. HasRun plan.make course status l after watched note in

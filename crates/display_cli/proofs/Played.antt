@@ -19,7 +19,7 @@ use Rattle.display_cli.specs.Entries.{Entry, Bytes, script_lines}
 use Rattle.display_cli.specs.Outside.{SinkState, Takes}
 use Rattle.display_cli.specs.declared.tally.Tally.{Tally}
 use Rattle.display_cli.specs.Output.{answered, no_lines, tally_of}
-use Rattle.display_cli.specs.Legal.{AtEach, Opens, TakesNextLine, DoesChanges, PublishesLandings, Sends, LandsOnce, AnswersSettled, KeepsBusy, Ends, IsLegal, IsLegalSoFar, IsDone, lines_in}
+use Rattle.display_cli.specs.Legal.{AtEach, Opens, TakesNextLine, DoesChanges, PublishesLandings, Sends, LandsOnce, AnswersSettled, GoesUnsettled, KeepsBusy, Ends, IsLegal, IsLegalSoFar, IsDone, lines_in}
 use Rattle.display_cli.specs.Ended.{Course}
 use Rattle.display_cli.specs.inside.Going as going
 use Rattle.display_cli.specs.inside.Going.{Stage, at, AreHandled, IsGoing, IsCut, IsPlayed, HasEnded, HasRoomAhead, numbered_from}
@@ -133,6 +133,7 @@ none-legal text entries workers =
       sends = none-each (Sends text workers);
       once = none-each (LandsOnce text);
       settled = none-each (AnswersSettled text entries);
+      unsettled = none-each (GoesUnsettled text entries);
       busy = none-each (KeepsBusy text workers);
       ending = none-each (Ends text entries);
     }

@@ -14,3 +14,8 @@ on-err (Err e) P p = p
 pub err-same : {A E : Type 0} (r : Result A E) (s : E) (P : E → Type 0) → IsErrAnd r (λ e. e ≡ s) → P s → IfErr r P
 err-same (Ok x) s P e p = tt
 err-same (Err x) s P e p = subst P (sym e) p
+
+-- what follows of an error
+pub err-more : {A E : Type 0} (r : Result A E) (P Q : E → Type 0) → ((e : E) → P e → Q e) → IfErr r P → IfErr r Q
+err-more (Ok x) P Q follows p = tt
+err-more (Err x) P Q follows p = follows x p

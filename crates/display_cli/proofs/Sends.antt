@@ -12,13 +12,13 @@ use Rattle.cell_line.specs.declared.element.Element.{Element}
 use Rattle.cell_line.specs.declared.lines.Run.{Run}
 use Rattle.wrap_workers.specs.Jobs.{JobParts}
 use Rattle.display_map.specs.Events.{Event}
-use Rattle.display_map.specs.Replay.{State, History, begun, happens, replayed, state_of, present_of, appended, waits, run_from, first_waiting, next_run, is_settled}
+use Rattle.display_map.specs.Replay.{State, History, begun, happens, replayed, state_of, appended, waits, run_from, first_waiting, next_run}
 use Rattle.live_display.specs.declared.owner.Owner.{Owner}
 use Rattle.live_display.specs.Beside.{IsSending, outstanding}
 use Rattle.live_display.specs.Owned.{AreOut}
 use Rattle.edit_script.specs.Verdict.{Verdict}
-use Rattle.display_cli.specs.Legal.{IsSend, needs_settled}
-use Rattle.display_cli.specs.inside.Going.{IsAbreast, MayHandle}
+use Rattle.display_cli.specs.Legal.{IsSend}
+use Rattle.display_cli.specs.inside.Going.{IsAbreast, IsPreparedFor, MayHandle}
 
 some-same : {X : Type 0} (x y : X) → Some x ≡ Some y → x ≡ y
 some-same x y e = cc
@@ -136,13 +136,13 @@ out-count h out are =
 
 -- what an owner that is abreast may take
 pub may-handle : (owner : Owner) (verdict : Verdict) → IsAbreast owner
-    → (needs_settled (Some verdict) ≡ true → is_settled (present_of owner.display) ≡ true) → MayHandle owner.crew.workers owner.display verdict
-may-handle owner verdict abreast settled =
+    → IsPreparedFor verdict owner.display → MayHandle owner.crew.workers owner.display verdict
+may-handle owner verdict abreast prepared =
     record {
       busy = elim abreast.busy [
         | inl none ↦ inl none
-        | inr full ↦ inr (sym (out-count owner.display owner.crew.out abreast.ready.owned.jobs) ∙ full)
+        | inr full ↦ inr (sym (out-count owner.display owner.crew.out abreast.shown.owned.jobs) ∙ full)
       ];
-      settled = settled;
+      prepared = prepared;
       room = abreast.room;
     }

@@ -48,26 +48,6 @@ more-unwritten all some left a b c stop before why =
     (append_assoc before.front (printed some) (printed left)
     ∙ (ap (λ l. before.front ++ l) (sym (printed-append some left)) ∙ before.is_front))
 
--- what one reader saw, line after line
-module _ (reader : ℕ) (all : List Seen) (i : ℕ) (d : Seen) (lt : i < length all) (a b c : SinkState)
-    (before : AreWritten (map (watch_line reader) all) (map (watch_line reader) (drop i all)) a b) where
-  next-seen : AreWritten (map (watch_line reader) all) (watch_line reader (get_or all i d) ∷ map (watch_line reader) (drop (i + 1) all)) a b
-  next-seen =
-      let P : List Seen → Type 0 = λ rest. AreWritten (map (watch_line reader) all) (map (watch_line reader) rest) a b in
-      subst P (drop_more all i d lt) before
-
-  pub seen-written : (line : List ℕ) → line ≡ watch_line reader (get_or all i d) → Takes (line ++ line_feed ∷ []) b c
-      → AreWritten (map (watch_line reader) all) (map (watch_line reader) (drop (i + 1) all)) a c
-  seen-written line e taken =
-      written-more (map (watch_line reader) all) (watch_line reader (get_or all i d) ∷ map (watch_line reader) (drop (i + 1) all))
-      (map (watch_line reader) (drop (i + 1) all)) a b c line next-seen (ap Some e) refl taken
-
-  pub seen-unwritten : (line : List ℕ) (stop : Stop) → line ≡ watch_line reader (get_or all i d) → IsUnwritten (line ++ line_feed ∷ []) b c stop
-      → IsUnwritten (printed (map (watch_line reader) all)) a c stop
-  seen-unwritten line stop e why =
-      written-stopped (map (watch_line reader) all) (watch_line reader (get_or all i d) ∷ map (watch_line reader) (drop (i + 1) all))
-      (map (watch_line reader) (drop (i + 1) all)) a b c line stop next-seen (ap Some e) refl why
-
 -- what each watcher saw, reader after reader
 abbrev pub lists_of : List Watched → List (List Seen)
 lists_of watched = map (λ w. w.seen.items) watched
@@ -164,7 +144,7 @@ module _ (make : Option ℕ) (course : Course) (h : History) where
         nothing a = takes-none a
 
     pub played-cut : IsCut make course (at h sink) stops.Memory
-    played-cut = let it = watched-short in record { stopped = it.0; why = it.1 }
+    played-cut = let it = watched-short in record { opening = played.opening; stopped = it.0; why = it.1 }
 
     pub ends-true : ends h.events ≡ true
     ends-true = ap is_last played.legal.ends

@@ -1,13 +1,15 @@
 -- How a run ends, and what each end means.
-use Rattle.std.specs.Prelude.{ℕ, ◌≡◌, ◌≢◌, ◌+◌, ◌<◌, ◌≤◌, ◌⊎◌, ◌↔◌, ◌++◌, All, List, [], ◌∷◌, length, map, Option, Some, None, IfSome}
-use Rattle.std.specs.Str.{IsUtf8}
-use Rattle.std.specs.Str.Lossy.{utf8_valid_len}
+use Rattle.std.specs.Prelude.{ℕ, ◌≡◌, ◌≢◌, ◌+◌, ◌<◌, ◌≤◌, ◌⊎◌, ◌↔◌, ◌++◌, Bool, true, false, All, List, [], ◌∷◌, length, map, Option, Some, None, IfSome}
+use Rattle.std.specs.declared.io.ErrorKind.{ErrorKind}
+use Rattle.std.specs.declared.io.ErrorKind.TheVariants.{InvalidData}
 use Rattle.cell_units.specs.Text.{clean}
 use Rattle.cell_units.specs.Record.{Record}
 use Rattle.display_map.specs.Events.{Event}
+use Rattle.cell_units.specs.declared.fault.TextFault.TheVariants.{NotUtf8, TooLong}
 use Rattle.cell_units.specs.declared.limits.TheConstants.{TEXT_LIMIT}
-use Rattle.cell_units.specs.Refusal.{IsAccepted}
+use Rattle.cell_units.specs.Refusal.{IsAccepted, IsTextRefused}
 use Rattle.display_map.specs.Events.{event_limit}
+use Rattle.display_map.specs.LawfulStates.{IsLawfulHistory}
 use Rattle.display_map.specs.Replay.{present_of}
 use Rattle.live_display.specs.declared.owner.TheConstants.{EVENTS_AHEAD}
 use Rattle.board_watch.specs.declared.seen.Seen.{Seen}
@@ -20,7 +22,7 @@ use Rattle.display_cli.specs.declared.ended.Note.TheVariants.{Fine, Usage, ReadT
 use Rattle.display_cli.specs.declared.limits.TheConstants.{SCRIPT_LIMIT}
 use Rattle.display_cli.specs.declared.outside.Part.{Part}
 use Rattle.display_cli.specs.declared.outside.Part.TheVariants.{Text, Script}
-use Rattle.display_cli.specs.Outside.{Read, InputState, SinkState, HasRisen, AreTold, Takes, TakesFront}
+use Rattle.display_cli.specs.Outside.{Read, InputState, SinkState, HasRisen, AreTold, Takes, TakesFront, count_between}
 use Rattle.display_cli.specs.Entries.{Entry, asked_by, numbered_lines}
 use Rattle.display_cli.specs.Legal.{IsLegal, IsLegalSoFar, next_entry, history_of}
 use Rattle.display_cli.specs.Output.{output, refusals}
@@ -117,7 +119,7 @@ text_of plan inputs = given plan.make (inputs.told plan.text) (λ made. made.tex
 abbrev pub script_of : Plan → InputState → Option (List ℕ)
 script_of plan inputs = given plan.make (inputs.told plan.script) (λ made. made.script)
 
--- a text and a script that were read whole and accepted
+-- a text and a script that were read whole and accepted. They have as many bytes as the reads of their names gave
 pub record HasRead (plan : Plan) (run : Run) : Type 0 where
   pub bytes : List ℕ
   pub script : List ℕ
@@ -125,6 +127,8 @@ pub record HasRead (plan : Plan) (run : Run) : Type 0 where
   pub script_told : AreTold (script_of plan run.inputs) script
   pub text_accepted : IsAccepted bytes
   pub script_fits : length script ≤ SCRIPT_LIMIT
+  pub text_counted : plan.make ≡ None → length bytes ≡ count_between Text run.inputs run.inputs_after
+  pub script_counted : plan.make ≡ None → length script ≡ count_between Script run.inputs run.inputs_after
 
 -- the course of a run that has read them
 abbrev pub course_of : Plan → (bytes script : List ℕ) → SinkState → Course
@@ -137,14 +141,17 @@ course_of plan bytes script sink =
       sink = sink;
     }
 
--- a run that has read its text and its script, and then finished
+-- a run that has read its text and its script, and then finished. Each operation of its history was allowed where it was
+-- done, and each record is lawful
 pub record HasFinished (plan : Plan) (run : Run) : Type 0 where
   pub read : HasRead plan run
+  pub lawful : IsLawfulHistory (history_of (clean read.bytes) run.history)
   pub finished : IsFinished plan.make (course_of plan read.bytes read.script run.sink) run.history run.sink_after run.watched run.status
 
 -- ... and then stopped, for a cause that a course and a history give
 pub record HasStopped (plan : Plan) (run : Run) (cause : Course → List Event → Type 0) : Type 0 where
   pub read : HasRead plan run
+  pub lawful : IsLawfulHistory (history_of (clean read.bytes) run.history)
   pub stopped : IsStopped plan.make (course_of plan read.bytes read.script run.sink) run.history run.sink_after run.watched
   pub caused : cause (course_of plan read.bytes read.script run.sink) run.history
 
@@ -172,10 +179,6 @@ IsWriteFailed run course events = HasRisen run.sink.faults run.sink_after.faults
 abbrev pub HasText : Plan → Run → Type 0
 HasText plan run = (bytes : List ℕ) × AreTold (text_of plan run.inputs) bytes × IsAccepted bytes
 
--- bytes that are not UTF-8, with the length of their longest prefix that is
-abbrev pub IsNotUtf8At : ℕ → List ℕ → Type 0
-IsNotUtf8At at bytes = (length bytes ≤ TEXT_LIMIT) × (IsUtf8 bytes → ⊥) × (at ≡ utf8_valid_len bytes)
-
 -- a run that found no memory: it stopped where its journal had room, or was refused, and no read and no write had failed
 pub record IsShort (plan : Plan) (run : Run) : Type 0 where
   pub ended : HasStopped plan run HasRoom ⊎ IsRefused run
@@ -192,28 +195,38 @@ IsEndedAs plan run ReadText =
     IsRefused run × HasRisen run.inputs.faults.text run.inputs_after.faults.text × (plan.make ≡ None)
 IsEndedAs plan run ReadScript =
     IsRefused run × HasRisen run.inputs.faults.script run.inputs_after.faults.script × HasText plan run × (plan.make ≡ None)
-IsEndedAs plan run (TextNotUtf8 at) = IsRefused run × IfSome (text_of plan run.inputs) (IsNotUtf8At at)
+IsEndedAs plan run (TextNotUtf8 at) = IsRefused run × IfSome (text_of plan run.inputs) (λ bytes. IsTextRefused bytes (NotUtf8 at))
 IsEndedAs plan run TextTooLong =
-    IsRefused run × IfSome (text_of plan run.inputs) (λ bytes. TEXT_LIMIT < length bytes)
+    IsRefused run × IfSome (text_of plan run.inputs) (λ bytes. IsTextRefused bytes TooLong)
 IsEndedAs plan run ScriptTooLong =
     IsRefused run × IfSome (script_of plan run.inputs) (λ script. SCRIPT_LIMIT < length script) × HasText plan run
 IsEndedAs plan run Usage = ⊥
 
 -- ---- which reads are made
 
--- reads of a part under a name, the first from a byte on and each other from where the one before it ended
-abbrev pub AreReadsOf : Part → List ℕ → ℕ → List Read → Type 0
-AreReadsOf part name at [] = Unit {0}
-AreReadsOf part name at (read ∷ reads) =
-    (read.part ≡ part) × (read.name ≡ name) × (read.at ≡ at) × AreReadsOf part name (at + read.count) reads
+-- reads of a part under a name, the first from a byte on and each other from where the one before it ended. None goes on
+-- past one byte over the limit
+abbrev pub AreReadsOf : Part → List ℕ → ℕ → ℕ → List Read → Type 0
+AreReadsOf part name limit at [] = Unit {0}
+AreReadsOf part name limit at (read ∷ reads) =
+    (read.part ≡ part) × (read.name ≡ name) × (read.at ≡ at) × (at + read.count ≤ limit + 1)
+    × AreReadsOf part name limit (at + read.count) reads
 
--- the reads of a run are those of its text, and then those of its script; with a make there are none
-pub record ReadsInOrder (plan : Plan) (old new : List Read) : Type 0 where
+-- the note is of the text alone
+abbrev pub ends_at_text : Note → Bool
+ends_at_text ReadText = true
+ends_at_text (TextNotUtf8 at) = true
+ends_at_text TextTooLong = true
+ends_at_text _ = false
+
+-- the reads of a run are those of its text, and then, where that is accepted, those of its script; with a make there are none
+pub record ReadsInOrder (plan : Plan) (note : Note) (old new : List Read) : Type 0 where
   pub text : List Read
   pub script : List Read
   pub made : new ≡ old ++ (text ++ script)
-  pub of_text : AreReadsOf Text plan.text 0 text
-  pub of_script : AreReadsOf Script plan.script 0 script
+  pub of_text : AreReadsOf Text plan.text TEXT_LIMIT 0 text
+  pub of_script : AreReadsOf Script plan.script SCRIPT_LIMIT 0 script
+  pub judged : ends_at_text note ≡ true → script ≡ []
   pub none : plan.make ≢ None → new ≡ old
 
 -- ---- which notes are owed
@@ -229,10 +242,9 @@ IsScriptUnfailed run = HasRisen run.inputs.faults.script run.inputs_after.faults
 -- the answers that are owed where the text is told and no read of it failed: want of memory alone may come in their place
 pub record IsOwed (plan : Plan) (run : Run) : Type 0 where
   pub too_long : (bytes : List ℕ) → text_of plan run.inputs ≡ Some bytes → IsTextUnfailed run
-      → TEXT_LIMIT < length bytes → (run.note ≡ TextTooLong) ⊎ (run.note ≡ Memory)
-  pub not_utf8 : (bytes : List ℕ) → text_of plan run.inputs ≡ Some bytes → IsTextUnfailed run
-      → length bytes ≤ TEXT_LIMIT → (IsUtf8 bytes → ⊥)
-      → (run.note ≡ TextNotUtf8 (utf8_valid_len bytes)) ⊎ (run.note ≡ Memory)
+      → IsTextRefused bytes TooLong → (run.note ≡ TextTooLong) ⊎ (run.note ≡ Memory)
+  pub not_utf8 : (bytes : List ℕ) (at : ℕ) → text_of plan run.inputs ≡ Some bytes → IsTextUnfailed run
+      → IsTextRefused bytes (NotUtf8 at) → (run.note ≡ TextNotUtf8 at) ⊎ (run.note ≡ Memory)
   pub script_too_long : (bytes script : List ℕ) → text_of plan run.inputs ≡ Some bytes
       → script_of plan run.inputs ≡ Some script → IsTextUnfailed run → IsScriptUnfailed run
       → IsAccepted bytes → SCRIPT_LIMIT < length script → (run.note ≡ ScriptTooLong) ⊎ (run.note ≡ Memory)
@@ -245,10 +257,15 @@ IsComplete plan run =
     → IsTextUnfailed run → IsScriptUnfailed run → (HasRisen run.sink.faults run.sink_after.faults → ⊥)
     → (run.note ≡ Fine) ⊎ ((run.note ≡ Memory) ⊎ (run.note ≡ JournalFull))
 
+-- no read failed, unless the note says so
+abbrev pub HasReadsPassed : Run → Type 0
+HasReadsPassed run = run.note ≢ ReadText → run.note ≢ ReadScript → run.inputs_after.faults ≡ run.inputs.faults
+
 -- the headline: what the run of a plan is, which reads it made, and that it ends as it is owed
 pub record IsRun (run : Run) (plan : Plan) : Type 0 where
   pub outcome : IsEndedAs plan run run.note
-  pub reads : ReadsInOrder plan run.inputs.reads run.inputs_after.reads
+  pub reads : ReadsInOrder plan run.note run.inputs.reads run.inputs_after.reads
+  pub passed : HasReadsPassed run
   pub owed : IsOwed plan run
   pub complete : IsComplete plan run
 
@@ -265,6 +282,11 @@ pub record IsRunOfWords (plan : Option Plan) (run : Run) : Type 0 where
 pub record Says (note : Note) (old new : SinkState) : Type 0 where
   pub front : TakesFront (note_line note) old new
   pub whole : (HasRisen old.faults new.faults → ⊥) → Takes (note_line note) old new
+
+-- the note of a program that the system gave no words, for an error of this kind: words that aren't text have no reading
+abbrev pub note_without_words : ErrorKind → Note
+note_without_words InvalidData = Usage
+note_without_words _ = Memory
 
 -- the program: its run is one of its words, it says the note of the run, and its status is that of the run
 pub record IsProgram (plan : Option Plan) (inputs inputs_after : InputState)

@@ -5,7 +5,7 @@ use Rattle.cell_units.specs.Record.{Record}
 use Rattle.cell_units.specs.Cutting.{cut_lines}
 use Rattle.edit_script.specs.declared.asked.Form.{Form}
 use Rattle.display_sheet.specs.Changes.{entries_in}
-use Rattle.edit_script.specs.Commands.{Command, Apply, Ask, Settle, command_of}
+use Rattle.edit_script.specs.Commands.{Command, Apply, Ask, AskCaret, Settle, command_of}
 use Rattle.edit_script.specs.Script.{form_of, asking_from}
 use Rattle.edit_script.specs.declared.blank.TheConstants.{LINE_LIMIT}
 use Rattle.edit_script.specs.Verdict.{Verdict, verdict}
@@ -32,6 +32,7 @@ abbrev pub asked_by_command : Option Command → ℕ
 asked_by_command None = 0
 asked_by_command (Some (Apply change)) = entries_in change
 asked_by_command (Some (Ask query)) = 0
+asked_by_command (Some (AskCaret query)) = 0
 asked_by_command (Some Settle) = 0
 
 -- how many operations an entry asks for, accepted or not. A line over the limit asks for none

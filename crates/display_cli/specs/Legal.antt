@@ -7,7 +7,7 @@ use Rattle.cell_units.specs.Operation.{Operation}
 use Rattle.display_map.specs.Events.{Event}
 use Rattle.display_map.specs.Events.{Line, Did, Sent, Landed, Published}
 use Rattle.display_map.specs.Replay.{History, State, state_of, present_of, waits, is_settled, job_numbered}
-use Rattle.live_display.specs.Beside.{outstanding}
+use Rattle.live_display.specs.Beside.{is_any_landing, outstanding}
 use Rattle.edit_script.specs.Commands.{Command}
 use Rattle.edit_script.specs.Verdict.{Verdict, Refused, Accepted, ops_of, wants_settled}
 use Rattle.display_cli.specs.Entries.{Entry, judged}
@@ -104,6 +104,17 @@ abbrev pub AnswersSettled : List ℕ → List (ℕ × Entry) → List Event → 
 AnswersSettled text entries past e =
     (number : ℕ) → e ≡ Line number → needs_settled (next_verdict text entries past) ≡ true → is_settled (state_of (history_of text past)).present ≡ true
 
+-- since the last line no job landed behind a send: those that landed were there
+abbrev pub LandsFirst : List Event → Type 0
+LandsFirst past =
+    (k job first count : ℕ) → slice_get past k ≡ Some (Sent job first count)
+    → list_any is_line (drop k past) ≡ false → list_any is_any_landing (drop k past) ≡ false
+
+-- unsettled: for every other line, as one that is refused, no job is waited for
+abbrev pub GoesUnsettled : List ℕ → List (ℕ × Entry) → List Event → Event → Type 0
+GoesUnsettled text entries past e =
+    (number : ℕ) → e ≡ Line number → needs_settled (next_verdict text entries past) ≡ false → LandsFirst past
+
 -- busy: at each line no line of the display waits, or as many jobs are outstanding as may be
 abbrev pub KeepsBusy : List ℕ → ℕ → List Event → Event → Type 0
 KeepsBusy text workers past e =
@@ -135,6 +146,7 @@ pub record IsLegalSoFar (text : List ℕ) (entries : List (ℕ × Entry)) (worke
   pub sends : AtEach (Sends text workers) history
   pub once : AtEach (LandsOnce text) history
   pub settled : AtEach (AnswersSettled text entries) history
+  pub unsettled : AtEach (GoesUnsettled text entries) history
   pub busy : AtEach (KeepsBusy text workers) history
   pub ending : AtEach (Ends text entries) history
 

@@ -3,6 +3,7 @@ pub mod Outside
 pub mod Telling
 pub mod Entries
 pub mod Legal
+pub mod CaretLines
 pub mod Output
 pub mod Ended
 pub mod Notes

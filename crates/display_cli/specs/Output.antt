@@ -10,7 +10,9 @@ use Rattle.display_map.specs.Replay.{present_of, versions_of}
 use Rattle.board_watch.specs.declared.seen.Seen.{Seen}
 use Rattle.board_watch.specs.declared.seen.Watched.{Watched}
 use Rattle.edit_script.specs.Verdict.{Verdict, Refused, Accepted}
-use Rattle.edit_script.specs.Printed.{command_lines, refusal_text}
+use Rattle.edit_script.specs.Commands.{Command, Apply, Ask, AskCaret, Settle}
+use Rattle.edit_script.specs.Printed.{query_lines, refusal_text}
+use Rattle.display_cli.specs.CaretLines.{caret_lines}
 use Rattle.display_cli.specs.declared.summary.Summary.{Summary}
 use Rattle.display_cli.specs.declared.tally.Tally.{Tally}
 use Rattle.display_cli.specs.Entries.{Entry}
@@ -19,6 +21,13 @@ use Rattle.display_cli.specs.Legal.{history_of, lines_in, next_verdict}
 -- lines, each with its line feed
 abbrev pub printed : List (List ℕ) → List ℕ
 printed lines = flat_map (λ line. line ++ line_feed ∷ []) lines
+
+-- the lines that answer an accepted command, where so many versions were published
+abbrev pub command_lines : Record → ℕ → Command → List (List ℕ)
+command_lines r versions (Apply change) = []
+command_lines r versions (Ask query) = query_lines r versions query
+command_lines r versions (AskCaret query) = caret_lines r query
+command_lines r versions Settle = []
 
 -- the lines that a verdict is answered with, on the record that it was given on
 abbrev pub answer : List ℕ → List (ℕ × Entry) → List Event → Option Verdict → List (List ℕ)

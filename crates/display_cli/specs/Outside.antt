@@ -1,5 +1,5 @@
 -- What is known of the inputs and of a sink.
-use Rattle.std.specs.Prelude.{ℕ, ◌≡◌, ◌<◌, ◌≤◌, ◌-◌, ◌^◌, ◌⊎◌, List, [], ◌∷◌, ◌++◌, length, take, drop, Result, Ok, Err, Option, Some, IfSome, OnOk, OnErr}
+use Rattle.std.specs.Prelude.{ℕ, ◌≡◌, ◌<◌, ◌≤◌, ◌-◌, ◌^◌, ◌⊎◌, Bool, true, false, if◌then◌else◌, sum_by, List, [], ◌∷◌, ◌++◌, length, take, drop, Result, Ok, Err, Option, Some, IfSome, OnOk, OnErr}
 use Rattle.display_cli.specs.declared.outside.Failed.{Failed}
 use Rattle.display_cli.specs.declared.outside.Part.{Part}
 use Rattle.display_cli.specs.declared.outside.Part.TheVariants.{Text, Script}
@@ -29,11 +29,25 @@ pub record Read : Type 0 where
   pub at : ℕ
   pub count : ℕ
 
+-- both are the text, or both the script
+abbrev pub is_part : Part → Part → Bool
+is_part Text Text = true
+is_part Script Script = true
+is_part _ _ = false
+
+-- how many bytes of a part these reads gave
+abbrev pub count_read : Part → List Read → ℕ
+count_read part reads = sum_by (λ read. if is_part part read.part then read.count else 0) reads
+
 -- what is known of the inputs: the bytes of each name, where they are told, the counts of faults, and the reads so far
 pub record InputState : Type 0 where
   pub told : List ℕ → Option (List ℕ)
   pub faults : Faults
   pub reads : List Read
+
+-- how many bytes of a part were read from one state to the other
+abbrev pub count_between : Part → InputState → InputState → ℕ
+count_between part old new = count_read part (drop (length old.reads) new.reads)
 
 -- what is known of a sink: the bytes that it took, where they are told, and how many writes failed
 pub record SinkState : Type 0 where

@@ -7,3 +7,4 @@ pub mod Left
 pub mod Opening
 pub mod Named
 pub mod Calls
+pub mod Carets

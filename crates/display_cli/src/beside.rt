@@ -27,7 +27,7 @@ pub(crate) struct Left {
     pub(crate) writer: Option<Writer>,
 }
 
-/// Gives a sink back as it is: with this call rattle knows what a runner left behind its reference.
+/// Gives a sink back as it is: with this call rattle knows what a runner left in it.
 fn give_back<K>(out: &mut K)
     ensures { out.new ≡ out.old }
 {}

@@ -67,7 +67,7 @@ fn find_bytes<'a>(files: &'a [NamedBytes], name: &str) -> Option<&'a [u8]>
         .map(|file| file.bytes.as_slice())
 }
 
-/// Copies bytes from the byte `at` on to the front of the room, as many as there are and fit.
+/// Copies bytes from the byte `at` on to the start of the room, as many as there are and fit.
 fn copy_from(bytes: &[u8], at: u64, room: &mut [u8]) -> usize
     ensures count { result ≡ min (length room.old) (length (drop at bytes.now)) }
     ensures bytes { take result room.new ≡ take result (drop at bytes.now) }
@@ -118,7 +118,7 @@ impl MapInputs {
         at: u64,
         room: &mut [u8],
     ) -> Result<usize, Failed>
-        // The room's front has the bytes of the name from `at` on, as many as there are and fit.
+        // The room begins with the bytes of the name from `at` on, as many as there are and fit.
         ensures within { IfOk result (λ n. n ≤ length room.old) }
         ensures given { IfOk result
             (λ n. IfSome (told_by self.old name.now) (IsGiven at room.old room.new n)) }

@@ -1,7 +1,7 @@
 //! The program `displaymap` as calls: a script is run on a text, and what it asks for is written.
 //!
 //! `run` carries the headline theorem: what was written is the output of a legal history. `program` ties the exit status and
-//! what is said on standard error to it, and `give_up` says that there was no memory for the words.
+//! what is said on standard error to it, and `give_up` says why there are no words.
 //!
 //! The outside comes as `Inputs` and `Sink`: over memory (`MapInputs`, `ListSink`, and `SureInputs` and `SureSink`, which never
 //! fail), and over files and streams (`FileInputs`, `StreamSink`). Who writes inputs of his own tells its reads by `ReadsTold`.
@@ -9,6 +9,7 @@
 
 mod beside;
 mod calls;
+mod carets;
 mod ended;
 mod inputs;
 pub mod limits;

@@ -18,7 +18,7 @@ pub trait Inputs {
     // The bytes of each name, where they are told, how many reads of each part failed, and the reads so far.
     ghost state: { Self → InputState };
 
-    /// Reads bytes of the name, from the byte `at` on, to the front of `room`, and answers how many. None for a room
+    /// Reads bytes of the name, from the byte `at` on, to the start of `room`, and returns how many. None for a room
     /// that isn't empty is the end.
     fn read(&mut self, part: Part, name: &str, at: u64, room: &mut [u8]) -> Result<usize, Failed>
         ensures within { IfOk result (λ n. n ≤ length room.old) }
@@ -32,7 +32,7 @@ pub trait Sink {
     // The bytes that were taken, where they are told, and how many writes failed.
     ghost state: { Self → SinkState };
 
-    /// Takes bytes from the front of the piece, and answers how many: at least one of a piece that isn't empty.
+    /// Takes bytes from the start of the piece, and returns how many: at least one of a piece that isn't empty.
     fn write(&mut self, piece: &[u8]) -> Result<usize, Failed>
         ensures within { IfOk result (λ n. n ≤ length piece.now) }
         ensures some { IfOk result (λ n. 0 < length piece.now → 1 ≤ n) }

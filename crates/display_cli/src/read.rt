@@ -1,6 +1,6 @@
 //! Reading the text and the script.
 ghost use Rattle.std.specs.Prelude.{◌≡◌, ◌+◌, ◌<◌, ◌≤◌, ◌^◌, ℕ, List, length, take, IfOk, OnOk, IfErr, OnErr, IfSome};
-ghost use Rattle.display_cli.specs.Outside.{AreTold};
+ghost use Rattle.display_cli.specs.Outside.{AreTold, count_between};
 ghost use Rattle.display_cli.specs.inside.Reading.{HasFront, IsWholeWithin, IsUnread, ReadsOnce, ReadsName};
 
 use crate::outside::{Failed, Inputs, Part};
@@ -50,7 +50,7 @@ fn zeros(alloc: Global, size: usize) -> Result<Vec<u8>, AllocError>
     vec![in alloc; 0u8; size]
 }
 
-/// Reads the next bytes of a name behind those that were read, up to one more than the limit, and answers how many.
+/// Reads the next bytes of a name after those that were read, up to one more than the limit, and returns how many.
 fn read_more<I: Inputs>(
     inputs: &mut I,
     part: Part,
@@ -77,8 +77,8 @@ fn read_more<I: Inputs>(
     ensures failed { IfErr result (IsUnread part ((I.state inputs.old).told name.now) limit
         (I.state inputs.old).faults (I.state inputs.new).faults) }
 
-    // One read is made, from the end of the bytes so far, and what is told stays.
-    ensures reads { ReadsOnce part name.now (length bytes.old.items) result
+    // One read is made, from the end of the bytes so far and up to one byte over the limit, and what is told stays.
+    ensures reads { ReadsOnce part name.now limit (length bytes.old.items) result
         (I.state inputs.old) (I.state inputs.new) }
 {
     let asked = (limit + 1 - bytes.len()).min(room.len());
@@ -101,13 +101,15 @@ pub(crate) fn read_whole<I: Inputs>(
     ensures whole { IfOk result
         (λ bytes. IsWholeWithin ((I.state inputs.old).told name.now) limit bytes.items) }
     ensures passed { OnOk result ((I.state inputs.new).faults ≡ (I.state inputs.old).faults) }
+    ensures counted { IfOk result (λ bytes.
+        length bytes.items ≡ count_between part (I.state inputs.old) (I.state inputs.new)) }
 
     // Why they weren't read to their end, and what that makes of the counts of faults.
     ensures failed { IfErr result (IsUnread part ((I.state inputs.old).told name.now) limit
         (I.state inputs.old).faults (I.state inputs.new).faults) }
 
     // The reads follow on one another from the first byte on, and what is told stays.
-    ensures reads { ReadsName part name.now (I.state inputs.old) (I.state inputs.new) }
+    ensures reads { ReadsName part name.now limit (I.state inputs.old) (I.state inputs.new) }
 {
     let mut room = zeros(alloc, PIECE)?;
     let mut bytes = Vec::new(alloc);

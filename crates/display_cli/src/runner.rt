@@ -3,29 +3,34 @@ ghost use Rattle.std.specs.Prelude.{true, false, ◌≡◌, ◌+◌, ◌<◌, �
 ghost use Rattle.display_sheet.specs.Changes.{ops_of};
 ghost use Rattle.display_map.specs.Events.{event_limit};
 ghost use Rattle.display_map.specs.Events.{Line};
-ghost use Rattle.display_map.specs.Replay.{is_settled, present_of, appended};
+ghost use Rattle.display_map.specs.Replay.{present_of, appended};
 ghost use Rattle.live_display.specs.Owned.{IsOwned, IsSameTeam};
 ghost use Rattle.live_display.specs.declared.owner.TheConstants.{EVENTS_AHEAD};
 ghost use Rattle.edit_script.specs.declared.asked.Asked.TheVariants as asks;
-ghost use Rattle.edit_script.specs.Commands.{Settle, meaning};
+ghost use Rattle.edit_script.specs.Commands.{AskCaret, Settle, meaning};
 ghost use Rattle.edit_script.specs.Printed.{refusal_text};
 ghost use Rattle.edit_script.specs.Verdict.{Refused, Accepted, query_wants_settled};
 ghost use Rattle.display_cli.specs.declared.stop.Stop.TheVariants as stops;
+ghost use Rattle.display_cli.specs.CaretLines.{caret_lines};
 ghost use Rattle.display_cli.specs.Outside.{Takes};
 ghost use Rattle.display_cli.specs.Output.{printed};
 ghost use Rattle.display_cli.specs.Entries.{script_lines, asked_by_command};
+ghost use Rattle.display_cli.specs.inside.Carets.{lines_of};
 ghost use Rattle.display_cli.specs.inside.Reading.{IsUnwritten};
-ghost use Rattle.display_cli.specs.inside.Going.{IsReady, IsAbreast, HasChanged, IsWithinChange, IsUnrecorded, Handles, HandlesUnread, HandlesQuery, HandlesChange, IsReadOn, IsUnreadOn, read_wants_settled, HandlesLine, HandlesFirst, HandlesAll, HandlesScript, PlaysAll, SameSink, stage};
+ghost use Rattle.display_cli.specs.inside.Going.{IsReady, IsShown, IsAbreast, IsPrepared, IsPreparedFor, HasChanged, IsWithinChange, IsUnrecorded, Handles, HandlesUnread, HandlesQuery, HandlesChange, IsReadOn, IsUnreadOn, query_verdict, read_wants_settled, HandlesLine, HandlesFirst, HandlesAll, HandlesScript, PlaysAll, SameSink, stage};
 
+use crate::carets::{CaretAnswer, answer_caret, write_caret_answer};
 use crate::outside::Sink;
 use crate::script::{head_of, split_line};
 use crate::settling::{check_room, finish, land_ready, prepare};
 use crate::stop::Stop;
 use crate::tally::{Outcome, Tally};
 use crate::write::{write_answer, write_line};
-use cell_units::{Fault, Refusal, Steps};
-use display_map::Change;
-use edit_script::{Asked, Form, Query, answer, read_line, refusal_line, skipped};
+use cell_units::{Fault, NoMemory, Refusal, Steps};
+use display_map::{Change, View};
+use edit_script::{
+    Asked, CaretQuery, Form, Query, answer, query_refusal, read_line, refusal_line, skipped,
+};
 use live_display::Owner;
 use std::alloc::Global;
 use std::sync::Wait;
@@ -42,27 +47,31 @@ fn operations(change: &Change) -> usize
     }
 }
 
-/// Whether a question is answered only where every display line stands wrapped at the width.
+/// Whether a question is answered only where every display line is wrapped at the width.
 fn query_wants_settled(query: &Query) -> bool
     ensures { result ≡ query_wants_settled query.now }
 {
     !matches!(query, Query::Peek { .. })
 }
 
-/// Whether what was read of a line is to be done only there.
-fn wants_settled(read: &Result<Asked, Fault>) -> bool
-    ensures { result ≡ read_wants_settled read.now }
+/// Whether what was read of a line is to be done only there: not where the view refuses it.
+fn wants_settled(alloc: Global, view: &View, read: &Result<Asked, Fault>, steps: &mut Steps) -> bool
+    ensures settles { result ≡ read_wants_settled (present_of view.now) read.now }
+    ensures counted { steps.old ≤ steps.new }
 {
     match read {
-        Ok(Asked::Settle) => true,
-        Ok(Asked::Query(query)) => query_wants_settled(query),
+        Ok(Asked::Settle | Asked::Caret(_)) => true,
+        Ok(Asked::Query(query)) => match query_refusal(alloc, view, query, steps) {
+            None => query_wants_settled(query),
+            Some(_) => false,
+        },
         Ok(Asked::Change(_)) | Err(_) => false,
     }
 }
 
 /// Records that the line of this number is handled, where the journal has room for it and for so many operations.
 fn record_line(number: u64, operations: usize, owner: &mut Owner) -> Result<(), Stop>
-    requires { IsReady owner.old }
+    requires { IsShown owner.old }
 
     // Where it is recorded, the journal had room for a step's events beside the operations.
     ensures recorded { OnOk result
@@ -75,7 +84,7 @@ fn record_line(number: u64, operations: usize, owner: &mut Owner) -> Result<(), 
     ensures why { IfErr result
         (IsUnrecorded (length owner.old.display.events + EVENTS_AHEAD + operations)) }
 
-    // The owner is ready again unless it stopped, and its team is the same.
+    // The owner is ready unless it stopped, and its team is the same.
     ensures ready { OnOk result (IsReady owner.new) }
     ensures team { IsSameTeam owner.old owner.new }
 {
@@ -95,7 +104,7 @@ fn write_refusal<K: Sink>(alloc: Global, refusal: Refusal, out: &mut K) -> Resul
     write_line(alloc, line.as_str(), out)
 }
 
-/// Does a change, and publishes the display where it had an operation. Answers why it is refused, if it is.
+/// Does a change, and publishes the display where it had an operation. Returns why it is refused, if it is.
 fn apply_change<R: Wait>(
     rt: &R,
     change: &Change,
@@ -108,7 +117,7 @@ fn apply_change<R: Wait>(
     // All of it is done and published, or a refusal that is owed leaves the display as it was.
     ensures changed { IfOk result (HasChanged owner.old.display change.now owner.new.display) }
 
-    // It stops for want of memory alone: before the change, before its version, or before that is shown.
+    // It stops only where it is out of memory: before the change, before its version, or before that is shown.
     ensures memory { IfErr result (λ stop. stop ≡ stops.Memory) }
     ensures stopped { OnErr result
         (IsWithinChange owner.old.display change.now owner.new.display) }
@@ -145,7 +154,7 @@ impl<'a, R: Wait, G: Gate, K: Sink> Runner<'a, R, G, K> {
     fn settled(&mut self, number: u64) -> Result<Outcome, Stop>
         // The next line may be handled, and no line of the display is left to be wrapped.
         requires abreast { IsAbreast self.old.owner }
-        requires settled { is_settled (present_of self.old.owner.display) ≡ true }
+        requires settled { IsPrepared true self.old.owner.display }
 
         // The entry, which is accepted, is handled, or the run stops.
         ensures handled { Handles self.old.owner.crew.workers number (Accepted Settle)
@@ -163,7 +172,9 @@ impl<'a, R: Wait, G: Gate, K: Sink> Runner<'a, R, G, K> {
 
     /// Refuses the line of this number.
     fn refuse(&mut self, number: u64, refusal: Refusal) -> Result<Outcome, Stop>
-        requires { IsAbreast self.old.owner }
+        // The next line may be handled, and no job was waited for.
+        requires abreast { IsAbreast self.old.owner }
+        requires unsettled { IsPrepared false self.old.owner.display }
 
         // The entry to which this refusal is owed is handled, or the run stops.
         ensures handled { Handles self.old.owner.crew.workers number (Refused refusal)
@@ -182,7 +193,9 @@ impl<'a, R: Wait, G: Gate, K: Sink> Runner<'a, R, G, K> {
 
     /// Refuses the line of this number for why it wasn't read, or stops where there was no memory for that.
     fn refuse_unread(&mut self, number: u64, fault: Fault) -> Result<Outcome, Stop>
-        requires { IsAbreast self.old.owner }
+        // The next line may be handled, and no job was waited for.
+        requires abreast { IsAbreast self.old.owner }
+        requires unsettled { IsPrepared false self.old.owner.display }
 
         // The entry that wasn't read for this fault is handled, or the run stops.
         ensures handled { HandlesUnread self.old.owner.crew.workers number fault
@@ -202,10 +215,11 @@ impl<'a, R: Wait, G: Gate, K: Sink> Runner<'a, R, G, K> {
 
     /// Answers a query on a view of the display, or refuses it, which the line of this number asks.
     fn answer(&mut self, number: u64, query: &Query) -> Result<Outcome, Stop>
-        // The next line may be handled, and no line of the display is left to be wrapped where the query wants that.
+        // The next line may be handled. No line of the display is left to be wrapped where the query isn't refused and wants
+        // that, and else no job was waited for.
         requires abreast { IsAbreast self.old.owner }
-        requires settled { query_wants_settled query.now ≡ true
-            → is_settled (present_of self.old.owner.display) ≡ true }
+        requires prepared { IsPreparedFor (query_verdict self.old.owner.display query.now)
+            self.old.owner.display }
 
         // The entry that asks this is handled, accepted or refused, or the run stops.
         ensures handled { HandlesQuery self.old.owner.crew.workers number query.now
@@ -233,9 +247,42 @@ impl<'a, R: Wait, G: Gate, K: Sink> Runner<'a, R, G, K> {
         }
     }
 
+    /// What answers a question about a caret, on the display as it is.
+    fn caret_answer(&self, query: &CaretQuery) -> Result<CaretAnswer, NoMemory>
+        ensures { IfOk result (λ answer.
+            lines_of answer ≡ caret_lines (present_of self.now.owner.display) query.now) }
+    {
+        let view = self.owner.display.view()?;
+        answer_caret(self.owner.alloc, &view, query, &mut Steps::new())
+    }
+
+    /// Answers the question about a caret that the line of this number asks.
+    fn answer_caret(&mut self, number: u64, query: &CaretQuery) -> Result<Outcome, Stop>
+        // The next line may be handled, and no line of the display is left to be wrapped.
+        requires abreast { IsAbreast self.old.owner }
+        requires settled { IsPrepared true self.old.owner.display }
+
+        // The entry that asks this, which is accepted, is handled, or the run stops.
+        ensures handled { Handles self.old.owner.crew.workers number (Accepted (AskCaret query.now))
+            (stage K.state self.old) (stage K.state self.new) result }
+
+        // The owner is ready again where the run goes on. Its team, the sink and the form stay.
+        ensures ready { OnOk result (IsReady self.new.owner) }
+        ensures team { IsSameTeam self.old.owner self.new.owner }
+        ensures sink { SameSink self.old self.new }
+        ensures form { self.new.form ≡ self.old.form }
+    {
+        let answer = self.caret_answer(query)?;
+        record_line(number, 0, &mut self.owner)?;
+        let lines = write_caret_answer(self.owner.alloc, &answer, self.out)?;
+        Ok(Outcome::Accepted { lines })
+    }
+
     /// Does the change that the line of this number asks, or refuses it.
     fn change(&mut self, number: u64, change: &Change) -> Result<Outcome, Stop>
-        requires { IsAbreast self.old.owner }
+        // The next line may be handled, and no job was waited for.
+        requires abreast { IsAbreast self.old.owner }
+        requires unsettled { IsPrepared false self.old.owner.display }
 
         // The entry that asks for this change is handled, accepted or refused, or the run stops.
         ensures handled { HandlesChange self.old.owner.crew.workers number change.now
@@ -257,15 +304,23 @@ impl<'a, R: Wait, G: Gate, K: Sink> Runner<'a, R, G, K> {
         }
     }
 
-    /// What the line asks on the display as it is.
-    fn read(&self, line: &[u8]) -> Result<Asked, Fault>
-        ensures read { IfOk result
+    /// What the line asks on the display as it is, and whether it is to be done only where every display line is wrapped
+    /// at the width.
+    fn read(&self, line: &[u8]) -> (Result<Asked, Fault>, bool)
+        ensures read { IfOk result.0
             (IsReadOn self.now.form (present_of self.now.owner.display).text line.now) }
-        ensures refused { IfErr result
+        ensures refused { IfErr result.0
             (IsUnreadOn self.now.form (present_of self.now.owner.display).text line.now) }
+        ensures settles { result.1 ≡ read_wants_settled (present_of self.now.owner.display) result.0 }
     {
-        let view = self.owner.display.view()?;
-        read_line(self.owner.alloc, line, self.form, &view, &mut Steps::new())
+        let Ok(view) = self.owner.display.view() else {
+            return (Err(Fault::NoMemory), false);
+        };
+        let alloc = self.owner.alloc;
+        let mut steps = Steps::new();
+        let read = read_line(alloc, line, self.form, &view, &mut steps);
+        let settles = wants_settled(alloc, &view, &read, &mut steps);
+        (read, settles)
     }
 
     /// Handles the line of this number, and says what became of it.
@@ -282,11 +337,12 @@ impl<'a, R: Wait, G: Gate, K: Sink> Runner<'a, R, G, K> {
         ensures sink { SameSink self.old self.new }
         ensures form { self.new.form ≡ self.old.form }
     {
-        let read = self.read(line);
-        prepare(self.rt, self.gate, &mut self.owner, wants_settled(&read))?;
+        let (read, settles) = self.read(line);
+        prepare(self.rt, self.gate, &mut self.owner, settles)?;
         match read {
             Ok(Asked::Change(change)) => self.change(number, &change),
             Ok(Asked::Query(query)) => self.answer(number, &query),
+            Ok(Asked::Caret(query)) => self.answer_caret(number, &query),
             Ok(Asked::Settle) => self.settled(number),
             Err(fault) => self.refuse_unread(number, fault),
         }
@@ -296,7 +352,7 @@ impl<'a, R: Wait, G: Gate, K: Sink> Runner<'a, R, G, K> {
     fn run_line(&mut self, number: u64, line: &[u8]) -> Result<Outcome, Stop>
         requires { IsReady self.old.owner }
 
-        // The run goes on with the lines behind this one, the next number first, or it stops.
+        // The run goes on with the lines after this one, the next number first, or it stops.
         ensures handled { HandlesFirst self.old.owner.crew.workers number self.old.form line.now
             (stage K.state self.old) (stage K.state self.new) result }
 
@@ -313,7 +369,7 @@ impl<'a, R: Wait, G: Gate, K: Sink> Runner<'a, R, G, K> {
         self.handle_line(number, line)
     }
 
-    /// Handles the lines behind so many that were passed, and counts them.
+    /// Handles the lines after so many that were passed, and counts them.
     fn run_lines(&mut self, passed: u64, lines: &[u8]) -> Result<Tally, Stop>
         // The owner is ready, and the number of each line is a u64.
         requires ready { IsReady self.old.owner }

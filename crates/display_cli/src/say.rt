@@ -8,7 +8,7 @@ use crate::outside::{Failed, Sink};
 use crate::write::write_piece;
 use itoa::Buffer;
 
-/// The line of a note in two parts, between which a number stands where the note has one.
+/// The line of a note in two parts, with a number between them where the note has one.
 fn line_parts(note: &Note) -> (&'static [u8], &'static [u8])
     ensures { IsParted note.now result.0.now result.1.now }
 {
@@ -32,7 +32,7 @@ fn line_parts(note: &Note) -> (&'static [u8], &'static [u8])
     }
 }
 
-/// Offers three pieces, one behind the other.
+/// Offers three pieces, one after the other.
 fn write_three<K: Sink>(
     out: &mut K,
     first: &[u8],

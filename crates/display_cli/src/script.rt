@@ -16,7 +16,7 @@ fn feed_at(bytes: &[u8]) -> Option<usize>
     bytes.iter().position(|b| *b == b'\n')
 }
 
-/// The first line of what is left of a script, without its line feed, and what is left behind it.
+/// The first line of what is left of a script, without its line feed, and what is left after it.
 pub(crate) fn split_line(script: &[u8]) -> (&[u8], &[u8])
     requires { 0 < length script.now }
     ensures lines { script_lines script.now ≡ result.0.now ∷ script_lines result.1.now }
@@ -28,7 +28,7 @@ pub(crate) fn split_line(script: &[u8]) -> (&[u8], &[u8])
     }
 }
 
-/// How many blank lines a script begins with, and what is left behind them.
+/// How many blank lines a script begins with, and what is left after them.
 fn skip_blank(script: &[u8]) -> (u64, &[u8])
     ensures { HasPassedBlank script.now result.0 result.1.now }
 {
@@ -45,7 +45,7 @@ fn skip_blank(script: &[u8]) -> (u64, &[u8])
     (passed, rest)
 }
 
-/// The head of a script: the form that it gives the lines behind it, how many lines it has, and what is left behind it.
+/// The head of a script: the form that it gives the lines after it, how many lines it has, and what is left after it.
 #[derive(Drop)]
 pub(crate) struct Head<'a> {
     pub(crate) form: Form,
@@ -53,7 +53,7 @@ pub(crate) struct Head<'a> {
     pub(crate) rest: &'a [u8],
 }
 
-/// The head of a script: the blank lines that it begins with, and the header, where that is the first line behind them.
+/// The head of a script: the blank lines that it begins with, and the header, where that is the first line after them.
 pub(crate) fn head_of(alloc: Global, script: &[u8]) -> Result<Head<'_>, NoMemory>
     ensures { IfOk result (IsHeadOf script.now) }
 {

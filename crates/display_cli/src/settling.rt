@@ -1,12 +1,13 @@
 //! What a run does beside the lines of its script: its owner sends runs, lands results and settles.
-ghost use Rattle.std.specs.Prelude.{◌≡◌, ◌+◌, ◌<◌, ◌≤◌, true, length, OnOk, IfErr, IfSome};
+ghost use Rattle.std.specs.Prelude.{◌≡◌, ◌+◌, ◌<◌, ◌≤◌, length, OnOk, IfErr, IfSome};
 ghost use Rattle.display_map.specs.Events.{event_limit};
-ghost use Rattle.display_map.specs.Replay.{is_settled, present_of};
+ghost use Rattle.display_map.specs.Replay.{present_of};
 ghost use Rattle.live_display.specs.declared.owner.TheConstants.{EVENTS_AHEAD};
 ghost use Rattle.live_display.specs.Beside.{HasGone, IsHalted};
 ghost use Rattle.live_display.specs.Owned.{IsBusy, IsOwned, IsSameTeam};
 ghost use Rattle.display_cli.specs.declared.stop.Stop.TheVariants as stops;
-ghost use Rattle.display_cli.specs.inside.Going.{IsReady, IsAbreast, GoesOn, Ends};
+ghost use Rattle.live_display.specs.Stepping.{WasEmpty};
+ghost use Rattle.display_cli.specs.inside.Going.{IsReady, IsAbreast, IsPrepared, HasPrepared, GoesOn, Ends};
 
 use crate::stop::Stop;
 use display_map::Display;
@@ -33,6 +34,7 @@ pub(crate) fn land_ready<R: Wait>(rt: &R, owner: &mut Owner) -> Result<(), Stop>
     requires { IsReady owner.old }
     ensures going { GoesOn owner.old.crew.workers owner.old.display owner.new.display result }
     ensures ready { OnOk result (IsReady owner.new) }
+    ensures emptied { OnOk result (WasEmpty owner.new.crew.out) }
     ensures team { IsSameTeam owner.old owner.new }
 {
     owner.land_ready(rt)?;
@@ -48,13 +50,12 @@ fn settle_or_send<R: Wait, G: Gate>(
 ) -> Result<(), Halt>
     requires { IsOwned owner.old }
 
-    // What is reached: no more may be sent, and where it settles no line is left to be wrapped.
+    // What is reached: no more may be sent. Where it settles no line is left to be wrapped, and else no job landed.
     ensures gone { OnOk result
         (HasGone owner.old.crew.workers owner.old.display owner.new.display) }
     ensures owned { OnOk result (IsOwned owner.new) }
     ensures busy { OnOk result (IsBusy owner.new) }
-    ensures settled { OnOk result
-        (settles ≡ true → is_settled (present_of owner.new.display) ≡ true) }
+    ensures prepared { OnOk result (HasPrepared settles owner.old.display owner.new.display) }
 
     // Where it halts, and the crew.
     ensures halted { IfErr result
@@ -68,7 +69,7 @@ fn settle_or_send<R: Wait, G: Gate>(
     }
 }
 
-/// Does what is to be done before the next line: as many runs are out as may be, or each line of the display stands wrapped
+/// Does what is to be done before the next line: as many runs are out as may be, or each line of the display is wrapped
 /// at the width, where the line wants that.
 pub(crate) fn prepare<R: Wait, G: Gate>(
     rt: &R,
@@ -78,11 +79,11 @@ pub(crate) fn prepare<R: Wait, G: Gate>(
 ) -> Result<(), Stop>
     requires { IsReady owner.old }
 
-    // The run may handle its next line, with no display line left to be wrapped where it settles, or it stops.
+    // The run may handle its next line, or it stops. Where it settles no display line is left to be wrapped, and else no
+    // job was waited for.
     ensures going { GoesOn owner.old.crew.workers owner.old.display owner.new.display result }
     ensures abreast { OnOk result (IsAbreast owner.new) }
-    ensures settled { OnOk result
-        (settles ≡ true → is_settled (present_of owner.new.display) ≡ true) }
+    ensures prepared { OnOk result (IsPrepared settles owner.new.display) }
 
     // The text stays where the run goes on, and the team in any case.
     ensures text { OnOk result

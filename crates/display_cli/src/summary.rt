@@ -1,4 +1,4 @@
-//! The line that stands in place of the answers where text and script are made.
+//! The line in place of the answers where text and script are made.
 ghost use Rattle.std.specs.Prelude.{◌≡◌, [], ◌∷◌, IfOk, IfErr, OnOk};
 ghost use Rattle.cell_units.specs.Record.{line_count};
 ghost use Rattle.display_map.specs.Replay.{present_of};
@@ -27,7 +27,7 @@ pub(crate) struct Summary {
     pub(crate) rows: u32,
 }
 
-/// How many lines a text has. Behind a last line feed stands one that is empty.
+/// How many lines a text has. After a last line feed there is one that is empty.
 fn line_count(text: &str) -> u64
     ensures { result ≡ line_count text.now }
 {
@@ -35,7 +35,7 @@ fn line_count(text: &str) -> u64
     feeds as u64 + 1
 }
 
-/// The summary of a display behind a script, of which this was counted.
+/// The summary of a display after a script, of which this was counted.
 fn summary_at(alloc: Global, display: &Display, tally: Tally) -> Result<Summary, NoMemory>
     ensures { IfOk result (λ summary. summary ≡ summary_at (present_of display.now) tally) }
 {
@@ -71,7 +71,7 @@ fn summary_line(alloc: Global, summary: Summary) -> Result<Text, NoMemory>
     Text::from_str(alloc, line.as_str())
 }
 
-/// Writes the summary of a display behind a script, of which this was counted.
+/// Writes the summary of a display after a script, of which this was counted.
 fn write_summary<K: Sink>(
     alloc: Global,
     display: &Display,

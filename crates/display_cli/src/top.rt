@@ -1,12 +1,14 @@
 //! The top calls: the run of a script, and the program that says how its run ended.
 ghost use Rattle.std.specs.Prelude.{◌≡◌, ◌≢◌, ◌≤◌, ◌↔◌, ℕ, true, ◌<◌, [], length, map, None, Some, IfOk, IfErr, IfSome, OnOk, vec_len};
 ghost use Rattle.display_map.specs.Events.{event_limit};
+ghost use Rattle.display_map.specs.LawfulStates.{IsLawfulHistory};
 ghost use Rattle.command_line.specs.Words.{IsWithinLimits, plan_of};
 ghost use Rattle.display_cli.specs.declared.ended.Note.TheVariants as notes;
 ghost use Rattle.display_cli.specs.declared.outside.Part.TheVariants as parts;
-ghost use Rattle.display_cli.specs.Outside.{HasRisen, InputState};
-ghost use Rattle.display_cli.specs.Ended.{HasStatus, run_of, IsRefused, IsEndedAs, ReadsInOrder, IsRun, IsRunOfWords, Says, IsProgram};
-ghost use Rattle.display_cli.specs.inside.Opening.{IsOpenedOn, IsStartRefused, IsTextRefused, IsScript, IsScriptRefused, IsNoteOf, EndsWatch, HasRunOn, SeeLast, note_of, seen_by};
+ghost use Rattle.display_cli.specs.Outside.{HasRisen, InputState, count_between};
+ghost use Rattle.display_cli.specs.Legal.{history_of};
+ghost use Rattle.display_cli.specs.Ended.{HasStatus, run_of, IsRefused, IsEndedAs, ReadsInOrder, HasReadsPassed, IsRun, IsRunOfWords, Says, IsProgram, note_without_words};
+ghost use Rattle.display_cli.specs.inside.Opening.{IsOpenedOn, IsStartRefused, IsTextUnread, IsScript, IsScriptUnread, IsNoteOf, EndsWatch, HasRunOn, SeeLast, note_of, seen_by};
 ghost use Rattle.display_cli.specs.inside.Going.{IsReady};
 ghost use Rattle.display_cli.specs.inside.Left.{AreBoards, HasLeft, HasLeftBy, board_of, boards_of};
 ghost use Rattle.display_cli.specs.inside.Reading.{ReadsName};
@@ -30,6 +32,7 @@ use display_map::{Display, Journal};
 use generated_input::made;
 use live_display::{Opened, open};
 use std::alloc::Global;
+use std::io::ErrorKind;
 use std::sync::Wait;
 use std::thread::Threads;
 use version_board::Writer;
@@ -75,7 +78,7 @@ fn nothing(alloc: Global, note: Note) -> Ended
 
 /// Starts a display on the text that was read.
 fn start(alloc: Global, bytes: &[u8]) -> Result<Display, Note>
-    ensures started { IfOk result (IsOpenedOn (Some bytes.now)) }
+    ensures started { IfOk result (IsOpenedOn (Some bytes.now) (length bytes.now)) }
     ensures refused { IfErr result (IsStartRefused bytes.now) }
 {
     match Display::start(alloc, bytes, &mut Steps::new()) {
@@ -88,11 +91,13 @@ fn start(alloc: Global, bytes: &[u8]) -> Result<Display, Note>
 
 /// Reads the text of a plan, and starts a display on it.
 fn open_text<I: Inputs>(alloc: Global, plan: &Plan, inputs: &mut I) -> Result<Display, Note>
-    ensures opened { IfOk result (IsOpenedOn ((I.state inputs.old).told plan.now.text)) }
+    ensures opened { IfOk result (IsOpenedOn ((I.state inputs.old).told plan.now.text)
+        (count_between parts.Text (I.state inputs.old) (I.state inputs.new))) }
     ensures passed { OnOk result ((I.state inputs.new).faults ≡ (I.state inputs.old).faults) }
-    ensures refused { IfErr result (IsTextRefused ((I.state inputs.old).told plan.now.text)
+    ensures refused { IfErr result (IsTextUnread ((I.state inputs.old).told plan.now.text)
         (I.state inputs.old).faults (I.state inputs.new).faults) }
-    ensures reads { ReadsName parts.Text plan.now.text (I.state inputs.old) (I.state inputs.new) }
+    ensures reads { ReadsName parts.Text plan.now.text TEXT_LIMIT
+        (I.state inputs.old) (I.state inputs.new) }
 {
     match read_whole(alloc, inputs, Part::Text, plan.text.as_str(), TEXT_LIMIT) {
         Ok(bytes) => start(alloc, bytes.as_slice()),
@@ -106,10 +111,12 @@ fn open_text<I: Inputs>(alloc: Global, plan: &Plan, inputs: &mut I) -> Result<Di
 fn read_script<I: Inputs>(alloc: Global, plan: &Plan, inputs: &mut I) -> Result<Vec<u8>, Note>
     ensures read { IfOk result
         (λ script. IsScript ((I.state inputs.old).told plan.now.script) script.items) }
+    ensures counted { IfOk result (λ script.
+        length script.items ≡ count_between parts.Script (I.state inputs.old) (I.state inputs.new)) }
     ensures passed { OnOk result ((I.state inputs.new).faults ≡ (I.state inputs.old).faults) }
-    ensures refused { IfErr result (IsScriptRefused ((I.state inputs.old).told plan.now.script)
+    ensures refused { IfErr result (IsScriptUnread ((I.state inputs.old).told plan.now.script)
         (I.state inputs.old).faults (I.state inputs.new).faults) }
-    ensures reads { ReadsName parts.Script plan.now.script
+    ensures reads { ReadsName parts.Script plan.now.script SCRIPT_LIMIT
         (I.state inputs.old) (I.state inputs.new) }
 {
     match read_whole(
@@ -329,6 +336,15 @@ fn play_plan<R: Threads + Wait + Sync, G: Gate + Sync, K: Sink>(
     }
 }
 
+/// The journal of a display, whose history is lawful.
+fn journal_of(display: Display) -> Journal
+    ensures journal { result ≡ display.events }
+    ensures lawful { IsLawfulHistory display }
+{
+    display.lawful();
+    display.into_journal()
+}
+
 /// Runs a script on a display that was just started.
 fn run_script<R: Threads + Wait + Sync, G: Gate + Sync, K: Sink>(
     rt: &R,
@@ -342,6 +358,7 @@ fn run_script<R: Threads + Wait + Sync, G: Gate + Sync, K: Sink>(
     requires events { display.events ≡ [] }
     requires limits { IsWithinLimits plan.now }
     ensures status { HasStatus result.note result.status }
+    ensures lawful { IsLawfulHistory (history_of display.opening result.history) }
     ensures run { HasRunOn plan.now display.opening script.now
         (K.state out.old) (K.state out.new) result }
 {
@@ -355,9 +372,9 @@ fn run_script<R: Threads + Wait + Sync, G: Gate + Sync, K: Sink>(
             } = left;
             let (played, watched) = end_watch(alloc, played, &mut writer, team, out);
             close(rt, writer);
-            ended_as(played, display.into_journal(), watched)
+            ended_as(played, journal_of(display), watched)
         }
-        Err(display) => ended_as(Err(Stop::Memory), display.into_journal(), Vec::new(alloc)),
+        Err(display) => ended_as(Err(Stop::Memory), journal_of(display), Vec::new(alloc)),
     }
 }
 
@@ -379,8 +396,11 @@ fn run_named<R: Threads + Wait + Sync, I: Inputs, K: Sink, G: Gate + Sync>(
     ensures ended { IsEndedAs plan.now
         (run_of (I.state inputs.old) (I.state inputs.new) (K.state out.old) (K.state out.new) result) result.note }
 
-    // The reads of the text come before those of the script.
-    ensures reads { ReadsInOrder plan.now (I.state inputs.old).reads (I.state inputs.new).reads }
+    // The reads of the text come before those of the script, and none fails without that being noted.
+    ensures reads { ReadsInOrder plan.now result.note
+        (I.state inputs.old).reads (I.state inputs.new).reads }
+    ensures passed { HasReadsPassed
+        (run_of (I.state inputs.old) (I.state inputs.new) (K.state out.old) (K.state out.new) result) }
 {
     let display = match open_text(alloc, plan, inputs) {
         Ok(display) => display,
@@ -430,7 +450,10 @@ fn run_plan<R: Threads + Wait + Sync, I: Inputs, K: Sink, G: Gate + Sync>(
     ensures status { HasStatus result.note result.status }
     ensures ended { IsEndedAs plan.now
         (run_of (I.state inputs.old) (I.state inputs.new) (K.state out.old) (K.state out.new) result) result.note }
-    ensures reads { ReadsInOrder plan.now (I.state inputs.old).reads (I.state inputs.new).reads }
+    ensures reads { ReadsInOrder plan.now result.note
+        (I.state inputs.old).reads (I.state inputs.new).reads }
+    ensures passed { HasReadsPassed
+        (run_of (I.state inputs.old) (I.state inputs.new) (K.state out.old) (K.state out.new) result) }
 {
     match plan.make {
         Some(number) => run_made(rt, alloc, plan, number, out, gate),
@@ -440,13 +463,13 @@ fn run_plan<R: Threads + Wait + Sync, I: Inputs, K: Sink, G: Gate + Sync>(
 
 /// Runs the script that the second of the words names on the text that the first one names. The output goes to the
 /// sink, line by line. The text is read whole and judged, its length first and then its bytes, before the script is read.
-/// With `--make` text and script are made, nothing is read, and one line stands in place of the answers.
+/// With `--make` text and script are made, nothing is read, and one line is in place of the answers.
 ///
 /// `Ended` says how the run ended, and holds the history of its display:
 ///
 /// - `Fine`, with the status 0, or 1 where a line was refused: all was read, done and written;
 /// - `Usage`: the words have no reading. Nothing is read or written;
-/// - `ReadText`, `ReadScript`: a read failed; `Write`: a write failed, and a front of the output was written;
+/// - `ReadText`, `ReadScript`: a read failed; `Write`: a write failed, and a prefix of the output was written;
 /// - `TextTooLong`, `TextNotUtf8`, `ScriptTooLong`: what was read isn't accepted, and nothing is written;
 /// - `JournalFull`: the journal has no room for the next line of the script; `Memory`: there was no memory.
 pub fn run<R: Threads + Wait + Sync, I: Inputs + Send, K: Sink + Send, G: Gate + Sync>(
@@ -472,16 +495,28 @@ pub fn run<R: Threads + Wait + Sync, I: Inputs + Send, K: Sink + Send, G: Gate +
     }
 }
 
-/// Says on `err` that there was no memory for the words, and answers the status of that.
-pub fn give_up<E: Sink>(err: &mut E) -> u8
-    ensures said { Says notes.Memory (E.state err.old) (E.state err.new) }
-    ensures status { HasStatus notes.Memory result }
+/// The note where the system gave no words, for an error of this kind: words that aren't text have no reading, and else there
+/// was no memory for them.
+fn note_without_words(kind: ErrorKind) -> Note
+    ensures { result ≡ note_without_words kind }
 {
-    let _ = say(&Note::Memory, err);
-    status_of(Note::Memory)
+    match kind {
+        ErrorKind::InvalidData => Note::Usage,
+        _ => Note::Memory,
+    }
 }
 
-/// Runs the program on its words, says on `err` why its run ended before its script did, and answers the status of the
+/// Says on `err` why there are no words, for an error of this kind, and returns the status of that.
+pub fn give_up<E: Sink>(kind: ErrorKind, err: &mut E) -> u8
+    ensures said { Says (note_without_words kind) (E.state err.old) (E.state err.new) }
+    ensures status { HasStatus (note_without_words kind) result }
+{
+    let note = note_without_words(kind);
+    let _ = say(&note, err);
+    status_of(note)
+}
+
+/// Runs the program on its words, says on `err` why its run ended before its script did, and returns the status of the
 /// run. Where `err` fails too, there is nobody to tell.
 pub fn program<R: Threads + Wait + Sync, I: Inputs + Send, K: Sink + Send, E: Sink, G: Gate + Sync>(
     rt: &R,

@@ -10,15 +10,16 @@ use std::process::ExitCode;
 use std::{env, io};
 use wrap_workers::FreeGate;
 
-/// The words behind the program's name.
+/// The words after the program's name.
 fn given_words(rt: &(impl Env + AllocGlobal)) -> io::Result<Vec<String>> {
     Ok(env::args(rt)?.skip(1).collect(rt.alloc())?)
 }
 
 fn main(rt: HostRuntime) -> ExitCode {
     let mut err = StreamSink::new(rt.stderr());
-    let Ok(words) = given_words(&rt) else {
-        return ExitCode::from(give_up(&mut err));
+    let words = match given_words(&rt) {
+        Ok(words) => words,
+        Err(error) => return ExitCode::from(give_up(error.kind(), &mut err)),
     };
     let mut inputs = FileInputs::new(&rt);
     let mut out = StreamSink::new(rt.stdout());

@@ -31,7 +31,7 @@ fn first_answer(
 {
     match read_line(alloc, line, Form::First, view, steps)? {
         Asked::Query(query) => Ok(answer(alloc, view, &query, steps)?.next_line(alloc, steps)?),
-        Asked::Change(_) | Asked::Settle => Ok(None),
+        Asked::Change(_) | Asked::Caret(_) | Asked::Settle => Ok(None),
     }
 }
 

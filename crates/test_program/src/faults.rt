@@ -93,6 +93,8 @@ fn each_write_may_fail(rt: HostRuntime) -> Result<(), Fail> {
         let outcome = play(&rt, alloc, LINE, &[], &[write])?;
         assert_eq!(rt; end_of(&outcome), (Note::Write, 4));
         assert_eq!(rt; outcome.out.taken(), front(alloc, whole)?.as_bytes());
+        // What each watcher saw so far is given.
+        assert_eq!(rt; outcome.ended.watched.len(), 2);
     }
     let outcome = play(&rt, alloc, LINE, &[], &[7])?;
     assert_eq!(rt; end_of(&outcome), (Note::Write, 4));

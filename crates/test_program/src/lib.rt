@@ -5,6 +5,8 @@
 #[cfg(test)]
 mod callers;
 #[cfg(test)]
+mod carets;
+#[cfg(test)]
 mod changing;
 #[cfg(test)]
 mod faults;

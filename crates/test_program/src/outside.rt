@@ -56,6 +56,19 @@ fn a_text_of_just_the_limit_is_accepted_and_no_edit_goes_past_it(
 }
 
 #[test]
+fn a_script_of_just_the_limit_is_read(rt: HostRuntime) -> Result<(), Fail> {
+    let alloc = rt.alloc();
+    let query = br#"{"rows":[0,1]}"#;
+    let mut script = vec![in alloc; b'\n'; 16_777_216 - query.len()]?;
+    script.extend_from_slice(query)?;
+    assert_eq!(rt; script.len(), 16_777_216);
+    let outcome = run_of(&rt, alloc, b"abc", script.as_slice(), &[], &[])?;
+    assert_eq!(rt; outcome.out.taken(), b"0 t|abc\n".as_slice());
+    assert_eq!(rt; outcome.ended.status, 0);
+    Ok(())
+}
+
+#[test]
 fn a_fault_outside_ends_the_run(rt: HostRuntime) -> Result<(), Fail> {
     let alloc = rt.alloc();
     let script = br#"{"rows":[0,2]}"#;
@@ -207,6 +220,41 @@ fn a_folder_and_a_missing_file_cannot_be_read(rt: HostRuntime) -> Result<(), Fai
         assert!(rt; out.taken().is_empty());
     }
     fs::remove_file(&rt, name)?;
+    Ok(())
+}
+
+/// Runs the files of these names. Answers the status, and what was written.
+fn run_files<R: Threads + Wait + Sync>(
+    rt: &R,
+    alloc: Global,
+    inputs: &mut (impl Inputs + Send),
+    names: &[&str],
+) -> Result<(u8, ListSink), NoMemory> {
+    let mut out = ListSink::new(alloc, Vec::new(alloc));
+    let words = strings(alloc, names)?;
+    let ended = run(rt, alloc, words.as_slice(), inputs, &mut out, &FreeGate);
+    Ok((ended.status, out))
+}
+
+#[test]
+fn files_of_many_reads_are_read_whole(rt: HostRuntime) -> Result<(), Fail> {
+    let alloc = rt.alloc();
+    let names = ["displaymap-long-text.txt", "displaymap-long-script.txt"];
+    let lines = "abcdefghi\n".repeat(alloc, 20_000)?;
+    let text = format!(in alloc; "{lines}the end")?;
+    let blanks = "\n".repeat(alloc, 200_000)?;
+    let query = r#"{"rows":[19999,2]}"#;
+    let script = format!(in alloc; "{blanks}{query}")?;
+    fs::write(&rt, names[0], text.as_str())?;
+    fs::write(&rt, names[1], script.as_str())?;
+    let mut inputs = FileInputs::new(&rt);
+    let (status, out) = run_files(&rt, alloc, &mut inputs, &names)?;
+    assert_eq!(rt; status, 0);
+    let written = b"19999 t|abcdefghi\n20000 t|the end\n";
+    assert_eq!(rt; out.taken(), written.as_slice());
+    for name in names {
+        fs::remove_file(&rt, name)?;
+    }
     Ok(())
 }
 

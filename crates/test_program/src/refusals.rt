@@ -7,10 +7,14 @@ fn refused_lines_print_their_numbers_and_change_nothing(rt: HostRuntime) -> Resu
     let alloc = rt.alloc();
     let long = vec![in alloc; b'x'; 1_025]?;
     let long = str::from_utf8(long.as_slice()).unwrap_or("");
+    let fits = vec![in alloc; b'x'; 1_024]?;
+    let fits = str::from_utf8(fits.as_slice()).unwrap_or("");
     let lengths = format!(in alloc;
         r#"{{"fold":[1,0,2]}}
 {{"fold":[1,3,4]}}
 {{"inlay":[1,0,"left","{long}"]}}
+{{"block":[1,"below",0,["{long}"]]}}
+{{"block":[1,"below",0,["{fits}"]]}}
 {{"rows":[0,1]}}"#
     )?;
     let sessions = [
@@ -30,10 +34,10 @@ fn refused_lines_print_their_numbers_and_change_nothing(rt: HostRuntime) -> Resu
             written: "! 2\n! 2\n! 2\n! 4\n! 6\n! 6\n! 7\n! 1\n0 t|abcdef\n! 1\n",
         },
         Session {
-            shows: "an id in use, and an inlay's text over its limit",
+            shows: "an id in use, and an inlay's text and a block's line over their limit",
             text: "abcdef",
             script: lengths.as_str(),
-            written: "! 3\n! 5\n0 t|⋯cdef\n",
+            written: "! 3\n! 5\n! 5\n0 t|⋯cdef\n",
         },
         Session {
             shows: "a block's row is past the last",

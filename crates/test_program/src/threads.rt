@@ -1,5 +1,10 @@
 //! Runs whose workers and watchers do their part beside the owner.
-use crate::runs::{Outcome, run_failing, run_words};
+ghost use Rattle.std.specs.Prelude.{◌≡◌};
+
+use crate::runs::{Outcome, inputs_of, run_failing, run_words, strings};
+use cell_units::NoMemory;
+use display_cli::{Failed, Sink, run};
+use std::alloc::Global;
 use std::sync::atomic::{AtomicU64, Ordering};
 use std::test::Fail;
 use std::thread;
@@ -75,14 +80,100 @@ impl Gate for UntilNextVersion {
     }
 }
 
-#[test]
-fn two_jobs_are_done_at_once_by_two_workers(rt: HostRuntime) -> Result<(), Fail> {
-    let alloc = rt.alloc();
+/// Holds each of two watchers until the other one has told of a version.
+#[derive(Drop)]
+struct UntilBothSee {
+    first: Holding,
+    second: Holding,
+}
+
+impl Gate for UntilBothSee {
+    fn pass(&self, _job: u64) {}
+
+    fn seen(&self, reader: u32, _version: u64) {
+        let (own, other) = match reader {
+            0 => (&self.first, &self.second),
+            _ => (&self.second, &self.first),
+        };
+        own.let_go();
+        other.hold();
+    }
+}
+
+/// Holds job 2 until a second answer is written, and the first answer until job 2 passes. A worker that is alone has then
+/// handed on the result of job 1.
+#[derive(Drop)]
+struct BetweenAnswers {
+    second_job: Holding,
+    second_answer: Holding,
+}
+
+impl Gate for BetweenAnswers {
+    fn pass(&self, job: u64) {
+        if job == 2 {
+            self.second_job.let_go();
+            self.second_answer.hold();
+        }
+    }
+
+    fn seen(&self, _reader: u32, _version: u64) {}
+}
+
+/// A sink at such a gate. It tells nothing.
+#[derive(Drop)]
+struct HeldSink<'a> {
+    gate: &'a BetweenAnswers,
+    taken: Vec<u8>,
+    faults: u64,
+}
+
+impl HeldSink<'_> {
+    /// Is held at the first answer, and lets job 2 go at the second.
+    fn pass(&self) {
+        if self.taken.is_empty() {
+            self.gate.second_job.hold();
+        } else {
+            self.gate.second_answer.let_go();
+        }
+    }
+
+    /// Takes a piece, where there is memory.
+    fn takes(&mut self, piece: &[u8]) -> bool
+        ensures { self.new.faults ≡ self.old.faults }
+    {
+        self.taken.extend_from_slice(piece).is_ok()
+    }
+}
+
+impl Sink for HeldSink<'_> {
+    ghost use Rattle.std.specs.Prelude.{None};
+
+    ghost state = { λ s. record { taken = None; faults = s.faults } };
+
+    fn write(&mut self, piece: &[u8]) -> Result<usize, Failed> {
+        self.pass();
+        if self.takes(piece) {
+            return Ok(piece.len());
+        }
+        self.faults = self.faults.saturating_add(1);
+        Err(Failed)
+    }
+}
+
+/// So many lines of one letter.
+fn letters(alloc: Global, lines: u32) -> Result<Vec<u8>, NoMemory> {
     let mut text = Vec::new(alloc);
-    for _ in 0..255u32 {
+    for _ in 1..lines {
         text.extend_from_slice(b"x\n")?;
     }
     text.push(b'x')?;
+    Ok(text)
+}
+
+#[test]
+fn two_jobs_are_done_at_once_by_two_workers(rt: HostRuntime) -> Result<(), Fail> {
+    let alloc = rt.alloc();
+    let text = letters(alloc, 256)?;
     let gate = UntilSecondJob(Holding::new());
     let words = ["a", "b", "--workers", "2"];
     let outcome = run_words(
@@ -115,6 +206,45 @@ fn an_edit_is_done_and_seen_before_a_result_comes(rt: HostRuntime) -> Result<(),
 }
 
 #[test]
+fn a_refused_query_waits_for_no_result(rt: HostRuntime) -> Result<(), Fail> {
+    let alloc = rt.alloc();
+    let gate = UntilNextVersion(Holding::new());
+    let words = ["a", "b", "--workers", "1", "--watch", "1"];
+    let script = br#"{"display":[9,"left"]}
+{"edit":[[0,0,"x"]]}
+{"rows":[0,1]}"#;
+    let outcome = run_words(&rt, alloc, &words, b"abc", script, &gate)?;
+    assert_eq!(rt; outcome.ended.status, 1);
+    assert!(rt; !gate.0.has_run_out());
+    assert!(rt; outcome.out.taken().starts_with(b"! 2\n0 t|xabc\nwatch 0 "));
+    Ok(())
+}
+
+#[test]
+fn a_result_that_is_there_lands_before_the_next_line(rt: HostRuntime) -> Result<(), Fail> {
+    let alloc = rt.alloc();
+    let gate = BetweenAnswers {
+        second_job: Holding::new(),
+        second_answer: Holding::new(),
+    };
+    let script = br#"{"peek":[0,0]}
+{"peek":[0,0]}"#;
+    let mut inputs = inputs_of(alloc, letters(alloc, 256)?.as_slice(), script, &[])?;
+    let mut out = HeldSink {
+        gate: &gate,
+        taken: Vec::new(alloc),
+        faults: 0,
+    };
+    let words = strings(alloc, &["a", "b", "--workers", "1"])?;
+    let ended = run(&rt, alloc, words.as_slice(), &mut inputs, &mut out, &gate);
+    assert_eq!(rt; ended.status, 0);
+    let written = b"version 0 marks\nversion 1 marks 0-127@80\n";
+    assert_eq!(rt; out.taken.as_slice(), written.as_slice());
+    assert!(rt; !gate.second_job.has_run_out() && !gate.second_answer.has_run_out());
+    Ok(())
+}
+
+#[test]
 fn each_watcher_sees_the_last_version(rt: HostRuntime) -> Result<(), Fail> {
     let alloc = rt.alloc();
     let words = ["a", "b", "--watch", "2"];
@@ -136,6 +266,20 @@ fn each_watcher_sees_the_last_version(rt: HostRuntime) -> Result<(), Fail> {
     let taken = out.taken();
     assert!(rt; taken.starts_with(b"0 t|a\nwatch 0 "));
     assert!(rt; taken.ends_with(b"watch 1 2 3\n"));
+    Ok(())
+}
+
+#[test]
+fn two_watchers_look_beside_each_other(rt: HostRuntime) -> Result<(), Fail> {
+    let alloc = rt.alloc();
+    let gate = UntilBothSee {
+        first: Holding::new(),
+        second: Holding::new(),
+    };
+    let words = ["a", "b", "--watch", "2"];
+    let outcome = run_words(&rt, alloc, &words, b"a", b"", &gate)?;
+    assert_eq!(rt; outcome.ended.status, 0);
+    assert!(rt; !gate.first.has_run_out() && !gate.second.has_run_out());
     Ok(())
 }
 

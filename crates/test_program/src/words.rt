@@ -1,6 +1,8 @@
 //! Words from outside, and their readings.
 use command_line::{Plan, read_words};
+use display_cli::{ListSink, give_up};
 use std::alloc::{AllocError, Global};
+use std::io::ErrorKind;
 
 /// The words of the line, which stand apart by one space each, and how they are read.
 fn shown(alloc: Global, line: &str) -> Result<String, AllocError> {
@@ -82,4 +84,20 @@ fn words_without_a_reading(rt: HostRuntime) {
     for line in table.iter() {
         assert!(rt; shown(rt.alloc(), line).expect(&rt, "memory").as_str() == "none");
     }
+}
+
+#[test]
+fn words_that_are_no_text_have_no_reading(rt: HostRuntime) {
+    let alloc = rt.alloc();
+    let mut err = ListSink::new(alloc, Vec::new(alloc));
+    assert_eq!(rt; give_up(ErrorKind::InvalidData, &mut err), 2);
+    assert!(rt; err.taken().starts_with(b"displaymap: usage: "));
+}
+
+#[test]
+fn words_without_memory_end_with_status_6(rt: HostRuntime) {
+    let alloc = rt.alloc();
+    let mut err = ListSink::new(alloc, Vec::new(alloc));
+    assert_eq!(rt; give_up(ErrorKind::OutOfMemory, &mut err), 6);
+    assert_eq!(rt; err.taken(), b"displaymap: out of memory\n".as_slice());
 }

@@ -1,12 +1,13 @@
 -- Where a run stands between two events.
-use Rattle.std.specs.Prelude.{Result, Ok, Err, ℕ, ◌≡◌, ◌≢◌, ◌<◌, ◌≤◌, ◌+◌, ◌*◌, ◌⊎◌, Bool, true, false, List, [], ◌∷◌, ◌++◌, length, map, drop, Option, Some, None}
+use Rattle.std.specs.Prelude.{Result, Ok, Err, ℕ, ◌≡◌, ◌≢◌, ◌<◌, ◌≤◌, ◌+◌, ◌*◌, ◌⊎◌, Bool, true, false, List, [], ◌∷◌, ◌++◌, length, map, drop, slice_get, Option, Some, None}
 use Rattle.std.specs.List.{last_or, list_any}
 use Rattle.cell_units.specs.declared.fault.Refusal.{Refusal}
+use Rattle.cell_units.specs.Record.{Record}
 use Rattle.cell_units.specs.Operation.{Operation}
 use Rattle.display_sheet.specs.declared.change.Change.{Change}
 use Rattle.display_sheet.specs.Changes.{ops_of, change_refusal}
 use Rattle.display_map.specs.Events.{Event}
-use Rattle.display_map.specs.Events.{Did, Published}
+use Rattle.display_map.specs.Events.{Did, Sent, Published}
 use Rattle.display_map.specs.Events.{event_limit}
 use Rattle.display_map.specs.Replay.{History, state_of, present_of, versions_of, next_run, is_settled, appended}
 use Rattle.edit_script.specs.declared.asked.Form.{Form}
@@ -16,12 +17,12 @@ use Rattle.edit_script.specs.declared.asked.Query.{Query}
 use Rattle.edit_script.specs.Commands.{Ask, command_of, meaning}
 use Rattle.edit_script.specs.Script.{filled_from}
 use Rattle.edit_script.specs.declared.blank.TheConstants.{LINE_LIMIT}
-use Rattle.edit_script.specs.Verdict.{Verdict, Refused, refused_or, query_refusal, wants_settled, is_over as is_id_over, IsLineRefused}
+use Rattle.edit_script.specs.Verdict.{Verdict, Refused, refused_or, query_refusal, command_refusal, is_over as is_id_over, IsLineRefused}
 use Rattle.cell_units.specs.declared.fault.Fault.{Fault}
 use Rattle.cell_units.specs.declared.fault.Fault.TheVariants as faults
 use Rattle.live_display.specs.declared.owner.Owner.{Owner}
 use Rattle.live_display.specs.declared.owner.TheConstants.{EVENTS_AHEAD}
-use Rattle.live_display.specs.Beside.{outstanding}
+use Rattle.live_display.specs.Beside.{GoesWithout, is_any_landing, outstanding}
 use Rattle.live_display.specs.Owned.{IsBusy, IsOwned}
 use Rattle.display_cli.specs.declared.runner.Runner.{Runner}
 use Rattle.display_cli.specs.declared.stop.Stop.{Stop}
@@ -30,7 +31,7 @@ use Rattle.display_cli.specs.declared.tally.Outcome.{Outcome}
 use Rattle.display_cli.specs.declared.tally.Tally.{Tally}
 use Rattle.display_cli.specs.Outside.{SinkState, HasRisen, Takes}
 use Rattle.display_cli.specs.Entries.{Entry, Bytes, judged, asked_by, asked_by_command, numbered_lines}
-use Rattle.display_cli.specs.Legal.{IsLegal, IsLegalSoFar, IsChanging, IsChanged, lines_in, is_landed, is_end, needs_settled}
+use Rattle.display_cli.specs.Legal.{IsLegal, IsLegalSoFar, IsChanging, IsChanged, LandsFirst, lines_in, is_line, is_landed, is_end, needs_settled}
 use Rattle.display_cli.specs.Output.{answered, no_lines, reported, tally_of}
 use Rattle.display_cli.specs.Ended.{Course, IsStopped, IsFull}
 use Rattle.display_cli.specs.inside.Counting.{tallied}
@@ -77,15 +78,26 @@ IsWhy course s stops.Memory = (length s.history.events < event_limit) × (s.sink
 
 -- a run stopped
 pub record IsCut (make : Option ℕ) (course : Course) (s : Stage) (stop : Stop) : Type 0 where
+  pub opening : s.history.opening ≡ course.text
   pub stopped : IsStopped make course s.history.events s.sink []
   pub why : IsWhy course s stop
 
 -- ---- beside the lines
 
 -- the crew has the outstanding jobs of the display, the board shows its newest version, and there is one
-pub record IsReady (owner : Owner) : Type 0 where
+pub record IsShown (owner : Owner) : Type 0 where
   pub owned : IsOwned owner
   pub published : 1 ≤ versions_of owner.display.events
+
+-- since the last line nothing was sent
+abbrev pub IsUnsent : List Event → Type 0
+IsUnsent past =
+    (k job first count : ℕ) → slice_get past k ≡ Some (Sent job first count) → list_any is_line (drop k past) ≡ true
+
+-- ... and for the line that comes next no run was sent yet
+pub record IsReady (owner : Owner) : Type 0 where
+  pub shown : IsShown owner
+  pub unsent : IsUnsent owner.display.events
 
 -- the journal has room for the events of a step
 abbrev pub HasRoomAhead : History → Type 0
@@ -93,15 +105,28 @@ HasRoomAhead h = length h.events + EVENTS_AHEAD ≤ event_limit
 
 -- ... and the next line may be handled: as many jobs are out as may be, or no line of the display waits
 pub record IsAbreast (owner : Owner) : Type 0 where
-  pub ready : IsReady owner
+  pub shown : IsShown owner
   pub busy : IsBusy owner
   pub room : HasRoomAhead owner.display
 
--- what is so of the display before its next line: where that line is accepted and wants it, each line of the display stands
--- wrapped at the width
+-- the display is settled: each line stands wrapped at the width. Or it isn't: no job was waited for since its last line
+abbrev pub IsPrepared : Bool → History → Type 0
+IsPrepared true h = is_settled (present_of h) ≡ true
+IsPrepared false h = LandsFirst h.events
+
+-- ... as a line of this verdict wants it
+abbrev pub IsPreparedFor : Verdict → History → Type 0
+IsPreparedFor verdict h = IsPrepared (needs_settled (Some verdict)) h
+
+-- what an owner did for that from one history to the other
+abbrev pub HasPrepared : Bool → History → History → Type 0
+HasPrepared true old new = is_settled (present_of new) ≡ true
+HasPrepared false old new = GoesWithout is_any_landing old new
+
+-- what is so of the display before its next line
 pub record MayHandle (workers : ℕ) (h : History) (verdict : Verdict) : Type 0 where
   pub busy : (next_run (state_of h) ≡ None) ⊎ (outstanding (state_of h) ≡ 2 * workers)
-  pub settled : needs_settled (Some verdict) ≡ true → is_settled (present_of h) ≡ true
+  pub prepared : IsPreparedFor verdict h
   pub room : HasRoomAhead h
 
 -- where a run of so many workers went on before, it goes on behind, or it stopped
@@ -157,10 +182,13 @@ HandlesUnread workers number faults.NoMemory old new result =
     (course : Course) (left : List (ℕ × Entry)) (tally : Tally) (entry : Entry) → course.workers ≡ workers
     → IsGoing course ((number, entry) ∷ left) tally old → IsHandled course left tally new result
 
+-- the verdict on a question
+abbrev pub query_verdict : History → Query → Verdict
+query_verdict h query = refused_or (Ask query) (query_refusal (present_of h) query)
+
 -- ... and where it asks a question
 abbrev pub HandlesQuery : ℕ → ℕ → Query → Stage → Stage → Result Outcome Stop → Type 0
-HandlesQuery workers number query old new result =
-    Handles workers number (refused_or (Ask query) (query_refusal (present_of old.history) query)) old new result
+HandlesQuery workers number query old new result = Handles workers number (query_verdict old.history query) old new result
 
 -- ... and where it asks for a change
 abbrev pub HandlesChange : ℕ → ℕ → Change → Stage → Stage → Result Outcome Stop → Type 0
@@ -182,10 +210,10 @@ abbrev pub IsUnreadOn : Form → List ℕ → List ℕ → Fault → Type 0
 IsUnreadOn form text line (faults.Refused refusal) = IsLineRefused form text line (faults.Refused refusal)
 IsUnreadOn form text line faults.NoMemory = Unit {0}
 
--- what was read wants the display settled
-abbrev pub read_wants_settled : Result Asked Fault → Bool
-read_wants_settled (Ok asked) = wants_settled (meaning asked)
-read_wants_settled (Err fault) = false
+-- what was read is accepted on a record, and wants the display settled
+abbrev pub read_wants_settled : Record → Result Asked Fault → Bool
+read_wants_settled r (Ok asked) = needs_settled (Some (refused_or (meaning asked) (command_refusal r (meaning asked))))
+read_wants_settled r (Err fault) = false
 
 -- a line that is the next entry is handled
 abbrev pub HandlesLine : ℕ → ℕ → Form → List ℕ → Stage → Stage → Result Outcome Stop → Type 0

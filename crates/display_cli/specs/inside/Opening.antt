@@ -4,8 +4,8 @@ use Rattle.std.specs.declared.alloc.Global.{Global}
 use Rattle.std.specs.declared.vec.Vec.{Vec}
 use Rattle.cell_units.specs.Text.{clean}
 use Rattle.display_map.specs.Events.{Event}
-use Rattle.cell_units.specs.declared.limits.TheConstants.{TEXT_LIMIT}
-use Rattle.cell_units.specs.Refusal.{IsAccepted}
+use Rattle.cell_units.specs.declared.fault.TextFault.TheVariants.{NotUtf8, TooLong}
+use Rattle.cell_units.specs.Refusal.{IsAccepted, IsTextRefused}
 use Rattle.display_map.specs.Events.{event_limit}
 use Rattle.display_map.specs.Replay.{History, ends}
 use Rattle.version_board.specs.Known.{Known}
@@ -23,39 +23,40 @@ use Rattle.display_cli.specs.declared.tally.Tally.{Tally}
 use Rattle.display_cli.specs.Outside.{Faults, SinkState, HasRisen, AreTold, Takes, nowhere}
 use Rattle.display_cli.specs.Entries.{numbered_lines}
 use Rattle.display_cli.specs.Legal.{history_of}
-use Rattle.display_cli.specs.Ended.{Course, IsFinished, IsStopped, IsFull, IsNotUtf8At}
+use Rattle.display_cli.specs.Ended.{Course, IsFinished, IsStopped, IsFull}
 use Rattle.display_cli.specs.inside.Going.{HasEnded, IsWhy, at}
 
--- a display was started on accepted bytes, which are those that are told
-abbrev pub IsOpenedOn : Option (List ℕ) → History → Type 0
-IsOpenedOn told display =
+-- a display was started on accepted bytes, so many, which are those that are told
+abbrev pub IsOpenedOn : Option (List ℕ) → ℕ → History → Type 0
+IsOpenedOn told count display =
     (bytes : List ℕ) × AreTold told bytes × IsAccepted bytes × (display ≡ record { opening = clean bytes; events = [] })
+    × (length bytes ≡ count)
 
 -- why a display wasn't started on bytes
 abbrev pub IsStartRefused : List ℕ → Note → Type 0
-IsStartRefused bytes TextTooLong = TEXT_LIMIT < length bytes
-IsStartRefused bytes (TextNotUtf8 at) = IsNotUtf8At at bytes
+IsStartRefused bytes TextTooLong = IsTextRefused bytes TooLong
+IsStartRefused bytes (TextNotUtf8 at) = IsTextRefused bytes (NotUtf8 at)
 IsStartRefused bytes Memory = Unit {0}
 IsStartRefused bytes _ = ⊥
 
 -- why a text wasn't opened: the counts of faults are those before and after
-abbrev pub IsTextRefused : Option (List ℕ) → Faults → Faults → Note → Type 0
-IsTextRefused told old new ReadText = HasRisen old.text new.text
-IsTextRefused told old new TextTooLong = IfSome told (λ bytes. TEXT_LIMIT < length bytes)
-IsTextRefused told old new (TextNotUtf8 at) = IfSome told (IsNotUtf8At at)
-IsTextRefused told old new Memory = new ≡ old
-IsTextRefused told old new _ = ⊥
+abbrev pub IsTextUnread : Option (List ℕ) → Faults → Faults → Note → Type 0
+IsTextUnread told old new ReadText = HasRisen old.text new.text
+IsTextUnread told old new TextTooLong = (new ≡ old) × IfSome told (λ bytes. IsTextRefused bytes TooLong)
+IsTextUnread told old new (TextNotUtf8 at) = (new ≡ old) × IfSome told (λ bytes. IsTextRefused bytes (NotUtf8 at))
+IsTextUnread told old new Memory = new ≡ old
+IsTextUnread told old new _ = ⊥
 
 -- a script was read whole, and is within its limit
 abbrev pub IsScript : Option (List ℕ) → List ℕ → Type 0
 IsScript told script = AreTold told script × (length script ≤ SCRIPT_LIMIT)
 
 -- why a script wasn't read
-abbrev pub IsScriptRefused : Option (List ℕ) → Faults → Faults → Note → Type 0
-IsScriptRefused told old new ReadScript = HasRisen old.script new.script
-IsScriptRefused told old new ScriptTooLong = IfSome told (λ script. SCRIPT_LIMIT < length script)
-IsScriptRefused told old new Memory = new ≡ old
-IsScriptRefused told old new _ = ⊥
+abbrev pub IsScriptUnread : Option (List ℕ) → Faults → Faults → Note → Type 0
+IsScriptUnread told old new ReadScript = HasRisen old.script new.script
+IsScriptUnread told old new ScriptTooLong = (new ≡ old) × IfSome told (λ script. SCRIPT_LIMIT < length script)
+IsScriptUnread told old new Memory = new ≡ old
+IsScriptUnread told old new _ = ⊥
 
 -- the note of a run that stopped
 abbrev pub note_of : Stop → Note

@@ -10,7 +10,7 @@ invariant-loop-part g l =
       room : 0 < length l.room.items;
       within : length l.bytes.items ≤ l.limit + 1;
       front : HasFront ((g.I.Inputs.state l.initial.inputs).told l.name) l.bytes.items;
-      reads : ReadsUpTo l.part l.name (length l.bytes.items) (g.I.Inputs.state l.initial.inputs) (g.I.Inputs.state l.inputs);
+      reads : ReadsUpTo l.part l.name l.limit (length l.bytes.items) (g.I.Inputs.state l.initial.inputs) (g.I.Inputs.state l.inputs);
     }
 
 abbrev pub decreases-loop-part : goal.decreases-loop-part

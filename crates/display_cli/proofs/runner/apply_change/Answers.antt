@@ -1,9 +1,10 @@
 -- The journal grew, so there was an operation, and its version is published.
-use Rattle.std.proofs.Common.{inl, inr, ◌∙◌}
+use Rattle.std.proofs.Common.{false, inl, inr, refl, ◌∙◌}
 use Rattle.display_sheet.specs.Changes.{ops_of}
 use Rattle.display_map.specs.Events.{event_limit}
 use Rattle.display_cli.specs.inside.Going.{IsWithinChange}
 use Rattle.display_cli.proofs.Lines.{changed-more}
+use Rattle.display_cli.proofs.Ready.{ready-done, ready-published, ready-same}
 use Rattle.display_cli.proofs.Results.{on-err}
 use Rattle.display_cli.proofs.runner.apply_change.Goals as goal
 
@@ -24,3 +25,17 @@ returns-in_ok-publish-clause-changed g c = (
   changed-more c.args.owner.now.display c.apply.new.self.display c.publish.new.self.display (ops_of c.args.change.now) c.room-room.result c.room.result
       event_limit c.in-Ok.ensures.done c.in_ok-publish.ensures.published c.room-room.ensures c.room.ensures c.if-room.true,
 )
+
+pub returns-in-Err-Refused-clause-ready : goal.returns-in-Err-Refused-clause-ready
+returns-in-Err-Refused-clause-ready g c =
+    ready-same c.args.owner.now c.apply.new.self c.in-Err-Refused.ensures.unchanged c.requires.ready c.apply.ensures.owned
+
+pub returns-else-room-clause-ready : goal.returns-else-room-clause-ready
+returns-else-room-clause-ready g c =
+    ready-done c.args.owner.now c.apply.new.self (ops_of c.args.change.now) c.in-Ok.ensures.done c.requires.ready c.apply.ensures.owned
+
+pub returns-in_ok-publish-clause-ready : goal.returns-in_ok-publish-clause-ready
+returns-in_ok-publish-clause-ready g c =
+    ready-published c.apply.new.self c.publish.new.self false c.in_ok-publish.ensures.published
+    (ready-done c.args.owner.now c.apply.new.self (ops_of c.args.change.now) c.in-Ok.ensures.done c.requires.ready c.apply.ensures.owned)
+    (c.in_ok-publish.ensures.owned refl)

@@ -1,7 +1,7 @@
 -- Where the owner went on, a run goes on, and where it halted, the run stopped.
 use Rattle.display_cli.specs.inside.Stopping.{stop_of}
 use Rattle.display_cli.proofs.GoingOn.{goes-on, goes-err, halts-cut}
-use Rattle.display_cli.proofs.Ready.{ready-gone}
+use Rattle.display_cli.proofs.Ready.{ready-landed}
 use Rattle.display_cli.proofs.settling.land_ready.Goals as goal
 
 pub returns-in_err-land_ready-clause-going : goal.returns-in_err-land_ready-clause-going
@@ -15,4 +15,5 @@ returns-clause-going g c = goes-on c.args.owner.now.crew.workers c.args.owner.no
 
 pub returns-clause-ready : goal.returns-clause-ready
 returns-clause-ready g c =
-    ready-gone c.args.owner.now.crew.workers c.args.owner.now c.land_ready.new.self c.in_ok-land_ready.ensures.gone c.requires c.in_ok-land_ready.ensures.owned
+    ready-landed c.args.owner.now.crew.workers c.args.owner.now c.land_ready.new.self c.in_ok-land_ready.ensures.gone c.in_ok-land_ready.ensures.unsent
+    c.requires c.in_ok-land_ready.ensures.owned

@@ -6,16 +6,17 @@ use Rattle.live_display.specs.declared.owner.Owner.{Owner}
 use Rattle.live_display.specs.Owned.{IsBusy}
 use Rattle.display_cli.specs.declared.stop.Stop.{Stop}
 use Rattle.display_cli.specs.inside.Stopping.{stop_of}
-use Rattle.display_cli.specs.inside.Going.{IsReady, IsAbreast}
+use Rattle.display_cli.specs.inside.Going.{IsShown, IsAbreast}
 use Rattle.display_cli.proofs.GoingOn.{goes-room, goes-err, halts-cut}
-use Rattle.display_cli.proofs.Ready.{ready-gone, text-gone}
+use Rattle.display_cli.proofs.Ready.{shown-gone, text-gone}
+use Rattle.display_cli.proofs.Unsettled.{prepared-since}
 use Rattle.display_cli.proofs.Results.{on-ok}
 use Rattle.display_cli.proofs.settling.prepare.Goals as goal
 
-abreast : (owner : Owner) (r : Result (Unit {0}) Stop) → OnOk r (length owner.display.events + 3 + 0 ≤ event_limit) → IsReady owner → IsBusy owner
+abreast : (owner : Owner) (r : Result (Unit {0}) Stop) → OnOk r (length owner.display.events + 3 + 0 ≤ event_limit) → IsShown owner → IsBusy owner
     → OnOk r (IsAbreast owner)
-abreast owner (Ok done) room ready busy = record { ready = ready; busy = busy; room = omega arith }
-abreast owner (Err stop) room ready busy = tt
+abreast owner (Ok done) room shown busy = record { shown = shown; busy = busy; room = omega arith }
+abreast owner (Err stop) room shown busy = tt
 
 pub returns-in_err-settle_or_send-clause-going : goal.returns-in_err-settle_or_send-clause-going
 returns-in_err-settle_or_send-clause-going g c =
@@ -32,11 +33,13 @@ returns-clause-going g c =
 pub returns-clause-abreast : goal.returns-clause-abreast
 returns-clause-abreast g c =
     abreast c.settle_or_send.new.owner c.check_room.result c.check_room.ensures.room
-    (ready-gone c.args.owner.now.crew.workers c.args.owner.now c.settle_or_send.new.owner c.in_ok-settle_or_send.ensures.gone c.requires c.in_ok-settle_or_send.ensures.owned)
+    (shown-gone c.args.owner.now.crew.workers c.args.owner.now c.settle_or_send.new.owner c.in_ok-settle_or_send.ensures.gone c.requires.shown c.in_ok-settle_or_send.ensures.owned)
     c.in_ok-settle_or_send.ensures.busy
 
-pub returns-clause-settled : goal.returns-clause-settled
-returns-clause-settled g c = on-ok c.check_room.result _ c.in_ok-settle_or_send.ensures.settled
+pub returns-clause-prepared : goal.returns-clause-prepared
+returns-clause-prepared g c =
+    on-ok c.check_room.result _
+    (prepared-since c.args.settles c.args.owner.now.display c.settle_or_send.new.owner.display c.requires.unsent c.in_ok-settle_or_send.ensures.prepared)
 
 pub returns-clause-text : goal.returns-clause-text
 returns-clause-text g c =

@@ -45,7 +45,7 @@ pub returns-in-Ok-Some-clause-run : goal.returns-in-Ok-Some-clause-run
 returns-in-Ok-Some-clause-run g c =
     let known : plan_of c.args.words.now ≡ Some c.in-Ok-Some.plan = sym c.in-Ok-Some.ensures.read ∙ c.in-Ok-Some.field-0-is in
     let run : Run = run_of (g.I.Inputs.state c.args.inputs.now) (g.I.Inputs.state c.run_plan.new.inputs) (g.K.Sink.state c.args.out.now) (g.K.Sink.state c.run_plan.new.out) c.run_plan.result in
-    of-plan (plan_of c.args.words.now) c.in-Ok-Some.plan run known c.run_plan.ensures.status (is-run c.in-Ok-Some.plan run c.run_plan.ensures.ended c.run_plan.ensures.reads)
+    of-plan (plan_of c.args.words.now) c.in-Ok-Some.plan run known c.run_plan.ensures.status (is-run c.in-Ok-Some.plan run c.run_plan.ensures.ended c.run_plan.ensures.reads c.run_plan.ensures.passed)
 
 pub returns-in-Ok-Some-clause-untouched : goal.returns-in-Ok-Some-clause-untouched
 returns-in-Ok-Some-clause-untouched g c none =
@@ -76,6 +76,6 @@ returns-in-Err g c =
       run = of-short (plan_of c.args.words.now) run (subst S (sym c.nothing-in-Err.ensures.note) c.nothing-in-Err.ensures.status) c.nothing-in-Err.ensures.note refused
           (λ plan.
           (let P : Note → Type 0 = IsEndedAs plan run in
-          is-run plan run (subst P (sym c.nothing-in-Err.ensures.note) (ended-short plan run refused refl)) (reads-none plan (g.I.Inputs.state c.args.inputs.now))));
+          is-run plan run (subst P (sym c.nothing-in-Err.ensures.note) (ended-short plan run refused refl)) (reads-none plan run.note (g.I.Inputs.state c.args.inputs.now)) (λ text script. refl)));
       untouched = λ none. (refl, refl);
     }

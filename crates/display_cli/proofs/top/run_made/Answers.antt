@@ -6,7 +6,7 @@ use Rattle.display_cli.specs.Outside.{AreTold}
 use Rattle.display_cli.specs.Ended.{Run, IsEndedAs, HasStatus, run_of, script_of, text_of}
 use Rattle.display_cli.specs.inside.Opening.{IsOpenedOn}
 use Rattle.display_cli.proofs.Headline.{ended-run, ended-short}
-use Rattle.display_cli.proofs.Made.{ended-unstarted, made-script, made-text}
+use Rattle.display_cli.proofs.Made.{ended-unstarted, made-named, made-script, made-text}
 use Rattle.display_cli.proofs.top.run_made.Goals as goal
 
 pub run_script-requires-clause-events : goal.run_script-requires-clause-events
@@ -50,7 +50,7 @@ returns-in-Ok-start g c =
       status = c.run_script.ensures.status;
       ended = λ inputs.
           (let run : Run = run_of inputs inputs (g.K.Sink.state c.args.out.now) (g.K.Sink.state c.run_script.new.out) c.run_script.result in
-          let O : Option (List ℕ) → Type 0 = λ told. IsOpenedOn told c.in-Ok-start.display in
+          let O : Option (List ℕ) → Type 0 = λ told. IsOpenedOn told (length text) c.in-Ok-start.display in
           let is : text_of plan inputs ≡ Some text =
           made-text plan inputs c.args.number c.requires.made ∙ ap Some (sym (c.as_slice.ensures.value ∙ c.in-Ok.ensures.made.0)) in
           let S : Option (List ℕ) → Type 0 = λ told. AreTold told script in
@@ -58,6 +58,8 @@ returns-in-Ok-start g c =
           made-script plan inputs c.args.number c.requires.made ∙ ap Some (sym (c.as_slice-in-Ok-start.ensures.value ∙ c.in-Ok.ensures.made.1)) in
           let fits = c.in-Ok.ensures.fits.1 in
           let same = ap (λ l. length l) c.as_slice-in-Ok-start.ensures.value in
-          ended-run plan run c.run_script.result.note (script_of plan inputs) c.in-Ok-start.display script
-          (subst O (sym is) c.in-Ok-start.ensures.started) refl (subst S (sym from) refl, omega arith) refl c.run_script.ensures.run);
+          ended-run plan run c.run_script.result.note (script_of plan inputs) (length text) c.in-Ok-start.display script
+          (subst O (sym is) c.in-Ok-start.ensures.started) refl (subst S (sym from) refl, omega arith)
+          (λ named. absurd (made-named plan c.args.number c.requires.made named)) (λ named. absurd (made-named plan c.args.number c.requires.made named)) refl
+          c.run_script.ensures.lawful c.run_script.ensures.run);
     }

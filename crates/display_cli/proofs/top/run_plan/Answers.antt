@@ -6,4 +6,4 @@ pub returns-in-Some-clause-ended : goal.returns-in-Some-clause-ended
 returns-in-Some-clause-ended g c = c.run_made.ensures.ended (g.I.Inputs.state c.args.inputs.now)
 
 pub returns-in-Some-clause-reads : goal.returns-in-Some-clause-reads
-returns-in-Some-clause-reads g c = reads-none c.args.plan.now (g.I.Inputs.state c.args.inputs.now)
+returns-in-Some-clause-reads g c = reads-none c.args.plan.now c.run_made.result.note (g.I.Inputs.state c.args.inputs.now)

@@ -8,8 +8,12 @@ use Rattle.display_cli.specs.Outside.{SinkState}
 use Rattle.display_cli.specs.Entries.{numbered_lines}
 use Rattle.display_cli.specs.inside.Opening.{EndsWatch, seen_by}
 use Rattle.display_cli.proofs.Headline.{run-unopened}
-use Rattle.display_cli.proofs.Opened.{opened-boards, run-opened}
+use Rattle.display_cli.proofs.Opened.{lawful-events, left-opening, opened-boards, opened-ready, run-opened, unopened-opening}
 use Rattle.display_cli.proofs.top.run_script.Goals as goal
+
+pub play_plan-left-requires-clause-ready : goal.play_plan-left-requires-clause-ready
+play_plan-left-requires-clause-ready g c κs live =
+    opened-ready c.args.display c.requires.events c.args.plan.now.workers c.args.plan.now.watchers c.in-Ok.opened c.in-Ok.ensures.opened
 
 pub play_plan-left-requires-clause-readers : goal.play_plan-left-requires-clause-readers
 play_plan-left-requires-clause-readers g c κs live =
@@ -29,7 +33,21 @@ returns-in-Ok-clause-run g c =
     run-opened c.args.plan.now c.args.display c.args.script.now old mid after c.in-Ok.opened left count c.end_watch-played.result.0
     (seen_by c.ended_as.result.watched) c.ended_as.result.status c.ended_as.result.history c.ended_as.result.note c.requires.events
     c.in-Ok.ensures.opened c.play_plan-left.ensures.left (subst W (sym c.ended_as.ensures.watched) c.end_watch-played.ensures) few
-    (subst N many c.play_plan-left.ensures.all) (c.ended_as.ensures.history ∙ c.into_journal.ensures) c.ended_as.ensures.note
+    (subst N many c.play_plan-left.ensures.all) (c.ended_as.ensures.history ∙ c.journal_of.ensures.journal) c.ended_as.ensures.note
+
+pub returns-in-Ok-clause-lawful : goal.returns-in-Ok-clause-lawful
+returns-in-Ok-clause-lawful g c =
+    let left = c.play_plan-left.result.0 in
+    lawful-events c.args.display.opening left.display c.ended_as.result.history
+    (left-opening c.args.plan.now c.args.display c.args.script.now (g.K.Sink.state c.args.out.now) (g.K.Sink.state c.play_plan-left.new.out)
+    c.in-Ok.opened left c.requires.events c.in-Ok.ensures.opened c.play_plan-left.ensures.left)
+    (c.ended_as.ensures.history ∙ c.journal_of.ensures.journal) c.journal_of.ensures.lawful
+
+pub returns-in-Err-clause-lawful : goal.returns-in-Err-clause-lawful
+returns-in-Err-clause-lawful g c =
+    lawful-events c.args.display.opening c.in-Err.display c.ended_as-in-Err.result.history
+    (unopened-opening c.args.display c.in-Err.display c.in-Err.ensures.unopened)
+    (c.ended_as-in-Err.ensures.history ∙ c.journal_of-in-Err.ensures.journal) c.journal_of-in-Err.ensures.lawful
 
 pub returns-in-Err-clause-run : goal.returns-in-Err-clause-run
 returns-in-Err-clause-run g c =
@@ -43,5 +61,5 @@ returns-in-Err-clause-run g c =
       sink = g.K.Sink.state c.args.out.now;
     }) c.args.display c.in-Err.display c.ended_as-in-Err.result.status c.ended_as-in-Err.result.note c.ended_as-in-Err.result.history
     (seen_by c.ended_as-in-Err.result.watched) refl c.requires.events c.in-Err.ensures.unopened
-    (c.ended_as-in-Err.ensures.history ∙ c.into_journal-in-Err.ensures)
+    (c.ended_as-in-Err.ensures.history ∙ c.journal_of-in-Err.ensures.journal)
     (empty ∙ ap (map (λ (w : Watched). w.seen.items)) c.new.ensures.items) c.ended_as-in-Err.ensures.note

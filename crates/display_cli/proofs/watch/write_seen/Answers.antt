@@ -5,18 +5,18 @@ use Rattle.display_cli.specs.Output.{printed, watch_line}
 use Rattle.std.proofs.Common.{map}
 use Rattle.display_cli.specs.inside.Reading.{IsUnwritten}
 use Rattle.display_cli.proofs.Results.{err-same}
-use Rattle.display_cli.proofs.Watches.{seen-unwritten, seen-written}
+use Rattle.display_cli.proofs.Fronts.{listed-unwritten, listed-written}
 use Rattle.display_cli.proofs.watch.write_seen.Goals as goal
 
 pub returns-in_err-write_line-clause-stopped : goal.returns-in_err-write_line-clause-stopped
 returns-in_err-write_line-clause-stopped g c =
     let P : Stop → Type 0 = IsUnwritten (printed (map (watch_line c.args.reader) c.args.seen.now)) (g.K.Sink.state c.args.out.now) (g.K.Sink.state c.write_line.new.out) in
     err-same c.from_residual-in_err-write_line.result c.in_err-write_line.field-0.0 P c.from_residual-in_err-write_line.ensures.1
-    (seen-unwritten c.args.reader c.args.seen.now c.loop-one.one-index _ (omega arith) (g.K.Sink.state c.args.out.now) (g.K.Sink.state c.loop-one.out)
+    (listed-unwritten (watch_line c.args.reader) c.args.seen.now c.loop-one.one-index _ (omega arith) (g.K.Sink.state c.args.out.now) (g.K.Sink.state c.loop-one.out)
     (g.K.Sink.state c.write_line.new.out) c.loop-one.invariant c.as_str.result.now c.in_err-write_line.field-0.0
     (c.as_str.ensures ∙ c.in_ok-line.ensures) c.in_err-write_line.ensures.stopped)
 
 pub loop-one-preserved : goal.loop-one-preserved
 loop-one-preserved g c =
-    seen-written c.args.reader c.args.seen.now c.loop-one.one-index _ (omega arith) (g.K.Sink.state c.args.out.now) (g.K.Sink.state c.loop-one.out)
+    listed-written (watch_line c.args.reader) c.args.seen.now c.loop-one.one-index _ (omega arith) (g.K.Sink.state c.args.out.now) (g.K.Sink.state c.loop-one.out)
     (g.K.Sink.state c.write_line.new.out) c.loop-one.invariant c.as_str.result.now (c.as_str.ensures ∙ c.in_ok-line.ensures) c.in_ok-write_line.ensures.written

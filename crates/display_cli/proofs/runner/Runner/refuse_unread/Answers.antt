@@ -15,4 +15,4 @@ returns-in-NoMemory-clause-handled g c =
     (at c.args.self.now.owner.display (g.K.Sink.state c.args.self.now.out.now)) (at c.args.self.now.owner.display (g.K.Sink.state c.args.self.now.out.now)) _
     c.in-NoMemory.is
     (λ course left tally entry same going.
-    not-begun course c.args.number entry left tally c.args.self.now.owner.display (g.K.Sink.state c.args.self.now.out.now) going c.requires.room)
+    not-begun course c.args.number entry left tally c.args.self.now.owner.display (g.K.Sink.state c.args.self.now.out.now) going c.requires.abreast.room)

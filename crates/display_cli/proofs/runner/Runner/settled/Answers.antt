@@ -16,5 +16,5 @@ returns-in_err-record_line-clause-handled g c =
 pub returns-clause-handled : goal.returns-clause-handled
 returns-clause-handled g c =
     lines-written c.args.self.now.owner.crew.workers c.args.number c.args.self.now.owner.display (g.K.Sink.state c.args.self.now.out.now)
-    (Accepted Settle) (may-handle c.args.self.now.owner (Accepted Settle) c.requires.abreast (λ e. c.requires.settled)) c.record_line.new.owner.display
+    (Accepted Settle) (may-handle c.args.self.now.owner (Accepted Settle) c.requires.abreast c.requires.settled) c.record_line.new.owner.display
     c.in_ok-record_line.ensures.recorded Settle [] (g.K.Sink.state c.args.self.now.out.now) refl refl refl (takes-none (g.K.Sink.state c.args.self.now.out.now))
