@@ -1,0 +1,11 @@
+pub mod AlteredBlocks
+pub mod BlockPlaces
+pub mod CarriedBlocks
+pub mod FollowedLines
+pub mod FollowedRows
+pub mod KeptBlocks
+pub mod LandedLines
+pub mod LinesShown
+pub mod RecordRows
+pub mod ReplacedLines
+pub mod WrappedLines

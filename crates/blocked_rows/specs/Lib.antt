@@ -1,0 +1,5 @@
+pub mod Bounds
+pub mod Laws
+pub mod Records
+pub mod Standing
+pub mod Wrapped

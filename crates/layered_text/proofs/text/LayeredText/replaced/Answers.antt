@@ -1,0 +1,45 @@
+use Rattle.std.proofs.Common.{◌≡◌, ◌≤◌, ◌∙◌, ℕ, List, Some, length, ap, sym, subst}
+use Rattle.cell_units.specs.declared.limits.TheConstants.{LAID_LIMIT}
+use Rattle.cell_units.specs.Layers.{Source}
+use Rattle.cell_units.specs.Operation.{Replace, replaced_text}
+use Rattle.cell_units.specs.Text.{clean}
+use Rattle.text_rope.specs.Edits.{IsRange}
+use Rattle.inlay_map.proofs.Sent.{sent}
+use Rattle.fold_map.specs.Maps.{FoldState, state_of}
+use Rattle.layered_text.specs.inside.Kept.{AreTold, inlays_of}
+use Rattle.layered_text.proofs.Tellings.{told-replaced}
+use Rattle.layered_text.proofs.text.LayeredText.replaced.Goals as goal
+use Rattle.layered_text.proofs.text.LayeredText.replaced.Goals.{After-share-2}
+
+pub replaced-requires-clause-range : goal.replaced-requires-clause-range
+replaced-requires-clause-range c =
+    let same = c.self.invariant.rope_is ∙ ap (λ (v : Source). v.text) c.self.view_is in
+    subst (λ (t : List ℕ). IsRange t c.args.start c.args.end) (sym same) c.requires.range
+
+pub replaced-requires-clause-fits : goal.replaced-requires-clause-fits
+replaced-requires-clause-fits c =
+    let same = c.self.invariant.rope_is ∙ ap (λ (v : Source). v.text) c.self.view_is in
+    subst (λ (t : List ℕ). length (replaced_text t c.args.start c.args.end (clean c.args.text.now)) ≤ LAID_LIMIT) (sym same) c.requires.fits
+
+pub share-requires-2-send-L : goal.share-requires-2-send-L
+share-requires-2-send-L c κs = search sent depth 60 fits 20000
+
+pub share-requires-2-sync-L : goal.share-requires-2-sync-L
+share-requires-2-sync-L c κs = search sent depth 60 fits 20000
+
+-- the text was replaced, and both maps are as they were
+told : (c : After-share-2) (folds : FoldState) → folds ≡ c.self.inside.folds
+    → AreTold (Replace c.args.start c.args.end c.args.text.now) c.args.self.now c.in_ok-rope.rope c.in_ok-inlays.inlays folds (Some c.in_ok-rope.shift)
+told c folds shared =
+    let same = c.self.invariant.rope_is ∙ ap (λ (v : Source). v.text) c.self.view_is in
+    told-replaced c.args.self.now c.in_ok-inlays.inlays folds c.args.start c.args.end c.args.text.now c.in_ok-rope.rope c.in_ok-rope.shift c.requires.range c.utf8.text
+    (c.in_ok-rope.ensures.text ∙ ap (λ (t : List ℕ). replaced_text t c.args.start c.args.end (clean c.args.text.now)) same)
+    (c.in_ok-inlays.ensures ∙ c.self.invariant.inlays_are ∙ ap inlays_of c.self.view_is)
+    (shared ∙ c.self.invariant.folds_are ∙ ap state_of c.self.view_is) c.in_ok-rope.ensures.shift
+
+pub changed-requires : goal.changed-requires
+changed-requires c = (Replace c.args.start c.args.end c.args.text.now, told (goal.at.changed-requires c).After-share-2 c.in_ok-folds.folds c.in_ok-folds.ensures)
+
+pub returns-clause-changed : goal.returns-clause-changed
+returns-clause-changed c =
+    c.in_ok-made.ensures.changed (Replace c.args.start c.args.end c.args.text.now) (told (goal.at.returns-clause-changed c).After-share-2 c.in_ok-folds.folds c.in_ok-folds.ensures)
