@@ -1,0 +1,31 @@
+use Rattle.std.proofs.Common.{rules}
+use Rattle.cell_units.specs.Operation.{RemoveFold}
+use Rattle.map_sheet.proofs.Done.{unfold-accepted, unfold-refused, unfold-turned}
+use Rattle.map_sheet.proofs.sheet.MapSheet.without_fold.Goals as goal
+
+pub relaid-requires : goal.relaid-requires
+relaid-requires c = (
+  RemoveFold c.args.id,
+  unfold-turned c.args.self.now c.lawful.ensures.lawful c.lawful.ensures.short c.text.result.now c.text.ensures c.args.id
+      c.in_ok-made.made.text c.in_ok-made.made.shown c.in_ok-made.ensures.changed,
+)
+
+pub returns-clause-made : goal.returns-clause-made
+returns-clause-made c = (
+  unfold-accepted c.args.self.now c.lawful.ensures.lawful c.lawful.ensures.short c.text.result.now c.text.ensures c.args.id c.in_ok-made.ensures.accepted,
+  tt,
+  c.in_ok-relaid.ensures.done (RemoveFold c.args.id)
+      (unfold-turned c.args.self.now c.lawful.ensures.lawful c.lawful.ensures.short c.text.result.now c.text.ensures c.args.id
+      c.in_ok-made.made.text c.in_ok-made.made.shown c.in_ok-made.ensures.changed),
+)
+
+pub returns-in_err-made-clause-made : goal.returns-in_err-made-clause-made
+returns-in_err-made-clause-made c =
+    let refused = unfold-refused c.args.self.now c.lawful.ensures.lawful c.lawful.ensures.short c.text.result.now c.text.ensures c.args.id
+    c.in_err-made.field-0.0 c.in_err-made.ensures.refused in
+    search (rules, refused)
+
+pub returns-in_err-relaid-clause-made : goal.returns-in_err-relaid-clause-made
+returns-in_err-relaid-clause-made c =
+    let none = unfold-accepted c.args.self.now c.lawful.ensures.lawful c.lawful.ensures.short c.text.result.now c.text.ensures c.args.id c.in_ok-made.ensures.accepted in
+    search (rules, none)

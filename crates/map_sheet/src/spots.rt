@@ -1,0 +1,74 @@
+//! What offsets and spots are looked up in.
+use crate::sheet::MapSheet;
+use blocked_rows::blocked_laws;
+use cell_line::Lines;
+use cell_units::{Bias, Layer, NoMemory, Steps, folding_laws, layer_laws, text_laws};
+use plain_rows::{Joined, RowLine, SpotRows};
+use std::alloc::Global;
+
+impl SpotRows for MapSheet {
+    ghost kept = { λ s. s };
+
+    fn text_len(&self) -> u32 {
+        self.lawful();
+        self.text().rope().len()
+    }
+
+    fn is_boundary(&self, offset: u32, steps: &mut Steps) -> bool {
+        self.lawful();
+        text_laws();
+        self.text().rope().is_boundary(offset, steps)
+    }
+
+    fn place(&self, offset: u32, bias: Bias, _steps: &mut Steps) -> (u32, u32) {
+        self.lawful();
+        layer_laws();
+        let layer = self.text().layer();
+        let place = layer.place(offset, bias);
+        let point = layer.point(place);
+        (point.row, point.column)
+    }
+
+    /// Inside a fold the last offset at the left place and the first at the right place are the fold's ends. At any other offset
+    /// the first of these isn't before it, or the second isn't after it.
+    fn fold_around(&self, offset: u32, _steps: &mut Steps) -> Option<Joined> {
+        self.lawful();
+        layer_laws();
+        folding_laws();
+        let layer = self.text().layer();
+        let left = layer.place(offset, Bias::Left);
+        let right = layer.place(offset, Bias::Right);
+        let Some(start) = layer.back(left, Bias::Right) else {
+            return None;
+        };
+        let Some(end) = layer.back(right, Bias::Left) else {
+            return None;
+        };
+        if start < offset && offset < end {
+            Some(Joined { start, end })
+        } else {
+            None
+        }
+    }
+
+    fn row_line(&self, alloc: Global, line: u32, steps: &mut Steps) -> Result<RowLine, NoMemory> {
+        self.lawful();
+        let elements = self.wrapped().lines().elements(alloc, line)?;
+        let width = self.wrapped().rows().mark(line, steps);
+        RowLine::new(alloc, elements, width)
+    }
+
+    fn first_row(&self, line: u32, steps: &mut Steps) -> u32 {
+        self.lawful();
+        blocked_laws();
+        self.shown().row_of(line, 0, steps)
+    }
+
+    fn line_of_row(&self, row: u32, steps: &mut Steps) -> u32 {
+        self.lawful();
+        blocked_laws();
+        let shown = self.shown();
+        let last = shown.row_count().saturating_sub(1);
+        shown.line_of_row(row.min(last), steps)
+    }
+}
