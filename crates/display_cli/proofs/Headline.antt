@@ -14,26 +14,27 @@ use Rattle.live_display.specs.Owned.{IsUnopened}
 use Rattle.board_watch.specs.declared.seen.Seen.{Seen}
 use Rattle.std.proofs.lemmas.List.{append-nil}
 use Rattle.command_line.specs.declared.plan.Plan.{Plan}
-use Rattle.display_cli.specs.declared.outside.Part.TheVariants as parts
-use Rattle.display_cli.specs.declared.outside.Failed.{Failed}
-use Rattle.display_cli.specs.declared.stop.Stop.{Stop}
-use Rattle.display_cli.specs.declared.stop.Stop.TheVariants as stops
+use Rattle.script_runner.specs.declared.outside.Part.TheVariants as parts
+use Rattle.script_runner.specs.declared.outside.Failed.{Failed}
+use Rattle.script_runner.specs.declared.stop.Stop.{Stop}
+use Rattle.script_runner.specs.declared.stop.Stop.TheVariants as stops
 use Rattle.display_cli.specs.declared.limits.TheConstants.{SCRIPT_LIMIT}
-use Rattle.display_cli.specs.declared.tally.Tally.{Tally}
+use Rattle.script_runner.specs.declared.tally.Tally.{Tally}
 use Rattle.display_cli.specs.declared.ended.Note.{Note}
 use Rattle.display_cli.specs.declared.ended.Note.TheVariants.{Fine, Usage, ReadText, ReadScript, Write, TextNotUtf8, TextTooLong, ScriptTooLong, JournalFull, Memory}
 use Rattle.display_cli.specs.Notes.{note_line}
-use Rattle.display_cli.specs.Outside.{Faults, InputState, SinkState, HasRisen, AreTold, Takes, TakesFront, count_between}
-use Rattle.display_cli.specs.Entries.{numbered_lines}
-use Rattle.display_cli.specs.Legal.{history_of}
-use Rattle.display_cli.specs.Output.{no_lines, output}
-use Rattle.display_cli.specs.Ended.{Run, Course, IsStopped, IsRefused, HasRead, given, text_of, script_of, HasText, IsEndedAs, ReadsInOrder, HasReadsPassed, ends_at_text, IsTextUnfailed, IsScriptUnfailed, IsOwed, IsComplete, IsRun, Says, course_of}
-use Rattle.display_cli.specs.inside.Going.{at}
+use Rattle.script_runner.specs.Outside.{Faults, InputState, SinkState, HasRisen, AreTold, Takes, TakesFront, count_between}
+use Rattle.script_runner.specs.Entries.{numbered_lines}
+use Rattle.script_runner.specs.Legal.{history_of}
+use Rattle.script_runner.specs.Output.{no_lines, output}
+use Rattle.display_cli.specs.Ended.{Run, IsRefused, HasRead, given, text_of, script_of, HasText, IsEndedAs, ReadsInOrder, HasReadsPassed, ends_at_text, IsTextUnfailed, IsScriptUnfailed, IsOwed, IsComplete, IsRun, Says, course_of}
+use Rattle.script_runner.specs.Course.{Course, IsStopped}
+use Rattle.script_runner.specs.Going.{at}
 use Rattle.display_cli.specs.inside.Opening.{IsOpenedOn, IsTextUnread, IsScript, IsScriptUnread, HasWatched, IsNoteOf, HasRun, note_of}
 use Rattle.display_cli.specs.inside.Reading.{ReadsName}
-use Rattle.display_cli.proofs.Fronts.{front-all, front-none}
-use Rattle.display_cli.proofs.GoingOn.{on, going-stopped}
-use Rattle.display_cli.proofs.Played.{going-fresh, room-fresh}
+use Rattle.script_runner.proofs.Fronts.{front-all, front-none}
+use Rattle.script_runner.proofs.GoingOn.{on, going-stopped}
+use Rattle.script_runner.proofs.Played.{going-fresh, room-fresh}
 
 -- ---- the run of a script
 

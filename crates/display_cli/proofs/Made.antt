@@ -13,21 +13,22 @@ use Rattle.generated_input.specs.Made.{made_of}
 use Rattle.display_cli.specs.declared.beside.Left.{Left}
 use Rattle.display_cli.specs.declared.ended.Note.{Note}
 use Rattle.display_cli.specs.declared.ended.Note.TheVariants.{Fine, Usage, ReadText, ReadScript, Write, TextNotUtf8, TextTooLong, ScriptTooLong, JournalFull, Memory}
-use Rattle.display_cli.specs.declared.stop.Stop.{Stop}
-use Rattle.display_cli.specs.declared.stop.Stop.TheVariants as stops
-use Rattle.display_cli.specs.declared.tally.Tally.{Tally}
-use Rattle.display_cli.specs.Entries.{Entry}
-use Rattle.display_cli.specs.Legal.{history_of}
-use Rattle.display_cli.specs.Outside.{Faults, InputState, SinkState, AreTold, Takes, TakesFront, nowhere}
-use Rattle.display_cli.specs.Output.{answered, answers_from, no_lines, output, printed, reported, summary_at, summary_line}
-use Rattle.display_cli.specs.Ended.{Run, Course, IsEndedAs, IsRefused, IsStopped, given, script_of, text_of}
-use Rattle.display_cli.specs.inside.Going.{IsCut, IsGoing, IsPlayed, IsWhy, HasEnded, Stage, at}
+use Rattle.script_runner.specs.declared.stop.Stop.{Stop}
+use Rattle.script_runner.specs.declared.stop.Stop.TheVariants as stops
+use Rattle.script_runner.specs.declared.tally.Tally.{Tally}
+use Rattle.script_runner.specs.Entries.{Entry}
+use Rattle.script_runner.specs.Legal.{history_of}
+use Rattle.script_runner.specs.Outside.{Faults, InputState, SinkState, AreTold, Takes, TakesFront, nowhere}
+use Rattle.script_runner.specs.Output.{answered, answers_from, no_lines, output, printed, reported, summary_at, summary_line}
+use Rattle.display_cli.specs.Ended.{Run, IsEndedAs, IsRefused, given, script_of, text_of}
+use Rattle.script_runner.specs.Course.{Course, IsStopped}
+use Rattle.script_runner.specs.Going.{IsCut, IsGoing, IsPlayed, IsWhy, HasEnded, Stage, at}
 use Rattle.display_cli.specs.inside.Left.{HasLeft, HasLeftBy}
 use Rattle.display_cli.specs.inside.Opening.{IsStartRefused, IsTextUnread, Reports, to_nowhere}
-use Rattle.display_cli.specs.inside.Reading.{IsUnwritten}
-use Rattle.display_cli.proofs.Fronts.{front-all, front-behind, risen-behind, takes-more, takes-none, takes-same}
+use Rattle.script_runner.specs.Writing.{IsUnwritten}
+use Rattle.script_runner.proofs.Fronts.{front-all, front-behind, risen-behind, takes-more, takes-none, takes-same}
 use Rattle.display_cli.proofs.Headline.{ended-unopened}
-use Rattle.display_cli.proofs.Watches.{last-begun}
+use Rattle.script_runner.proofs.LastVersion.{last-begun}
 
 -- ---- the summary
 
@@ -57,7 +58,7 @@ module _ (number : ℕ) (course : Course) (h : History) (old : SinkState) (befor
   reported-front : (new : SinkState) → TakesFront (line_of h tally) old new → IsStopped (Some number) course h.events new []
   reported-front new front =
       record {
-        begun = last-begun None course h h.events played.legal.ends;
+        begun = last-begun h.events played.legal.ends;
         legal = played.legal.so_far;
         written = front-behind course.sink old new [] (line_of h tally) [] (output (Some number) course.text course.entries h.events []) empty front
             (ap (λ l. l ++ []) same-line);

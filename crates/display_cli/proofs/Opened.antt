@@ -1,10 +1,10 @@
 -- A run whose owner was opened, from its opening to its last watch line.
-use Rattle.std.proofs.Common.{◌≡◌, ℕ, ◌≤◌, inl, inr, false, All, List, [], ◌∷◌, ◌++◌, length, map, Option, Some, None, Result, Ok, Err, refl, sym, ap, ◌∙◌, subst, arith}
+use Rattle.std.proofs.Common.{◌≡◌, ℕ, ◌<◌, ◌≤◌, inl, inr, false, All, List, [], ◌∷◌, ◌++◌, length, map, Option, Some, None, Result, Ok, Err, refl, sym, ap, ◌∙◌, subst, arith}
 use Rattle.std.specs.Prelude.{IfSome, OnOk, replicate}
 use Rattle.std.proofs.lemmas.List.{length-map, length-replicate}
 use Rattle.std.proofs.lemmas.List.Elements.{All-nil, All-cons, All-head, All-tail, All-map, All-replicate}
 use Rattle.logbook.specs.Pages.{Book}
-use Rattle.display_map.specs.Events.{Event, Published}
+use Rattle.display_map.specs.Events.{Event, Published, event_limit}
 use Rattle.display_map.specs.LawfulStates.{IsLawfulHistory}
 use Rattle.display_map.specs.Replay.{History, versions_of}
 use Rattle.version_board.specs.Known.{Known}
@@ -15,19 +15,19 @@ use Rattle.board_watch.specs.declared.seen.Seen.{Seen}
 use Rattle.board_watch.specs.Watching.{Watching}
 use Rattle.command_line.specs.declared.plan.Plan.{Plan}
 use Rattle.display_cli.specs.declared.ended.Note.{Note}
-use Rattle.display_cli.specs.declared.stop.Stop.{Stop}
-use Rattle.display_cli.specs.declared.tally.Tally.{Tally}
+use Rattle.script_runner.specs.declared.stop.Stop.{Stop}
+use Rattle.script_runner.specs.declared.tally.Tally.{Tally}
 use Rattle.display_cli.specs.declared.beside.Left.{Left}
-use Rattle.display_cli.specs.Outside.{SinkState}
-use Rattle.display_cli.specs.Entries.{numbered_lines}
-use Rattle.display_cli.specs.Legal.{history_of}
-use Rattle.display_cli.specs.Output.{no_lines}
-use Rattle.display_cli.specs.Ended.{Course}
-use Rattle.display_cli.specs.inside.Going.{Stage, IsGoing, IsReady, IsUnsent, HasEnded, PlaysAll, at}
+use Rattle.script_runner.specs.Outside.{SinkState}
+use Rattle.script_runner.specs.Entries.{numbered_lines}
+use Rattle.script_runner.specs.Legal.{history_of}
+use Rattle.script_runner.specs.Output.{no_lines}
+use Rattle.script_runner.specs.Course.{Course}
+use Rattle.script_runner.specs.Going.{Stage, IsGoing, IsReady, IsUnsent, HasEnded, PlaysAll, at}
 use Rattle.display_cli.specs.inside.Left.{AreBoards, HasLeft, HasLeftBy, board_of}
 use Rattle.display_cli.specs.inside.Opening.{EndsWatch, HasRun, IsNoteOf}
-use Rattle.display_cli.proofs.Played.{going-fresh}
-use Rattle.display_cli.proofs.Unsettled.{unsent-opened}
+use Rattle.script_runner.proofs.Played.{going-fresh, room-fresh}
+use Rattle.script_runner.proofs.Unsettled.{unsent-opened}
 use Rattle.display_cli.proofs.Headline.{run-watched}
 
 -- ---- boards
@@ -85,6 +85,10 @@ module _ (display : History) (fresh : display.events ≡ []) (workers readers : 
         shown = record { owned = has.owned; published = subst Q (sym has.display) (subst N (sym fresh) (omega arith)) };
         unsent = subst P (sym has.display) (unsent-opened display fresh);
       }
+
+  -- its journal has one event
+  pub opened-room : length opened.owner.display.events < event_limit
+  opened-room = let P : History → Type 0 = λ h. length h.events < event_limit in subst P (sym has.display) (room-fresh display fresh)
 
 -- ---- what is left
 

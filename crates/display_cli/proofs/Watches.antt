@@ -3,28 +3,28 @@ use Rattle.std.proofs.Common.{◌≡◌, ℕ, ◌+◌, ◌<◌, ◌≤◌, true,
 use Rattle.std.specs.Prelude.{Option, None, Some, IfSome, IfOk, OnOk}
 use Rattle.std.specs.declared.alloc.Global.{Global}
 use Rattle.std.specs.declared.vec.Vec.{Vec}
-use Rattle.std.specs.List.{last_or}
 use Rattle.std.proofs.lemmas.List.{append-nil, drop_more}
 use Rattle.std.proofs.lemmas.List.Elements.{All-map, All-nil, All-weaker}
 use Rattle.std.proofs.lemmas.Grind.{flat_map-append}
 use Rattle.cell_units.specs.Text.{line_feed}
-use Rattle.display_map.specs.Events.{Event, Published}
+use Rattle.display_map.specs.Events.{Event}
 use Rattle.display_map.specs.Replay.{History, ends, is_last}
 use Rattle.version_board.specs.Known.{Known}
 use Rattle.board_watch.specs.declared.seen.Seen.{Seen}
 use Rattle.board_watch.specs.declared.seen.Watched.{Watched}
 use Rattle.board_watch.specs.Watching.{AreRising, IsWatched}
-use Rattle.display_cli.specs.declared.stop.Stop.{Stop}
-use Rattle.display_cli.specs.declared.stop.Stop.TheVariants as stops
-use Rattle.display_cli.specs.Legal.{history_of}
-use Rattle.display_cli.specs.Outside.{SinkState, Takes, TakesFront}
-use Rattle.display_cli.specs.declared.tally.Tally.{Tally}
-use Rattle.display_cli.specs.Output.{printed, output, reported, watch_line, watch_lines}
-use Rattle.display_cli.specs.Ended.{Course, HaveWatchedSome, IsStopped}
-use Rattle.display_cli.specs.inside.Going.{at, IsPlayed, IsCut, IsWhy, HasEnded}
+use Rattle.script_runner.specs.declared.stop.Stop.{Stop}
+use Rattle.script_runner.specs.declared.stop.Stop.TheVariants as stops
+use Rattle.script_runner.specs.Legal.{history_of}
+use Rattle.script_runner.specs.Outside.{SinkState, Takes, TakesFront}
+use Rattle.script_runner.specs.declared.tally.Tally.{Tally}
+use Rattle.script_runner.specs.Output.{printed, reported, watch_line, watch_lines}
+use Rattle.script_runner.specs.Course.{Course, HaveWatchedSome, IsStopped}
+use Rattle.script_runner.specs.Going.{at, IsPlayed, IsCut, IsWhy, HasEnded}
 use Rattle.display_cli.specs.inside.Opening.{EndsWatch, HasWatched, SeeLast, seen_by}
-use Rattle.display_cli.specs.inside.Reading.{IsUnwritten}
-use Rattle.display_cli.proofs.Fronts.{AreWritten, takes-more, takes-none, front-all, front-behind, risen-behind, unwritten-behind, written-more, written-stopped}
+use Rattle.script_runner.specs.Writing.{IsUnwritten}
+use Rattle.script_runner.proofs.LastVersion.{played-front}
+use Rattle.script_runner.proofs.Fronts.{AreWritten, takes-more, takes-none, front-all, risen-behind, unwritten-behind}
 
 -- ---- lines
 
@@ -109,31 +109,16 @@ module _ (make : Option ℕ) (course : Course) (h : History) where
     why-at course h (history_of course.text h.events) sink stop refl cut.why,
   )
 
-  pub last-begun : (events : List Event) → last_or None events ≡ Some (Published true) → events ≡ [] → ⊥
-  last-begun [] e none = cc
-  last-begun (x ∷ events) e none = cc
-
   -- it came to its end, and then the run stopped
   module _ (tally : Tally) (sink : SinkState) (played : IsPlayed make course tally (at h sink)) where
-    played-front : (after : SinkState) (watched : List (List Seen)) → TakesFront (printed (watch_lines 0 watched)) sink after → HaveWatchedSome course watched
-        → IsStopped make course h.events after watched
-    played-front after watched front some =
-        record {
-          begun = last-begun h.events played.legal.ends;
-          legal = played.legal.so_far;
-          written = front-behind course.sink sink after (reported make course.text course.entries h.events) (printed (watch_lines 0 watched)) []
-              (output make course.text course.entries h.events watched) played.written front (append-nil (output make course.text course.entries h.events watched));
-          watchers = some;
-        }
-
     pub watched-unwritten : (after : SinkState) (watched : List (List Seen)) (stop : Stop) → IsUnwritten (printed (watch_lines 0 watched)) sink after stop
         → HaveWatchedSome course watched → HasWatched make course h.events after watched (Err stop)
     watched-unwritten after watched stops.Write why some = (
-      played-front after watched why.0 some,
+      played-front make course h tally sink played after watched why.0 some,
       risen-behind course.sink.faults sink.faults after.faults played.written.passed why.1,
     )
     watched-unwritten after watched stops.JournalFull why some = absurd why
-    watched-unwritten after watched stops.Memory why some = (played-front after watched why.0 some, (played.room, why.1 ∙ played.written.passed))
+    watched-unwritten after watched stops.Memory why some = (played-front make course h tally sink played after watched why.0 some, (played.room, why.1 ∙ played.written.passed))
 
     -- there was no memory for what the watchers saw
     pub watched-short : HasWatched make course h.events sink [] (Err stops.Memory)
@@ -142,9 +127,6 @@ module _ (make : Option ℕ) (course : Course) (h : History) where
       where
         nothing : (a : SinkState) → Takes [] a a
         nothing a = takes-none a
-
-    pub played-cut : IsCut make course (at h sink) stops.Memory
-    played-cut = let it = watched-short in record { opening = played.opening; stopped = it.0; why = it.1 }
 
     pub ends-true : ends h.events ≡ true
     ends-true = ap is_last played.legal.ends

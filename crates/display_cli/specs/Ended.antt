@@ -1,31 +1,26 @@
 -- How a run ends, and what each end means.
-use Rattle.std.specs.Prelude.{ℕ, ◌≡◌, ◌≢◌, ◌+◌, ◌<◌, ◌≤◌, ◌⊎◌, ◌↔◌, ◌++◌, Bool, true, false, All, List, [], ◌∷◌, length, map, Option, Some, None, IfSome}
+use Rattle.std.specs.Prelude.{ℕ, ◌≡◌, ◌≢◌, ◌+◌, ◌<◌, ◌≤◌, ◌⊎◌, ◌↔◌, ◌++◌, Bool, true, false, List, [], ◌∷◌, length, map, Option, Some, None, IfSome}
 use Rattle.std.specs.declared.io.ErrorKind.{ErrorKind}
 use Rattle.std.specs.declared.io.ErrorKind.TheVariants.{InvalidData}
 use Rattle.cell_units.specs.Text.{clean}
-use Rattle.cell_units.specs.Record.{Record}
 use Rattle.display_map.specs.Events.{Event}
 use Rattle.cell_units.specs.declared.fault.TextFault.TheVariants.{NotUtf8, TooLong}
 use Rattle.cell_units.specs.declared.limits.TheConstants.{TEXT_LIMIT}
 use Rattle.cell_units.specs.Refusal.{IsAccepted, IsTextRefused}
-use Rattle.display_map.specs.Events.{event_limit}
 use Rattle.display_map.specs.LawfulStates.{IsLawfulHistory}
-use Rattle.display_map.specs.Replay.{present_of}
-use Rattle.live_display.specs.declared.owner.TheConstants.{EVENTS_AHEAD}
 use Rattle.board_watch.specs.declared.seen.Seen.{Seen}
-use Rattle.board_watch.specs.Watching.{AreRising, IsWatched}
 use Rattle.command_line.specs.declared.plan.Plan.{Plan}
 use Rattle.generated_input.specs.Made.{TextAndScript, made_of}
 use Rattle.display_cli.specs.declared.ended.Ended.{Ended}
 use Rattle.display_cli.specs.declared.ended.Note.{Note}
 use Rattle.display_cli.specs.declared.ended.Note.TheVariants.{Fine, Usage, ReadText, ReadScript, Write, TextNotUtf8, TextTooLong, ScriptTooLong, JournalFull, Memory}
 use Rattle.display_cli.specs.declared.limits.TheConstants.{SCRIPT_LIMIT}
-use Rattle.display_cli.specs.declared.outside.Part.{Part}
-use Rattle.display_cli.specs.declared.outside.Part.TheVariants.{Text, Script}
-use Rattle.display_cli.specs.Outside.{Read, InputState, SinkState, HasRisen, AreTold, Takes, TakesFront, count_between}
-use Rattle.display_cli.specs.Entries.{Entry, asked_by, numbered_lines}
-use Rattle.display_cli.specs.Legal.{IsLegal, IsLegalSoFar, next_entry, history_of}
-use Rattle.display_cli.specs.Output.{output, refusals}
+use Rattle.script_runner.specs.declared.outside.Part.{Part}
+use Rattle.script_runner.specs.declared.outside.Part.TheVariants.{Text, Script}
+use Rattle.script_runner.specs.Outside.{Read, InputState, SinkState, HasRisen, AreTold, Takes, TakesFront, count_between}
+use Rattle.script_runner.specs.Entries.{numbered_lines}
+use Rattle.script_runner.specs.Legal.{history_of}
+use Rattle.script_runner.specs.Course.{Course, IsFinished, IsStopped, IsFull, HasRoom}
 use Rattle.display_cli.specs.Notes.{note_line}
 
 -- the status of each note
@@ -67,51 +62,18 @@ run_of inputs inputs_after sink sink_after ended = record {
 
 -- ---- finished, stopped and refused
 
--- what a run is given: the opening text, the entries that it handles, how many workers and watchers it has, and its sink
-pub record Course : Type 0 where
-  pub text : List ℕ
-  pub entries : List (ℕ × Entry)
-  pub workers : ℕ
-  pub watchers : ℕ
-  pub sink : SinkState
-
--- what the watchers of a finished run saw: each saw versions of its history in order, and last the last one
-pub record HaveWatched (course : Course) (history : List Event) (watched : List (List Seen)) : Type 0 where
-  pub all : length watched ≡ course.watchers
-  pub each : All (IsWatched (history_of course.text history)) watched
-
--- ... and of a stopped run: as many as found memory, and the numbers of the versions that each saw rise
-pub record HaveWatchedSome (course : Course) (watched : List (List Seen)) : Type 0 where
-  pub few : length watched ≤ course.watchers
-  pub each : All (AreRising 0) watched
-
--- a finished run: its history is legal, it wrote all its output, its status says whether an entry was refused, and its
--- watchers saw its last version
-pub record IsFinished (make : Option ℕ) (course : Course) (history : List Event) (sink : SinkState) (watched : List (List Seen)) (status : ℕ) : Type 0 where
-  pub legal : IsLegal course.text course.entries course.workers history
-  pub written : Takes (output make course.text course.entries history watched) course.sink sink
-  pub refusals : (status ≡ 1) ↔ (1 ≤ refusals course.text course.entries history)
-  pub watchers : HaveWatched course history watched
-
--- a stopped run: its history has begun and is legal so far, and it wrote a front of its output
-pub record IsStopped (make : Option ℕ) (course : Course) (history : List Event) (sink : SinkState) (watched : List (List Seen)) : Type 0 where
-  pub begun : history ≢ []
-  pub legal : IsLegalSoFar course.text course.entries course.workers history
-  pub written : TakesFront (output make course.text course.entries history watched) course.sink sink
-  pub watchers : HaveWatchedSome course watched
-
 -- a refused run: it wrote nothing, began no history, and no watcher saw a version
 pub record IsRefused (run : Run) : Type 0 where
   pub history : run.history ≡ []
   pub watched : run.watched ≡ []
   pub sink : run.sink_after ≡ run.sink
 
--- the bytes that are told of a name, or with a make those that are made
+-- the bytes that are given for a name, or with a make those that are made
 abbrev pub given : Option ℕ → Option (List ℕ) → (TextAndScript → List ℕ) → Option (List ℕ)
 given None told part = told
 given (Some number) told part = Some (part (made_of number))
 
--- the bytes of a plan's text, where they are told
+-- the bytes of a plan's text, where they are given
 abbrev pub text_of : Plan → InputState → Option (List ℕ)
 text_of plan inputs = given plan.make (inputs.told plan.text) (λ made. made.text)
 
@@ -156,20 +118,6 @@ pub record HasStopped (plan : Plan) (run : Run) (cause : Course → List Event �
   pub caused : cause (course_of plan read.bytes read.script run.sink) run.history
 
 -- ---- what makes a run end with each note
-
--- the count of operations that the next entry asks for, accepted or not
-abbrev pub asked_by_next : Record → Option (ℕ × Entry) → ℕ
-asked_by_next r None = 0
-asked_by_next r (Some l) = asked_by r l.1
-
--- the journal has no room for the events of a step and the operations of the next entry
-abbrev pub IsFull : Course → List Event → Type 0
-IsFull course events =
-    event_limit < length events + EVENTS_AHEAD + asked_by_next (present_of (history_of course.text events)) (next_entry course.entries events)
-
--- the journal has room
-abbrev pub HasRoom : Course → List Event → Type 0
-HasRoom course events = length events < event_limit
 
 -- a write failed
 abbrev pub IsWriteFailed : Run → Course → List Event → Type 0
@@ -239,7 +187,7 @@ IsTextUnfailed run = HasRisen run.inputs.faults.text run.inputs_after.faults.tex
 abbrev pub IsScriptUnfailed : Run → Type 0
 IsScriptUnfailed run = HasRisen run.inputs.faults.script run.inputs_after.faults.script → ⊥
 
--- the answers that are owed where the text is told and no read of it failed: want of memory alone may come in their place
+-- the answers that are owed where the text is given and no read of it failed: out of memory alone may come in their place
 pub record IsOwed (plan : Plan) (run : Run) : Type 0 where
   pub too_long : (bytes : List ℕ) → text_of plan run.inputs ≡ Some bytes → IsTextUnfailed run
       → IsTextRefused bytes TooLong → (run.note ≡ TextTooLong) ⊎ (run.note ≡ Memory)
@@ -249,7 +197,7 @@ pub record IsOwed (plan : Plan) (run : Run) : Type 0 where
       → script_of plan run.inputs ≡ Some script → IsTextUnfailed run → IsScriptUnfailed run
       → IsAccepted bytes → SCRIPT_LIMIT < length script → (run.note ≡ ScriptTooLong) ⊎ (run.note ≡ Memory)
 
--- where both are told and within their limits and no count rose, the run finishes, unless memory or the journal's room ends
+-- where both are given and within their limits and no count rose, the run finishes, unless memory or the journal's room ends
 abbrev pub IsComplete : Plan → Run → Type 0
 IsComplete plan run =
     (bytes script : List ℕ) → text_of plan run.inputs ≡ Some bytes → script_of plan run.inputs ≡ Some script
@@ -269,7 +217,7 @@ pub record IsRun (run : Run) (plan : Plan) : Type 0 where
   pub owed : IsOwed plan run
   pub complete : IsComplete plan run
 
--- a run of words, of which a plan is the reading, if they have one. Words without a reading are refused, and want of memory
+-- a run of words, of which a plan is the reading, if they have one. Words without a reading are refused, and out of memory
 -- alone may come in place of that answer
 pub record IsRunOfWords (plan : Option Plan) (run : Run) : Type 0 where
   pub status : HasStatus run.note run.status
@@ -278,7 +226,7 @@ pub record IsRunOfWords (plan : Option Plan) (run : Run) : Type 0 where
   pub nothing : plan ≡ None → IsRefused run
   pub planned : IfSome plan (IsRun run)
 
--- what is said of a note: the sink took a front of its line, and all of it unless a write failed
+-- what is said of a note: the sink took a prefix of its line, and all of it unless a write failed
 pub record Says (note : Note) (old new : SinkState) : Type 0 where
   pub front : TakesFront (note_line note) old new
   pub whole : (HasRisen old.faults new.faults → ⊥) → Takes (note_line note) old new

@@ -1,9 +1,9 @@
--- Bytes and reads that are told and not stored.
+-- Bytes and reads that contracts see and nothing stores.
 use Rattle.std.specs.Prelude.{ℕ, List, [], ◌∷◌, ◌++◌}
 use Rattle.display_cli.specs.declared.told.Told.{Told, Nothing, Then'}
 use Rattle.display_cli.specs.declared.told.ReadsTold.{ReadsTold}
 use Rattle.display_cli.specs.declared.told.ReadsTold as told
-use Rattle.display_cli.specs.Outside.{Read}
+use Rattle.script_runner.specs.Outside.{Read}
 
 -- the bytes in the order in which they came
 abbrev pub bytes_told : Told → List ℕ

@@ -1,10 +1,5 @@
 pub mod Reading
-pub mod Heading
-pub mod Stopping
-pub mod Counting
-pub mod Going
 pub mod Left
 pub mod Opening
 pub mod Named
 pub mod Calls
-pub mod Carets

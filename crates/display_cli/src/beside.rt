@@ -1,16 +1,13 @@
 //! A script beside the workers and the watchers, each in a thread of its own.
 ghost use Rattle.std.specs.Prelude.{◌≡◌, None};
 ghost use Rattle.display_cli.specs.inside.Left.{HasLeft, IsReadyAt, Leaves, boards_of};
-ghost use Rattle.display_cli.specs.inside.Going.{IsReady};
+ghost use Rattle.script_runner.specs.Going.{IsReady};
 
-use crate::outside::Sink;
-use crate::runner::Runner;
-use crate::stop::Stop;
-use crate::tally::Tally;
 use board_watch::{Watcher, watch_all};
 use display_map::{Display, Held};
 use edit_script::Form;
 use live_display::Owner;
+use script_runner::{Runner, Sink, Stop, Tally};
 use std::alloc::Global;
 use std::sync::Wait;
 use std::sync::atomic::{AtomicU64, Ordering};
@@ -27,7 +24,7 @@ pub(crate) struct Left {
     pub(crate) writer: Option<Writer>,
 }
 
-/// Gives a sink back as it is: with this call rattle knows what a runner left in it.
+/// Gives a sink back as it is.
 fn give_back<K>(out: &mut K)
     ensures { out.new ≡ out.old }
 {}
@@ -59,6 +56,7 @@ fn play<R: Wait, G: Gate, K: Sink>(
         owner,
         out,
     } = runner;
+    // For the prover: the sink is as the runner left it.
     give_back(out);
     flag.store(1, Ordering::SeqCst);
     let (display, writer) = owner.dismiss(rt);

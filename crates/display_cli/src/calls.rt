@@ -18,7 +18,7 @@ impl Calls {
         Calls { failing, made: 0 }
     }
 
-    /// Counts a call, and answers whether it fails.
+    /// Counts a call, and returns whether it fails.
     pub(crate) fn next_fails(&mut self) -> bool
         ensures fails { result ≡ is_failing self.old self.new }
         ensures counted { self.new ≡ one_more self.old }

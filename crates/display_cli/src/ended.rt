@@ -28,10 +28,20 @@ pub enum Note {
 }
 
 /// The end of a run: its status and why it has it, the history of its display, and what each watcher saw.
-#[derive(Drop)]
 pub struct Ended {
     pub status: u8,
     pub note: Note,
     pub history: Journal,
     pub watched: Vec<Watched>,
+}
+
+impl Drop for Ended {
+    fn drop(self) {
+        let Ended {
+            status: _,
+            note: _,
+            history: _,
+            watched: _,
+        } = self;
+    }
 }

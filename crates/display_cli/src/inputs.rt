@@ -1,15 +1,15 @@
 //! Inputs: over names in memory, and over files.
-ghost use Rattle.std.specs.Prelude.{◌≡◌, ◌<◌, ◌≤◌, ◌⊎◌, true, false, ℕ, List, [], None, length, take, drop, min, IfOk, OnOk, OnErr, IfSome, IsSome};
+ghost use Rattle.std.specs.Prelude.{◌≡◌, ◌<◌, ◌≤◌, ◌⊎◌, true, false, ℕ, [], None, length, take, drop, min, IfOk, OnOk, OnErr, IfSome, IsSome};
 ghost use Rattle.std.specs.Option.{option_copied};
 ghost use Rattle.display_cli.specs.inside.Calls.{is_failing, one_more};
 ghost use Rattle.display_cli.specs.inside.Named.{IsMost, bytes_named, bytes_or_none, faults_in, map_state, told_by};
 ghost use Rattle.display_cli.specs.Telling.{reads_told};
-ghost use Rattle.display_cli.specs.Outside.{Faults, HasPartRisen, IsGiven, Reads, count_of, no_faults};
+ghost use Rattle.script_runner.specs.Outside.{HasPartRisen, IsGiven, Reads, count_of, no_faults};
 
 use crate::calls::Calls;
-use crate::outside::{Failed, Inputs, Part};
 use crate::told::ReadsTold;
 use cell_units::Text;
+use script_runner::{Failed, Inputs, Part};
 use std::fs;
 use std::io::Read;
 use std::rt::Files;
@@ -82,12 +82,22 @@ fn copy_from(bytes: &[u8], at: u64, room: &mut [u8]) -> usize
 }
 
 /// Inputs in memory, of which the calls of some numbers fail. Calls are counted from 1.
-#[derive(Drop)]
 pub struct MapInputs {
     files: Vec<NamedBytes>,
     calls: Calls,
     faults: FaultCounts,
     reads: ReadsTold,
+}
+
+impl Drop for MapInputs {
+    fn drop(self) {
+        let MapInputs {
+            files: _,
+            calls: _,
+            faults: _,
+            reads: _,
+        } = self;
+    }
 }
 
 impl MapInputs {
@@ -178,10 +188,15 @@ impl Inputs for MapInputs {
 }
 
 /// Inputs in memory that never fail. A name that isn't there is empty.
-#[derive(Drop)]
 pub struct SureInputs {
     files: Vec<NamedBytes>,
     reads: ReadsTold,
+}
+
+impl Drop for SureInputs {
+    fn drop(self) {
+        let SureInputs { files: _, reads: _ } = self;
+    }
 }
 
 impl SureInputs {

@@ -9,28 +9,20 @@
 
 mod beside;
 mod calls;
-mod carets;
 mod ended;
 mod inputs;
 pub mod limits;
-mod outside;
 mod read;
-mod runner;
 mod say;
-mod script;
-mod settling;
 mod sinks;
-mod stop;
 mod summary;
-mod tally;
 mod told;
 mod top;
 mod watch;
-mod write;
 
 pub use ended::{Ended, Note};
 pub use inputs::{FileInputs, MapInputs, NamedBytes, SureInputs};
-pub use outside::{Failed, Inputs, Part, Sink};
+pub use script_runner::{Failed, Inputs, Part, Sink};
 pub use sinks::{ListSink, StreamSink, SureSink};
 pub use told::ReadsTold;
 pub use top::{give_up, program, run};

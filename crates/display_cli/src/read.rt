@@ -1,10 +1,9 @@
 //! Reading the text and the script.
-ghost use Rattle.std.specs.Prelude.{◌≡◌, ◌+◌, ◌<◌, ◌≤◌, ◌^◌, ℕ, List, length, take, IfOk, OnOk, IfErr, OnErr, IfSome};
-ghost use Rattle.display_cli.specs.Outside.{AreTold, count_between};
+ghost use Rattle.std.specs.Prelude.{◌≡◌, ◌+◌, ◌<◌, ◌≤◌, ◌^◌, ℕ, length, IfOk, OnOk, IfErr};
+ghost use Rattle.script_runner.specs.Outside.{AreTold, count_between};
 ghost use Rattle.display_cli.specs.inside.Reading.{HasFront, IsWholeWithin, IsUnread, ReadsOnce, ReadsName};
 
-use crate::outside::{Failed, Inputs, Part};
-use cell_units::NoMemory;
+use script_runner::{Failed, Inputs, Part};
 use std::alloc::{AllocError, Global};
 
 /// How many bytes are asked for at a time.

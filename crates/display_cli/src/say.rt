@@ -1,12 +1,11 @@
 //! What is said of the end of a run.
 ghost use Rattle.std.specs.Prelude.{◌≡◌, ◌≤◌, ◌++◌, OnOk, OnErr};
 ghost use Rattle.display_cli.specs.Notes.{note_line, IsParted};
-ghost use Rattle.display_cli.specs.Outside.{HasRisen, Takes, TakesFront};
+ghost use Rattle.script_runner.specs.Outside.{HasRisen, Takes, TakesFront};
 
 use crate::ended::Note;
-use crate::outside::{Failed, Sink};
-use crate::write::write_piece;
 use itoa::Buffer;
+use script_runner::{Failed, Sink, write_piece};
 
 /// The line of a note in two parts, with a number between them where the note has one.
 fn line_parts(note: &Note) -> (&'static [u8], &'static [u8])

@@ -1,22 +1,32 @@
 //! Sinks: over a list in memory, over nothing but what contracts see, and over a writer.
-ghost use Rattle.std.specs.Prelude.{◌≡◌, ◌++◌, ◌<◌, ◌≤◌, false, [], Some, Ok, length, take, IfOk, OnOk, OnErr};
+ghost use Rattle.std.specs.Prelude.{◌≡◌, ◌++◌, ◌<◌, ◌≤◌, false, [], Ok, length, take, IfOk, OnOk, OnErr};
 ghost use Rattle.display_cli.specs.inside.Calls.{is_failing, one_more};
 ghost use Rattle.display_cli.specs.inside.Named.{list_state};
 ghost use Rattle.display_cli.specs.Telling.{bytes_told};
-ghost use Rattle.display_cli.specs.Outside.{SinkState, Takes, Refuses, nowhere};
+ghost use Rattle.script_runner.specs.Outside.{Takes, Refuses, nowhere};
 
 use crate::calls::Calls;
-use crate::outside::{Failed, Sink};
 use crate::told::Told;
+use script_runner::{Failed, Sink};
 use std::alloc::Global;
 use std::io::Write;
 
 /// A sink in memory that takes each piece whole, and of which the calls of some numbers fail. Calls are counted from 1.
-#[derive(Debug, Drop)]
+#[derive(Debug)]
 pub struct ListSink {
     taken: Vec<u8>,
     calls: Calls,
     faults: u64,
+}
+
+impl Drop for ListSink {
+    fn drop(self) {
+        let ListSink {
+            taken: _,
+            calls: _,
+            faults: _,
+        } = self;
+    }
 }
 
 impl ListSink {

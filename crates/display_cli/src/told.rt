@@ -2,7 +2,7 @@
 ghost use Rattle.std.specs.Prelude.{◌≡◌, [], ◌∷◌, ◌++◌};
 ghost use Rattle.display_cli.specs.Telling.{bytes_told, reads_told};
 
-use crate::outside::Part;
+use script_runner::Part;
 use std::snapshot::Snapshot;
 
 /// A list of bytes of which the last one is kept. Those before it are a snapshot, which has no bytes of its own: contracts

@@ -1,28 +1,24 @@
 //! The top calls: the run of a script, and the program that says how its run ended.
-ghost use Rattle.std.specs.Prelude.{◌≡◌, ◌≢◌, ◌≤◌, ◌↔◌, ℕ, true, ◌<◌, [], length, map, None, Some, IfOk, IfErr, IfSome, OnOk, vec_len};
-ghost use Rattle.display_map.specs.Events.{event_limit};
+ghost use Rattle.std.specs.Prelude.{◌≡◌, ◌≢◌, ◌≤◌, ◌↔◌, ℕ, true, ◌<◌, [], length, None, Some, IfOk, IfErr, OnOk, vec_len};
 ghost use Rattle.display_map.specs.LawfulStates.{IsLawfulHistory};
 ghost use Rattle.command_line.specs.Words.{IsWithinLimits, plan_of};
 ghost use Rattle.display_cli.specs.declared.ended.Note.TheVariants as notes;
-ghost use Rattle.display_cli.specs.declared.outside.Part.TheVariants as parts;
-ghost use Rattle.display_cli.specs.Outside.{HasRisen, InputState, count_between};
-ghost use Rattle.display_cli.specs.Legal.{history_of};
-ghost use Rattle.display_cli.specs.Ended.{HasStatus, run_of, IsRefused, IsEndedAs, ReadsInOrder, HasReadsPassed, IsRun, IsRunOfWords, Says, IsProgram, note_without_words};
+ghost use Rattle.script_runner.specs.declared.outside.Part.TheVariants as parts;
+ghost use Rattle.script_runner.specs.Outside.{InputState, count_between};
+ghost use Rattle.script_runner.specs.Legal.{history_of};
+ghost use Rattle.display_cli.specs.Ended.{HasStatus, run_of, IsEndedAs, ReadsInOrder, HasReadsPassed, IsRunOfWords, Says, IsProgram, note_without_words};
 ghost use Rattle.display_cli.specs.inside.Opening.{IsOpenedOn, IsStartRefused, IsTextUnread, IsScript, IsScriptUnread, IsNoteOf, EndsWatch, HasRunOn, SeeLast, note_of, seen_by};
-ghost use Rattle.display_cli.specs.inside.Going.{IsReady};
-ghost use Rattle.display_cli.specs.inside.Left.{AreBoards, HasLeft, HasLeftBy, board_of, boards_of};
+ghost use Rattle.script_runner.specs.Going.{IsReady};
+ghost use Rattle.display_cli.specs.inside.Left.{AreBoards, AreWatchers, HasLeft, HasLeftBy, IsUnplayed, board_of, boards_of};
 ghost use Rattle.display_cli.specs.inside.Reading.{ReadsName};
 
 use crate::beside::{Left, play_with};
 use crate::ended::{Ended, Note};
 use crate::limits::SCRIPT_LIMIT;
-use crate::outside::{Inputs, Part, Sink};
 use crate::read::{Unread, read_whole};
 use crate::say::say;
 use crate::sinks::SureSink;
-use crate::stop::Stop;
 use crate::summary::report;
-use crate::tally::Tally;
 use crate::watch::write_watched;
 use board_watch::{Watched, Watcher, end_all, give_up_all, watchers};
 use cell_units::limits::TEXT_LIMIT;
@@ -31,6 +27,7 @@ use command_line::{Plan, read_words};
 use display_map::{Display, Journal};
 use generated_input::made;
 use live_display::{Opened, open};
+use script_runner::{Inputs, Part, Sink, Stop, Tally};
 use std::alloc::Global;
 use std::io::ErrorKind;
 use std::sync::Wait;
@@ -228,18 +225,13 @@ fn play_opened<R: Threads + Wait + Sync, G: Gate + Sync, K: Sink>(
 ) -> (Left, Vec<Watcher>)
     // The owner is ready, its journal has room, and each reader is one of its board.
     requires ready { IsReady opened.owner }
-    requires room { length opened.owner.display.events < event_limit }
-    requires readers { AreBoards (board_of opened.owner.writer)
-        (map (λ reader. reader.board) opened.readers.items) }
+    requires unplayed { IsUnplayed opened }
 
     // The script is played on the same board, with its answers written, or the play stopped.
     ensures left { HasLeft script.now opened.owner (K.state out.old) (K.state out.new) result.0 }
 
-    // The watchers look at that board. There is one for each reader, or fewer where the play stopped.
-    ensures team { AreBoards (board_of result.0.writer)
-        (boards_of result.1.items) }
-    ensures few { vec_len result.1 ≤ vec_len opened.readers }
-    ensures all { OnOk result.0.played (vec_len result.1 ≡ vec_len opened.readers) }
+    // The watchers look at that board, one for each reader, or fewer where the play stopped.
+    ensures team { AreWatchers opened result.0 result.1 }
 {
     let Opened {
         owner,
@@ -274,19 +266,14 @@ fn play_made<R: Threads + Wait + Sync, G: Gate + Sync, K: Sink>(
 ) -> (Left, Vec<Watcher>)
     // The owner is ready, its journal has room, and each reader is one of its board.
     requires ready { IsReady opened.owner }
-    requires room { length opened.owner.display.events < event_limit }
-    requires readers { AreBoards (board_of opened.owner.writer)
-        (map (λ reader. reader.board) opened.readers.items) }
+    requires unplayed { IsUnplayed opened }
 
     // The script is played on the same board, with its summary written, or the play stopped, whatever the number.
     ensures left { (number : ℕ) → HasLeftBy (Some number) script.now opened.owner
         (K.state out.old) (K.state out.new) result.0 }
 
-    // The watchers look at that board. There is one for each reader, or fewer where the play stopped.
-    ensures team { AreBoards (board_of result.0.writer)
-        (boards_of result.1.items) }
-    ensures few { vec_len result.1 ≤ vec_len opened.readers }
-    ensures all { OnOk result.0.played (vec_len result.1 ≡ vec_len opened.readers) }
+    // The watchers look at that board, one for each reader, or fewer where the play stopped.
+    ensures team { AreWatchers opened result.0 result.1 }
 {
     let alloc = opened.owner.alloc;
     let mut nowhere = SureSink::new();
@@ -316,19 +303,14 @@ fn play_plan<R: Threads + Wait + Sync, G: Gate + Sync, K: Sink>(
 ) -> (Left, Vec<Watcher>)
     // The owner is ready, its journal has room, and each reader is one of its board.
     requires ready { IsReady opened.owner }
-    requires room { length opened.owner.display.events < event_limit }
-    requires readers { AreBoards (board_of opened.owner.writer)
-        (map (λ reader. reader.board) opened.readers.items) }
+    requires unplayed { IsUnplayed opened }
 
     // The script is played on the same board, with its answers or their summary written, or the play stopped.
     ensures left { HasLeftBy plan.now.make script.now opened.owner
         (K.state out.old) (K.state out.new) result.0 }
 
-    // The watchers look at that board. There is one for each reader, or fewer where the play stopped.
-    ensures team { AreBoards (board_of result.0.writer)
-        (boards_of result.1.items) }
-    ensures few { vec_len result.1 ≤ vec_len opened.readers }
-    ensures all { OnOk result.0.played (vec_len result.1 ≡ vec_len opened.readers) }
+    // The watchers look at that board, one for each reader, or fewer where the play stopped.
+    ensures team { AreWatchers opened result.0 result.1 }
 {
     match plan.make {
         Some(_) => play_made(rt, gate, script, opened, out),
@@ -341,6 +323,7 @@ fn journal_of(display: Display) -> Journal
     ensures journal { result ≡ display.events }
     ensures lawful { IsLawfulHistory display }
 {
+    // For the prover: the display's history is lawful.
     display.lawful();
     display.into_journal()
 }
@@ -465,13 +448,16 @@ fn run_plan<R: Threads + Wait + Sync, I: Inputs, K: Sink, G: Gate + Sync>(
 /// sink, line by line. The text is read whole and judged, its length first and then its bytes, before the script is read.
 /// With `--make` text and script are made, nothing is read, and one line is in place of the answers.
 ///
-/// `Ended` says how the run ended, and holds the history of its display:
+/// `Ended` says how the run ended, by a note and its status, and holds the history of its display:
 ///
-/// - `Fine`, with the status 0, or 1 where a line was refused: all was read, done and written;
-/// - `Usage`: the words have no reading. Nothing is read or written;
-/// - `ReadText`, `ReadScript`: a read failed; `Write`: a write failed, and a prefix of the output was written;
-/// - `TextTooLong`, `TextNotUtf8`, `ScriptTooLong`: what was read isn't accepted, and nothing is written;
-/// - `JournalFull`: the journal has no room for the next line of the script; `Memory`: there was no memory.
+/// - `Fine`, status 0, or 1 where a line was refused: all was read, done and written;
+/// - `Usage`, status 2: the words have no reading. Nothing is read or written;
+/// - `ReadText`, `ReadScript`, status 3: a read failed;
+/// - `Write`, status 4: a write failed, and a prefix of the output was written;
+/// - `TextTooLong` (33,554,432 bytes are the most), `TextNotUtf8`, `ScriptTooLong` (16,777,216 bytes are the most), status 5:
+///   what was read isn't accepted, and nothing is written;
+/// - `Memory`, status 6: there was no memory;
+/// - `JournalFull`, status 7: the journal has no room for the next line of the script.
 pub fn run<R: Threads + Wait + Sync, I: Inputs + Send, K: Sink + Send, G: Gate + Sync>(
     rt: &R,
     alloc: Global,
@@ -506,7 +492,8 @@ fn note_without_words(kind: ErrorKind) -> Note
     }
 }
 
-/// Says on `err` why there are no words, for an error of this kind, and returns the status of that.
+/// Says on `err` why there are no words, for an error of this kind, and returns the status of that: 2 for words that aren't
+/// text, and else 6.
 pub fn give_up<E: Sink>(kind: ErrorKind, err: &mut E) -> u8
     ensures said { Says (note_without_words kind) (E.state err.old) (E.state err.new) }
     ensures status { HasStatus (note_without_words kind) result }
@@ -516,8 +503,8 @@ pub fn give_up<E: Sink>(kind: ErrorKind, err: &mut E) -> u8
     status_of(note)
 }
 
-/// Runs the program on its words, says on `err` why its run ended before its script did, and returns the status of the
-/// run. Where `err` fails too, there is nobody to tell.
+/// Runs the program on its words, says on `err` in one line why its run ended before its script did, and returns the status
+/// of the run, as `run` gives it: 0 or 1 where all was done, and 2 to 7 else. Where `err` fails too, there is nobody to tell.
 pub fn program<R: Threads + Wait + Sync, I: Inputs + Send, K: Sink + Send, E: Sink, G: Gate + Sync>(
     rt: &R,
     alloc: Global,

@@ -1,14 +1,12 @@
 //! The lines of what watchers saw.
 ghost use Rattle.std.specs.Prelude.{◌≡◌, IfOk, IfErr, OnOk, map};
-ghost use Rattle.display_cli.specs.Outside.{Takes};
-ghost use Rattle.display_cli.specs.Output.{printed, watch_line, watched_lines};
-ghost use Rattle.display_cli.specs.inside.Reading.{IsUnwritten};
+ghost use Rattle.script_runner.specs.Outside.{Takes};
+ghost use Rattle.script_runner.specs.Output.{printed, watch_line, watched_lines};
+ghost use Rattle.script_runner.specs.Writing.{IsUnwritten};
 
-use crate::outside::Sink;
-use crate::stop::Stop;
-use crate::write::write_line;
 use board_watch::{Seen, Watched};
 use cell_units::{NoMemory, Text};
+use script_runner::{Sink, Stop, write_line};
 use std::alloc::Global;
 
 /// The line of what the reader of this number saw of a version.

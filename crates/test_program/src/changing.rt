@@ -1,19 +1,19 @@
 //! A text or a script that changes while it is read.
 ghost use Rattle.std.specs.Prelude.{◌≡◌, ◌≤◌, length, IfOk};
 ghost use Rattle.display_cli.specs.Telling.{reads_told};
-ghost use Rattle.display_cli.specs.Outside.{HasPartRisen};
+ghost use Rattle.script_runner.specs.Outside.{HasPartRisen};
 
-use crate::runs::{Outcome, file, strings};
+use crate::runs::{Outcome, file, run_on};
 use cell_units::NoMemory;
-use display_cli::{Failed, Inputs, ListSink, MapInputs, Note, Part, ReadsTold, run};
+use display_cli::{Failed, Inputs, ListSink, MapInputs, Note, Part, ReadsTold};
 use std::alloc::Global;
+use std::process::Abort;
 use std::sync::Wait;
 use std::test::Fail;
 use std::thread::Threads;
 use wrap_workers::FreeGate;
 
 /// Inputs that are others from some call on. They tell nothing.
-#[derive(Drop)]
 struct Changing {
     before: MapInputs,
     behind: MapInputs,
@@ -21,6 +21,19 @@ struct Changing {
     text_faults: u64,
     script_faults: u64,
     reads: ReadsTold,
+}
+
+impl Drop for Changing {
+    fn drop(self) {
+        let Changing {
+            before: _,
+            behind: _,
+            calls_before: _,
+            text_faults: _,
+            script_faults: _,
+            reads: _,
+        } = self;
+    }
 }
 
 impl Changing {
@@ -125,15 +138,8 @@ fn run_row<R: Threads + Wait + Sync>(
     let behind = inputs(alloc, row.text, row.script)?;
     let mut changing = Changing::new(before, behind, row.reads);
     let mut out = ListSink::new(alloc, Vec::new(alloc));
-    let words = strings(alloc, &["a", "b", "--workers", "2"])?;
-    let ended = run(
-        rt,
-        alloc,
-        words.as_slice(),
-        &mut changing,
-        &mut out,
-        &FreeGate,
-    );
+    let words = ["a", "b", "--workers", "2"];
+    let ended = run_on(rt, alloc, &words, &mut changing, &mut out, &FreeGate)?;
     Ok(Outcome { ended, out })
 }
 
@@ -200,18 +206,24 @@ const ROWS: [Row<'static>; 7] = [
     },
 ];
 
+/// Asserts that a run ended as the row says.
+fn assert_row(rt: &impl Abort, outcome: &Outcome, row: &Row) {
+    let status = if row.note == Note::Fine { 0 } else { 3 };
+    let ended = (outcome.ended.note, outcome.ended.status);
+    assert_eq!(rt; ended, (row.note, status), "{}", row.shows);
+    assert_eq!(rt;
+        outcome.out.taken(),
+        row.written.as_bytes(),
+        "{}",
+        row.shows
+    );
+}
+
 #[test]
 fn a_text_and_a_script_may_change_while_they_are_read(rt: HostRuntime) -> Result<(), Fail> {
     for row in &ROWS {
-        let Outcome { ended, out } = run_row(&rt, rt.alloc(), row)?;
-        let status = if row.note == Note::Fine { 0 } else { 3 };
-        assert_eq!(rt;
-            (ended.note, ended.status),
-            (row.note, status),
-            "{}",
-            row.shows
-        );
-        assert_eq!(rt; out.taken(), row.written.as_bytes(), "{}", row.shows);
+        let outcome = run_row(&rt, rt.alloc(), row)?;
+        assert_row(&rt, &outcome, row);
     }
     Ok(())
 }

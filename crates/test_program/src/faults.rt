@@ -2,10 +2,11 @@
 //! written is a front of the output, and each run ends.
 ghost use Rattle.std.specs.Prelude.{◌≡◌};
 
-use crate::runs::{Outcome, inputs_of, run_failing, strings};
+use crate::runs::{Outcome, assert_end, inputs_of, run_failing, run_on};
 use cell_units::NoMemory;
-use display_cli::{Failed, Note, Sink, run};
+use display_cli::{Failed, Note, Sink};
 use std::alloc::Global;
+use std::process::Abort;
 use std::sync::Wait;
 use std::test::Fail;
 use std::thread::Threads;
@@ -58,11 +59,6 @@ fn play<R: Threads + Wait + Sync>(
     )
 }
 
-/// The note of a run and its status.
-fn end_of(outcome: &Outcome) -> (Note, u8) {
-    (outcome.ended.note, outcome.ended.status)
-}
-
 #[test]
 fn each_read_may_fail(rt: HostRuntime) -> Result<(), Fail> {
     let alloc = rt.alloc();
@@ -76,13 +72,27 @@ fn each_read_may_fail(rt: HostRuntime) -> Result<(), Fail> {
         (5, Note::ReadScript),
     ] {
         let outcome = play(&rt, alloc, text.as_str(), &[read], &[])?;
-        assert_eq!(rt; end_of(&outcome), (note, 3));
-        assert!(rt; outcome.out.taken().is_empty());
+        assert_end(&rt, &outcome, (note, 3), b"");
         assert!(rt; outcome.ended.watched.is_empty());
     }
     let outcome = play(&rt, alloc, text.as_str(), &[6], &[])?;
-    assert_eq!(rt; end_of(&outcome), (Note::Fine, 1));
+    assert_eq!(rt; (outcome.ended.note, outcome.ended.status), (Note::Fine, 1));
     Ok(())
+}
+
+/// Asserts that a run whose write failed had written this, and gives what each watcher saw so far.
+fn assert_unwritten(rt: &impl Abort, outcome: &Outcome, written: &[u8]) {
+    assert_end(rt, outcome, (Note::Write, 4), written);
+    assert_eq!(rt; outcome.ended.watched.len(), 2);
+}
+
+/// Asserts that a run whose first watch line was written stopped at the next one.
+fn assert_watch_cut(rt: &impl Abort, outcome: &Outcome, before: &[u8]) {
+    assert_eq!(rt;
+        (outcome.ended.note, outcome.ended.status),
+        (Note::Write, 4)
+    );
+    assert!(rt; outcome.out.taken().starts_with(before));
 }
 
 #[test]
@@ -91,15 +101,11 @@ fn each_write_may_fail(rt: HostRuntime) -> Result<(), Fail> {
     // Each line is one write, and behind those of the script each watcher has one at least.
     for (write, whole) in [(1, 0), (2, 1), (3, 2), (4, 3), (5, 4), (6, 5)] {
         let outcome = play(&rt, alloc, LINE, &[], &[write])?;
-        assert_eq!(rt; end_of(&outcome), (Note::Write, 4));
-        assert_eq!(rt; outcome.out.taken(), front(alloc, whole)?.as_bytes());
-        // What each watcher saw so far is given.
-        assert_eq!(rt; outcome.ended.watched.len(), 2);
+        assert_unwritten(&rt, &outcome, front(alloc, whole)?.as_bytes());
     }
     let outcome = play(&rt, alloc, LINE, &[], &[7])?;
-    assert_eq!(rt; end_of(&outcome), (Note::Write, 4));
-    let watched = format!(in alloc; "{}watch 0 ", front(alloc, 5)?)?;
-    assert!(rt; outcome.out.taken().starts_with(watched.as_bytes()));
+    let before = format!(in alloc; "{}watch 0 ", front(alloc, 5)?)?;
+    assert_watch_cut(&rt, &outcome, before.as_bytes());
     Ok(())
 }
 
@@ -153,17 +159,18 @@ fn sipped<R: Threads + Wait + Sync>(
         left,
         faults: 0,
     };
-    let words = strings(alloc, &["a", "b", "--workers", "2"])?;
-    let ended = run(
-        rt,
-        alloc,
-        words.as_slice(),
-        &mut inputs,
-        &mut out,
-        &FreeGate,
-    );
+    let words = ["a", "b", "--workers", "2"];
+    let status = run_on(rt, alloc, &words, &mut inputs, &mut out, &FreeGate)?.status;
     let Sips { taken, .. } = out;
-    Ok((ended.status, taken))
+    Ok((status, taken))
+}
+
+/// Asserts that a sink with room for so many bytes took the first of what is written, and that the run stopped where it
+/// wasn't all.
+fn assert_sipped(rt: &impl Abort, status: u8, taken: &[u8], left: usize, written: &[u8]) {
+    assert_eq!(rt; status, if left == written.len() { 1 } else { 4 });
+    assert_eq!(rt; taken.len(), left);
+    assert!(rt; written.starts_with(taken));
 }
 
 #[test]
@@ -172,9 +179,7 @@ fn a_sink_may_take_one_byte_at_a_time_and_fail_behind_each(rt: HostRuntime) -> R
     let written = front(alloc, 5)?;
     for left in 0..=written.len() {
         let (status, taken) = sipped(&rt, alloc, left)?;
-        assert_eq!(rt; status, if left == written.len() { 1 } else { 4 });
-        assert_eq!(rt; taken.len(), left);
-        assert!(rt; written.as_bytes().starts_with(taken.as_slice()));
+        assert_sipped(&rt, status, taken.as_slice(), left, written.as_bytes());
     }
     Ok(())
 }

@@ -1,6 +1,7 @@
 //! Runs whose text and script are made from a number.
-use crate::runs::{Outcome, run_words};
+use crate::runs::{Outcome, assert_end, run_words};
 use cell_units::NoMemory;
+use display_cli::Note;
 use std::alloc::Global;
 use std::process::Abort;
 use std::sync::Wait;
@@ -19,9 +20,8 @@ fn expect_seven<R: Abort + Threads + Wait + Sync>(
     workers: &str,
 ) -> Result<(), NoMemory> {
     let words = ["--make", "7", "--workers", workers];
-    let Outcome { ended, out } = run_words(rt, alloc, &words, b"", b"", &FreeGate)?;
-    assert_eq!(rt; ended.status, 0);
-    assert_eq!(rt; out.taken(), SEVEN);
+    let outcome = run_words(rt, alloc, &words, b"", b"", &FreeGate)?;
+    assert_end(rt, &outcome, (Note::Fine, 0), SEVEN);
     Ok(())
 }
 
@@ -43,19 +43,22 @@ fn a_made_run_with_eight_workers_writes_the_same_line(rt: HostRuntime) -> Result
     Ok(())
 }
 
-#[test]
-fn watch_lines_stand_behind_the_line_of_a_made_run(rt: HostRuntime) -> Result<(), Fail> {
-    let alloc = rt.alloc();
-    let words = ["--make", "7", "--watch", "1"];
-    let Outcome { ended, out } = run_words(&rt, alloc, &words, b"", b"", &FreeGate)?;
-    assert_eq!(rt; ended.status, 0);
-    let taken = out.taken();
-    assert!(rt; taken.starts_with(SEVEN));
-    // The watcher saw the last version last, with all the rows that the line names.
-    assert!(rt; taken.ends_with(b" 36993\n"));
-    assert_eq!(rt; ended.watched.len(), 1);
-    for watched in &ended.watched {
+/// Asserts that a run of number 7 wrote its line, and then what its watcher saw: the last version last, with all the rows that
+/// the line names.
+fn assert_watched(rt: &impl Abort, outcome: &Outcome) {
+    assert_eq!(rt; outcome.ended.status, 0);
+    assert!(rt; outcome.out.taken().starts_with(SEVEN));
+    assert!(rt; outcome.out.taken().ends_with(b" 36993\n"));
+    assert_eq!(rt; outcome.ended.watched.len(), 1);
+    for watched in &outcome.ended.watched {
         assert_eq!(rt; watched.seen.last().map(|seen| seen.rows), Some(36_993));
     }
+}
+
+#[test]
+fn watch_lines_stand_behind_the_line_of_a_made_run(rt: HostRuntime) -> Result<(), Fail> {
+    let words = ["--make", "7", "--watch", "1"];
+    let outcome = run_words(&rt, rt.alloc(), &words, b"", b"", &FreeGate)?;
+    assert_watched(&rt, &outcome);
     Ok(())
 }

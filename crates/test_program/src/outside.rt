@@ -1,13 +1,14 @@
 //! What is read, what is written, and faults of both.
-use crate::runs::{file, inputs_of, run_of, strings};
+use crate::runs::{Outcome, assert_end, file, inputs_of, run_of, run_on, strings};
 use cell_units::NoMemory;
 use display_cli::{
     FileInputs, Inputs, ListSink, MapInputs, Note, Part, Sink, StreamSink, SureInputs, SureSink,
-    program, run,
+    program,
 };
 use std::alloc::Global;
 use std::fs;
 use std::io::{Error, ErrorKind, Write};
+use std::process::Abort;
 use std::sync::Wait;
 use std::test::Fail;
 use std::thread::Threads;
@@ -25,11 +26,22 @@ fn what_is_read_is_judged_by_its_limits(rt: HostRuntime) -> Result<(), Fail> {
     ];
     for (text, script, note) in table {
         let outcome = run_of(&rt, alloc, text, script, &[], &[])?;
-        assert_eq!(rt; outcome.ended.note, note);
-        assert_eq!(rt; outcome.ended.status, 5);
-        assert!(rt; outcome.out.taken().is_empty());
+        assert_end(&rt, &outcome, (note, 5), b"");
     }
     Ok(())
+}
+
+/// A line of 63 letters.
+const LINE: &str = "abcdefghijklmnopqrstuvwxyzabcdefghijklmnopqrstuvwxyzabcdefghijk";
+
+/// A text of that line as often as the limit of a text allows, which leaves an empty last line.
+fn longest_text(alloc: Global) -> Result<Vec<u8>, NoMemory> {
+    let mut text = Vec::new(alloc);
+    for _ in 0..524_288u32 {
+        text.extend_from_slice(LINE.as_bytes())?;
+        text.push(b'\n')?;
+    }
+    Ok(text)
 }
 
 #[test]
@@ -37,34 +49,33 @@ fn a_text_of_just_the_limit_is_accepted_and_no_edit_goes_past_it(
     rt: HostRuntime,
 ) -> Result<(), Fail> {
     let alloc = rt.alloc();
-    let line = "abcdefghijklmnopqrstuvwxyzabcdefghijklmnopqrstuvwxyzabcdefghijk";
-    let mut text = Vec::new(alloc);
-    for _ in 0..524_288u32 {
-        text.extend_from_slice(line.as_bytes())?;
-        text.push(b'\n')?;
-    }
+    let text = longest_text(alloc)?;
     assert_eq!(rt; text.len(), 33_554_432);
     let script = br#"{"width":0}
 {"rows":[524287,9]}
 {"edit":[[0,0,"x"]]}
 {"rows":[0,1]}"#;
+    let written = format!(in alloc; "524287 t|{LINE}\n524288 t|\n! 5\n0 t|{LINE}\n")?;
     let outcome = run_of(&rt, alloc, text.as_slice(), script, &[], &[])?;
-    let written = format!(in alloc; "524287 t|{line}\n524288 t|\n! 5\n0 t|{line}\n")?;
-    assert_eq!(rt; outcome.out.taken(), written.as_bytes());
-    assert_eq!(rt; outcome.ended.status, 1);
+    assert_end(&rt, &outcome, (Note::Fine, 1), written.as_bytes());
     Ok(())
+}
+
+/// A script of just the limit of a script: blank lines, and a question at its end.
+fn longest_script(alloc: Global) -> Result<Vec<u8>, NoMemory> {
+    let query = br#"{"rows":[0,1]}"#;
+    let mut script = vec![in alloc; b'\n'; 16_777_216 - query.len()]?;
+    script.extend_from_slice(query)?;
+    Ok(script)
 }
 
 #[test]
 fn a_script_of_just_the_limit_is_read(rt: HostRuntime) -> Result<(), Fail> {
     let alloc = rt.alloc();
-    let query = br#"{"rows":[0,1]}"#;
-    let mut script = vec![in alloc; b'\n'; 16_777_216 - query.len()]?;
-    script.extend_from_slice(query)?;
+    let script = longest_script(alloc)?;
     assert_eq!(rt; script.len(), 16_777_216);
     let outcome = run_of(&rt, alloc, b"abc", script.as_slice(), &[], &[])?;
-    assert_eq!(rt; outcome.out.taken(), b"0 t|abc\n".as_slice());
-    assert_eq!(rt; outcome.ended.status, 0);
+    assert_end(&rt, &outcome, (Note::Fine, 0), b"0 t|abc\n");
     Ok(())
 }
 
@@ -81,36 +92,56 @@ fn a_fault_outside_ends_the_run(rt: HostRuntime) -> Result<(), Fail> {
     ];
     for (reads, writes, note, status, written) in table {
         let outcome = run_of(&rt, alloc, b"a\nb", script, reads, writes)?;
-        assert_eq!(rt; outcome.ended.note, note);
-        assert_eq!(rt; outcome.ended.status, status);
-        assert_eq!(rt; outcome.out.taken(), written.as_bytes());
+        assert_end(&rt, &outcome, (note, status), written.as_bytes());
     }
     Ok(())
 }
 
-/// Runs the program on words, with the text `a`, the text `c` that isn't UTF-8, and no `b`. Answers its status and what it says.
-fn said<R: Threads + Wait + Sync>(
+/// The status of the program, what it wrote, and what it said.
+struct Said {
+    status: u8,
+    out: ListSink,
+    err: ListSink,
+}
+
+impl Drop for Said {
+    fn drop(self) {
+        let Said {
+            status: _,
+            out: _,
+            err: _,
+        } = self;
+    }
+}
+
+/// Runs the program on words, over these inputs.
+fn run_program<R: Threads + Wait + Sync>(
     rt: &R,
     alloc: Global,
     words: &[&str],
-) -> Result<(u8, ListSink), NoMemory> {
+    inputs: &mut MapInputs,
+) -> Result<Said, NoMemory> {
+    let words = strings(alloc, words)?;
+    let mut out = ListSink::new(alloc, Vec::new(alloc));
+    let mut err = ListSink::new(alloc, Vec::new(alloc));
+    let words = words.as_slice();
+    let status = program(rt, alloc, words, inputs, &mut out, &mut err, &FreeGate);
+    Ok(Said { status, out, err })
+}
+
+/// Asserts that the program ended with this status, and wrote and said this.
+fn assert_said(rt: &impl Abort, said: &Said, status: u8, written: &str, line: &str) {
+    assert_eq!(rt; said.status, status, "{line}");
+    assert_eq!(rt; said.out.taken(), written.as_bytes());
+    assert_eq!(rt; said.err.taken(), line.as_bytes());
+}
+
+/// Inputs with the text `a`, the text `c` that isn't UTF-8, and no `b`.
+fn two_texts(alloc: Global) -> Result<MapInputs, NoMemory> {
     let mut files = Vec::new(alloc);
     files.push(file(alloc, "a", b"a")?)?;
     files.push(file(alloc, "c", b"abc\xff")?)?;
-    let mut inputs = MapInputs::new(files, Vec::new(alloc));
-    let mut out = ListSink::new(alloc, Vec::new(alloc));
-    let mut err = ListSink::new(alloc, Vec::new(alloc));
-    let words = strings(alloc, words)?;
-    let status = program(
-        rt,
-        alloc,
-        words.as_slice(),
-        &mut inputs,
-        &mut out,
-        &mut err,
-        &FreeGate,
-    );
-    Ok((status, err))
+    Ok(MapInputs::new(files, Vec::new(alloc)))
 }
 
 #[test]
@@ -127,9 +158,9 @@ fn the_program_says_why_its_run_ended(rt: HostRuntime) -> Result<(), Fail> {
         ),
     ];
     for (words, status, line) in table {
-        let (ended, err) = said(&rt, rt.alloc(), words)?;
-        assert_eq!(rt; ended, status, "{line}");
-        assert_eq!(rt; err.taken(), line.as_bytes());
+        let mut inputs = two_texts(rt.alloc())?;
+        let said = run_program(&rt, rt.alloc(), words, &mut inputs)?;
+        assert_said(&rt, &said, status, "", line);
     }
     Ok(())
 }
@@ -140,41 +171,25 @@ fn a_program_with_a_refused_line_says_nothing_and_ends_with_status_1(
 ) -> Result<(), Fail> {
     let alloc = rt.alloc();
     let mut inputs = inputs_of(alloc, b"a", b"{}", &[])?;
-    let mut out = ListSink::new(alloc, Vec::new(alloc));
-    let mut err = ListSink::new(alloc, Vec::new(alloc));
-    let words = strings(alloc, &["a", "b"])?;
-    let status = program(
-        &rt,
-        alloc,
-        words.as_slice(),
-        &mut inputs,
-        &mut out,
-        &mut err,
-        &FreeGate,
-    );
-    assert_eq!(rt; status, 1);
-    assert_eq!(rt; out.taken(), b"! 1\n".as_slice());
-    assert!(rt; err.taken().is_empty());
+    let said = run_program(&rt, alloc, &["a", "b"], &mut inputs)?;
+    assert_said(&rt, &said, 1, "! 1\n", "");
     Ok(())
+}
+
+/// Sure inputs with the text `abc` and a question.
+fn sure_inputs(alloc: Global) -> Result<SureInputs, NoMemory> {
+    let mut files = Vec::new(alloc);
+    files.push(file(alloc, "a", b"abc")?)?;
+    files.push(file(alloc, "b", br#"{"rows":[0,1]}"#)?)?;
+    Ok(SureInputs::new(files))
 }
 
 #[test]
 fn nothing_fails_over_sure_inputs_and_a_sure_sink(rt: HostRuntime) -> Result<(), Fail> {
     let alloc = rt.alloc();
-    let mut files = Vec::new(alloc);
-    files.push(file(alloc, "a", b"abc")?)?;
-    files.push(file(alloc, "b", br#"{"rows":[0,1]}"#)?)?;
-    let mut inputs = SureInputs::new(files);
+    let mut inputs = sure_inputs(alloc)?;
     let mut out = SureSink::new();
-    let words = strings(alloc, &["a", "b"])?;
-    let ended = run(
-        &rt,
-        alloc,
-        words.as_slice(),
-        &mut inputs,
-        &mut out,
-        &FreeGate,
-    );
+    let ended = run_on(&rt, alloc, &["a", "b"], &mut inputs, &mut out, &FreeGate)?;
     assert_eq!(rt; ended.status, 0);
     Ok(())
 }
@@ -193,9 +208,20 @@ fn a_file_is_read_on_where_the_last_read_ended(rt: HostRuntime) -> Result<(), Fa
     Ok(())
 }
 
+/// Runs the files of these names.
+fn run_files<R: Threads + Wait + Sync>(
+    rt: &R,
+    alloc: Global,
+    inputs: &mut (impl Inputs + Send),
+    names: &[&str],
+) -> Result<Outcome, NoMemory> {
+    let mut out = ListSink::new(alloc, Vec::new(alloc));
+    let ended = run_on(rt, alloc, names, inputs, &mut out, &FreeGate)?;
+    Ok(Outcome { ended, out })
+}
+
 #[test]
 fn a_folder_and_a_missing_file_cannot_be_read(rt: HostRuntime) -> Result<(), Fail> {
-    let alloc = rt.alloc();
     let name = "displaymap-text.txt";
     fs::write(&rt, name, "abc")?;
     let table: [([&str; 2], Note); 3] = [
@@ -203,55 +229,38 @@ fn a_folder_and_a_missing_file_cannot_be_read(rt: HostRuntime) -> Result<(), Fai
         (["no such file", name], Note::ReadText),
         ([name, "no such file"], Note::ReadScript),
     ];
-    for (words, note) in table {
+    for (names, note) in table {
         let mut inputs = FileInputs::new(&rt);
-        let mut out = ListSink::new(alloc, Vec::new(alloc));
-        let words = strings(alloc, &words)?;
-        let ended = run(
-            &rt,
-            alloc,
-            words.as_slice(),
-            &mut inputs,
-            &mut out,
-            &FreeGate,
-        );
-        assert_eq!(rt; ended.note, note);
-        assert_eq!(rt; ended.status, 3);
-        assert!(rt; out.taken().is_empty());
+        let outcome = run_files(&rt, rt.alloc(), &mut inputs, &names)?;
+        assert_end(&rt, &outcome, (note, 3), b"");
     }
     fs::remove_file(&rt, name)?;
     Ok(())
 }
 
-/// Runs the files of these names. Answers the status, and what was written.
-fn run_files<R: Threads + Wait + Sync>(
-    rt: &R,
-    alloc: Global,
-    inputs: &mut (impl Inputs + Send),
-    names: &[&str],
-) -> Result<(u8, ListSink), NoMemory> {
-    let mut out = ListSink::new(alloc, Vec::new(alloc));
-    let words = strings(alloc, names)?;
-    let ended = run(rt, alloc, words.as_slice(), inputs, &mut out, &FreeGate);
-    Ok((ended.status, out))
+/// Twenty thousand lines of ten bytes, and one more.
+fn long_text(alloc: Global) -> Result<String, NoMemory> {
+    let lines = "abcdefghi\n".repeat(alloc, 20_000)?;
+    Ok(format!(in alloc; "{lines}the end")?)
+}
+
+/// A question behind 200,000 blank lines.
+fn long_script(alloc: Global) -> Result<String, NoMemory> {
+    let blanks = "\n".repeat(alloc, 200_000)?;
+    let query = r#"{"rows":[19999,2]}"#;
+    Ok(format!(in alloc; "{blanks}{query}")?)
 }
 
 #[test]
 fn files_of_many_reads_are_read_whole(rt: HostRuntime) -> Result<(), Fail> {
     let alloc = rt.alloc();
     let names = ["displaymap-long-text.txt", "displaymap-long-script.txt"];
-    let lines = "abcdefghi\n".repeat(alloc, 20_000)?;
-    let text = format!(in alloc; "{lines}the end")?;
-    let blanks = "\n".repeat(alloc, 200_000)?;
-    let query = r#"{"rows":[19999,2]}"#;
-    let script = format!(in alloc; "{blanks}{query}")?;
-    fs::write(&rt, names[0], text.as_str())?;
-    fs::write(&rt, names[1], script.as_str())?;
+    fs::write(&rt, names[0], long_text(alloc)?.as_str())?;
+    fs::write(&rt, names[1], long_script(alloc)?.as_str())?;
     let mut inputs = FileInputs::new(&rt);
-    let (status, out) = run_files(&rt, alloc, &mut inputs, &names)?;
-    assert_eq!(rt; status, 0);
+    let outcome = run_files(&rt, alloc, &mut inputs, &names)?;
     let written = b"19999 t|abcdefghi\n20000 t|the end\n";
-    assert_eq!(rt; out.taken(), written.as_slice());
+    assert_end(&rt, &outcome, (Note::Fine, 0), written);
     for name in names {
         fs::remove_file(&rt, name)?;
     }
@@ -282,11 +291,26 @@ impl Write for Slow {
     }
 }
 
+/// Runs a script with two answers into a writer that takes so many bytes at a call and fails after so many calls. Gives the
+/// note, and what was taken.
+fn run_slow<R: Threads + Wait + Sync>(
+    rt: &R,
+    alloc: Global,
+    most: usize,
+    calls: u32,
+) -> Result<(Note, Vec<u8>), NoMemory> {
+    let mut inputs = inputs_of(alloc, b"a\nb", br#"{"rows":[0,2]}"#, &[])?;
+    let taken = Vec::new(alloc);
+    let mut out = StreamSink::new(Slow { taken, most, calls });
+    let note = run_on(rt, alloc, &["a", "b"], &mut inputs, &mut out, &FreeGate)?.note;
+    let Slow { taken, .. } = out.into_inner();
+    Ok((note, taken))
+}
+
 #[test]
 fn a_writer_may_take_parts_and_ends_the_run_where_it_fails_or_takes_nothing(
     rt: HostRuntime,
 ) -> Result<(), Fail> {
-    let alloc = rt.alloc();
     // Each of the two lines has six bytes with its line feed: two calls of at most four bytes, or six of one.
     let table: [(usize, u32, Note, &str); 4] = [
         (4, 100, Note::Fine, "0 t|a\n1 t|b\n"),
@@ -295,20 +319,9 @@ fn a_writer_may_take_parts_and_ends_the_run_where_it_fails_or_takes_nothing(
         (0, 100, Note::Write, ""),
     ];
     for (most, calls, note, written) in table {
-        let mut inputs = inputs_of(alloc, b"a\nb", br#"{"rows":[0,2]}"#, &[])?;
-        let taken = Vec::new(alloc);
-        let mut out = StreamSink::new(Slow { taken, most, calls });
-        let words = strings(alloc, &["a", "b"])?;
-        let ended = run(
-            &rt,
-            alloc,
-            words.as_slice(),
-            &mut inputs,
-            &mut out,
-            &FreeGate,
-        );
-        assert_eq!(rt; ended.note, note);
-        assert_eq!(rt; out.into_inner().taken.as_slice(), written.as_bytes());
+        let (ended, taken) = run_slow(&rt, rt.alloc(), most, calls)?;
+        assert_eq!(rt; ended, note);
+        assert_eq!(rt; taken.as_slice(), written.as_bytes());
     }
     Ok(())
 }

@@ -1,6 +1,6 @@
 //! What the tests run, and with which inputs and sinks.
 use cell_units::{NoMemory, Text};
-use display_cli::{Ended, ListSink, MapInputs, NamedBytes, run};
+use display_cli::{Ended, Inputs, ListSink, MapInputs, NamedBytes, Note, Sink, run};
 use std::alloc::Global;
 use std::process::Abort;
 use std::sync::Wait;
@@ -8,10 +8,15 @@ use std::thread::Threads;
 use wrap_workers::{FreeGate, Gate};
 
 /// The end of a run, and what was written.
-#[derive(Drop)]
 pub(crate) struct Outcome {
     pub(crate) ended: Ended,
     pub(crate) out: ListSink,
+}
+
+impl Drop for Outcome {
+    fn drop(self) {
+        let Outcome { ended: _, out: _ } = self;
+    }
 }
 
 /// A script on a text, what it writes, and what that shows.
@@ -51,6 +56,19 @@ pub(crate) fn inputs_of(
     Ok(MapInputs::new(files, Vec::from_slice(alloc, failing)?))
 }
 
+/// Runs the words on these inputs, with the output to this sink.
+pub(crate) fn run_on<R: Threads + Wait + Sync, I: Inputs + Send, K: Sink + Send, G: Gate + Sync>(
+    rt: &R,
+    alloc: Global,
+    words: &[&str],
+    inputs: &mut I,
+    out: &mut K,
+    gate: &G,
+) -> Result<Ended, NoMemory> {
+    let words = strings(alloc, words)?;
+    Ok(run(rt, alloc, words.as_slice(), inputs, out, gate))
+}
+
 /// Runs the words on the text `a` and the script `b`, where the reads and writes of some numbers fail.
 pub(crate) fn run_failing<R: Threads + Wait + Sync, G: Gate + Sync>(
     rt: &R,
@@ -64,8 +82,7 @@ pub(crate) fn run_failing<R: Threads + Wait + Sync, G: Gate + Sync>(
 ) -> Result<Outcome, NoMemory> {
     let mut inputs = inputs_of(alloc, text, script, failing_reads)?;
     let mut out = ListSink::new(alloc, Vec::from_slice(alloc, failing_writes)?);
-    let words = strings(alloc, words)?;
-    let ended = run(rt, alloc, words.as_slice(), &mut inputs, &mut out, gate);
+    let ended = run_on(rt, alloc, words, &mut inputs, &mut out, gate)?;
     Ok(Outcome { ended, out })
 }
 
@@ -103,6 +120,25 @@ pub(crate) fn run_of<R: Threads + Wait + Sync>(
     )
 }
 
+/// Asserts that a run ended with this note and status, and wrote this.
+pub(crate) fn assert_end(
+    rt: &impl Abort,
+    outcome: &Outcome,
+    (note, status): (Note, u8),
+    written: &[u8],
+) {
+    assert_eq!(rt; (outcome.ended.note, outcome.ended.status), (note, status));
+    assert_eq!(rt; outcome.out.taken(), written);
+}
+
+/// Asserts that a run wrote what the session writes, and that its status says whether a line is refused.
+fn assert_session(rt: &impl Abort, outcome: &Outcome, session: &Session) {
+    let Session { shows, written, .. } = *session;
+    assert_eq!(rt; outcome.out.taken(), written.as_bytes(), "{shows}");
+    let refused = written.starts_with("! ") || written.contains("\n! ");
+    assert_eq!(rt; outcome.ended.status, u8::from(refused), "{shows}");
+}
+
 /// Runs each session with 1, 2 and 8 workers, and compares what is written, and whether a line is refused.
 pub(crate) fn expect<R: Abort + Threads + Wait + Sync>(
     rt: &R,
@@ -110,25 +146,11 @@ pub(crate) fn expect<R: Abort + Threads + Wait + Sync>(
     sessions: &[Session],
 ) -> Result<(), NoMemory> {
     for session in sessions {
-        let Session {
-            shows,
-            text,
-            script,
-            written,
-        } = *session;
+        let (text, script) = (session.text.as_bytes(), session.script.as_bytes());
         for workers in ["1", "2", "8"] {
             let words = ["a", "b", "--workers", workers];
-            let outcome = run_words(
-                rt,
-                alloc,
-                &words,
-                text.as_bytes(),
-                script.as_bytes(),
-                &FreeGate,
-            )?;
-            assert_eq!(rt; outcome.out.taken(), written.as_bytes(), "{shows}");
-            let refused = written.starts_with("! ") || written.contains("\n! ");
-            assert_eq!(rt; outcome.ended.status, u8::from(refused), "{shows}");
+            let outcome = run_words(rt, alloc, &words, text, script, &FreeGate)?;
+            assert_session(rt, &outcome, session);
         }
     }
     Ok(())

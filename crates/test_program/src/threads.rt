@@ -1,10 +1,11 @@
 //! Runs whose workers and watchers do their part beside the owner.
 ghost use Rattle.std.specs.Prelude.{◌≡◌};
 
-use crate::runs::{Outcome, inputs_of, run_failing, run_words, strings};
+use crate::runs::{Outcome, assert_end, inputs_of, run_failing, run_on, run_words};
 use cell_units::NoMemory;
-use display_cli::{Failed, Sink, run};
+use display_cli::{Failed, Note, Sink};
 use std::alloc::Global;
+use std::process::Abort;
 use std::sync::atomic::{AtomicU64, Ordering};
 use std::test::Fail;
 use std::thread;
@@ -170,53 +171,56 @@ fn letters(alloc: Global, lines: u32) -> Result<Vec<u8>, NoMemory> {
     Ok(text)
 }
 
+/// Asserts that nobody was held for too long.
+fn assert_met(rt: &impl Abort, holdings: &[&Holding]) {
+    for holding in holdings {
+        assert!(rt; !holding.has_run_out());
+    }
+}
+
 #[test]
 fn two_jobs_are_done_at_once_by_two_workers(rt: HostRuntime) -> Result<(), Fail> {
     let alloc = rt.alloc();
     let text = letters(alloc, 256)?;
     let gate = UntilSecondJob(Holding::new());
     let words = ["a", "b", "--workers", "2"];
-    let outcome = run_words(
-        &rt,
-        alloc,
-        &words,
-        text.as_slice(),
-        br#"{"settle":true}"#,
-        &gate,
-    )?;
-    assert_eq!(rt; outcome.ended.status, 0);
-    assert!(rt; !gate.0.has_run_out());
+    let script = br#"{"settle":true}"#;
+    let outcome = run_words(&rt, alloc, &words, text.as_slice(), script, &gate)?;
+    assert_end(&rt, &outcome, (Note::Fine, 0), b"");
+    assert_met(&rt, &[&gate.0]);
     // `Published`, two `Sent`, two `Landed` with a `Published` each, `Line` and the last `Published`.
     assert_eq!(rt; outcome.ended.history.len(), 9);
     Ok(())
 }
 
+/// Asserts that a run ended with this status, and first wrote this.
+fn assert_begins(rt: &impl Abort, outcome: &Outcome, status: u8, written: &[u8]) {
+    assert_eq!(rt; outcome.ended.status, status);
+    assert!(rt; outcome.out.taken().starts_with(written));
+}
+
 #[test]
 fn an_edit_is_done_and_seen_before_a_result_comes(rt: HostRuntime) -> Result<(), Fail> {
-    let alloc = rt.alloc();
     let gate = UntilNextVersion(Holding::new());
     let words = ["a", "b", "--workers", "1", "--watch", "1"];
     let script = br#"{"edit":[[0,0,"x"]]}
 {"rows":[0,1]}"#;
-    let outcome = run_words(&rt, alloc, &words, b"abc", script, &gate)?;
-    assert_eq!(rt; outcome.ended.status, 0);
-    assert!(rt; !gate.0.has_run_out());
-    assert!(rt; outcome.out.taken().starts_with(b"0 t|xabc\nwatch 0 "));
+    let outcome = run_words(&rt, rt.alloc(), &words, b"abc", script, &gate)?;
+    assert_begins(&rt, &outcome, 0, b"0 t|xabc\nwatch 0 ");
+    assert_met(&rt, &[&gate.0]);
     Ok(())
 }
 
 #[test]
 fn a_refused_query_waits_for_no_result(rt: HostRuntime) -> Result<(), Fail> {
-    let alloc = rt.alloc();
     let gate = UntilNextVersion(Holding::new());
     let words = ["a", "b", "--workers", "1", "--watch", "1"];
     let script = br#"{"display":[9,"left"]}
 {"edit":[[0,0,"x"]]}
 {"rows":[0,1]}"#;
-    let outcome = run_words(&rt, alloc, &words, b"abc", script, &gate)?;
-    assert_eq!(rt; outcome.ended.status, 1);
-    assert!(rt; !gate.0.has_run_out());
-    assert!(rt; outcome.out.taken().starts_with(b"! 2\n0 t|xabc\nwatch 0 "));
+    let outcome = run_words(&rt, rt.alloc(), &words, b"abc", script, &gate)?;
+    assert_begins(&rt, &outcome, 1, b"! 2\n0 t|xabc\nwatch 0 ");
+    assert_met(&rt, &[&gate.0]);
     Ok(())
 }
 
@@ -235,71 +239,56 @@ fn a_result_that_is_there_lands_before_the_next_line(rt: HostRuntime) -> Result<
         taken: Vec::new(alloc),
         faults: 0,
     };
-    let words = strings(alloc, &["a", "b", "--workers", "1"])?;
-    let ended = run(&rt, alloc, words.as_slice(), &mut inputs, &mut out, &gate);
-    assert_eq!(rt; ended.status, 0);
+    let words = ["a", "b", "--workers", "1"];
+    let status = run_on(&rt, alloc, &words, &mut inputs, &mut out, &gate)?.status;
+    assert_eq!(rt; status, 0);
     let written = b"version 0 marks\nversion 1 marks 0-127@80\n";
     assert_eq!(rt; out.taken.as_slice(), written.as_slice());
-    assert!(rt; !gate.second_job.has_run_out() && !gate.second_answer.has_run_out());
+    assert_met(&rt, &[&gate.second_job, &gate.second_answer]);
     Ok(())
+}
+
+/// Asserts that two watchers saw the last version last. The job's version is version 1, and the last is version 2.
+fn assert_last_seen(rt: &impl Abort, outcome: &Outcome) {
+    assert_eq!(rt; outcome.ended.watched.len(), 2);
+    for watched in &outcome.ended.watched {
+        let last = watched.seen.last().map(|seen| (seen.version, seen.rows));
+        assert_eq!(rt; last, Some((2, 3)));
+    }
+    assert!(rt; outcome.out.taken().ends_with(b"watch 1 2 3\n"));
 }
 
 #[test]
 fn each_watcher_sees_the_last_version(rt: HostRuntime) -> Result<(), Fail> {
-    let alloc = rt.alloc();
     let words = ["a", "b", "--watch", "2"];
-    let Outcome { ended, out } = run_words(
-        &rt,
-        alloc,
-        &words,
-        b"a\nb\nc",
-        br#"{"rows":[0,1]}"#,
-        &FreeGate,
-    )?;
-    assert_eq!(rt; ended.status, 0);
-    assert_eq!(rt; ended.watched.len(), 2);
-    for watched in &ended.watched {
-        // The job's version is version 1, and the last is version 2.
-        let last = watched.seen.last().map(|seen| (seen.version, seen.rows));
-        assert_eq!(rt; last, Some((2, 3)));
-    }
-    let taken = out.taken();
-    assert!(rt; taken.starts_with(b"0 t|a\nwatch 0 "));
-    assert!(rt; taken.ends_with(b"watch 1 2 3\n"));
+    let script = br#"{"rows":[0,1]}"#;
+    let outcome = run_words(&rt, rt.alloc(), &words, b"a\nb\nc", script, &FreeGate)?;
+    assert_begins(&rt, &outcome, 0, b"0 t|a\nwatch 0 ");
+    assert_last_seen(&rt, &outcome);
     Ok(())
 }
 
 #[test]
 fn two_watchers_look_beside_each_other(rt: HostRuntime) -> Result<(), Fail> {
-    let alloc = rt.alloc();
     let gate = UntilBothSee {
         first: Holding::new(),
         second: Holding::new(),
     };
     let words = ["a", "b", "--watch", "2"];
-    let outcome = run_words(&rt, alloc, &words, b"a", b"", &gate)?;
-    assert_eq!(rt; outcome.ended.status, 0);
-    assert!(rt; !gate.first.has_run_out() && !gate.second.has_run_out());
+    let status = run_words(&rt, rt.alloc(), &words, b"a", b"", &gate)?
+        .ended
+        .status;
+    assert_eq!(rt; status, 0);
+    assert_met(&rt, &[&gate.first, &gate.second]);
     Ok(())
 }
 
 #[test]
 fn a_watch_line_that_cannot_be_written_ends_the_run(rt: HostRuntime) -> Result<(), Fail> {
-    let alloc = rt.alloc();
     let words = ["a", "b", "--watch", "1"];
     let script = br#"{"rows":[0,1]}"#;
-    let Outcome { ended, out } = run_failing(
-        &rt,
-        alloc,
-        &words,
-        b"a",
-        script,
-        &[],
-        &[2],
-        &FreeGate,
-    )?;
-    assert_eq!(rt; ended.status, 4);
-    assert_eq!(rt; ended.watched.len(), 1);
-    assert_eq!(rt; out.taken(), b"0 t|a\n".as_slice());
+    let outcome = run_failing(&rt, rt.alloc(), &words, b"a", script, &[], &[2], &FreeGate)?;
+    assert_end(&rt, &outcome, (Note::Write, 4), b"0 t|a\n");
+    assert_eq!(rt; outcome.ended.watched.len(), 1);
     Ok(())
 }

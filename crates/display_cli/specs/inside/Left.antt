@@ -1,13 +1,17 @@
 -- What is left where a script was played by an owner.
-use Rattle.std.specs.Prelude.{ℕ, ◌≡◌, All, List, [], map, Option, Some, None, IfSome, OnOk}
+use Rattle.std.specs.Prelude.{ℕ, ◌≡◌, ◌<◌, ◌≤◌, All, List, [], length, map, Option, Some, None, IfSome, OnOk, vec_len}
 use Rattle.std.specs.Option.{option_map}
+use Rattle.std.specs.declared.alloc.Global.{Global}
+use Rattle.std.specs.declared.vec.Vec.{Vec}
 use Rattle.logbook.specs.Pages.{Book}
 use Rattle.version_board.specs.Known.{Known}
 use Rattle.board_watch.specs.Watching.{Watching}
+use Rattle.display_map.specs.Events.{event_limit}
 use Rattle.live_display.specs.declared.owner.Owner.{Owner}
+use Rattle.live_display.specs.declared.opening.Opened.{Opened}
 use Rattle.display_cli.specs.declared.beside.Left.{Left}
-use Rattle.display_cli.specs.Outside.{SinkState}
-use Rattle.display_cli.specs.inside.Going.{IsReady, PlaysBy, at}
+use Rattle.script_runner.specs.Outside.{SinkState}
+use Rattle.script_runner.specs.Going.{IsReady, PlaysBy, at}
 
 -- which board a writer has, if there is one
 abbrev pub board_of : Option Known → Option Book
@@ -42,3 +46,14 @@ IsReadyAt (Some owner) = IsReady owner
 abbrev pub Leaves : List ℕ → Option Owner → SinkState → SinkState → Option Left → Type 0
 Leaves script (Some owner) sink after (Some left) = HasLeft script owner sink after left
 Leaves script _ sink after _ = ⊥
+
+-- the journal of an opened display has room, and each reader is one of its board
+pub record IsUnplayed (opened : Opened) : Type 0 where
+  pub room : length opened.owner.display.events < event_limit
+  pub readers : AreBoards (board_of opened.owner.writer) (map (λ reader. reader.board) opened.readers.items)
+
+-- watchers of what is left: they look at its board, and there is one for each reader, or fewer where the play stopped
+pub record AreWatchers (opened : Opened) (left : Left) (team : Vec Watching Global) : Type 0 where
+  pub boards : AreBoards (board_of left.writer) (boards_of team.items)
+  pub few : vec_len team ≤ vec_len opened.readers
+  pub all : OnOk left.played (vec_len team ≡ vec_len opened.readers)

@@ -6,7 +6,7 @@ use Rattle.display_cli.specs.declared.inputs.NamedBytes.{NamedBytes}
 use Rattle.display_cli.specs.declared.inputs.FaultCounts.{FaultCounts}
 use Rattle.display_cli.specs.declared.inputs.MapInputs.{MapInputs}
 use Rattle.display_cli.specs.declared.sinks.ListSink.{ListSink}
-use Rattle.display_cli.specs.Outside.{Faults, InputState, SinkState}
+use Rattle.script_runner.specs.Outside.{Faults, InputState, SinkState}
 use Rattle.display_cli.specs.Telling.{reads_told}
 
 -- the bytes of a name, if the list has it
@@ -28,10 +28,10 @@ bytes_or_none files name = unwrap_or (bytes_named files name) []
 abbrev pub faults_in : FaultCounts → Faults
 faults_in counts = record { text = counts.text; script = counts.script }
 
--- what is known of inputs that tell the bytes of their names
+-- what is known of inputs that give the bytes of their names
 abbrev pub map_state : MapInputs → InputState
 map_state s = record { told = bytes_named s.files.items; faults = faults_in s.faults; reads = reads_told s.reads }
 
--- what is known of a sink that tells its bytes
+-- what is known of a sink that gives its bytes
 abbrev pub list_state : ListSink → SinkState
 list_state s = record { taken = Some s.taken.items; faults = s.faults }

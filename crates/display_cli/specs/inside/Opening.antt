@@ -17,16 +17,16 @@ use Rattle.display_cli.specs.declared.limits.TheConstants.{SCRIPT_LIMIT}
 use Rattle.display_cli.specs.declared.ended.Ended.{Ended}
 use Rattle.display_cli.specs.declared.ended.Note.{Note}
 use Rattle.display_cli.specs.declared.ended.Note.TheVariants.{Fine, ReadText, ReadScript, Write, TextNotUtf8, TextTooLong, ScriptTooLong, JournalFull, Memory}
-use Rattle.display_cli.specs.declared.stop.Stop.{Stop}
-use Rattle.display_cli.specs.declared.stop.Stop.TheVariants as stops
-use Rattle.display_cli.specs.declared.tally.Tally.{Tally}
-use Rattle.display_cli.specs.Outside.{Faults, SinkState, HasRisen, AreTold, Takes, nowhere}
-use Rattle.display_cli.specs.Entries.{numbered_lines}
-use Rattle.display_cli.specs.Legal.{history_of}
-use Rattle.display_cli.specs.Ended.{Course, IsFinished, IsStopped, IsFull}
-use Rattle.display_cli.specs.inside.Going.{HasEnded, IsWhy, at}
+use Rattle.script_runner.specs.declared.stop.Stop.{Stop}
+use Rattle.script_runner.specs.declared.stop.Stop.TheVariants as stops
+use Rattle.script_runner.specs.declared.tally.Tally.{Tally}
+use Rattle.script_runner.specs.Outside.{Faults, SinkState, HasRisen, AreTold, Takes, nowhere}
+use Rattle.script_runner.specs.Entries.{numbered_lines}
+use Rattle.script_runner.specs.Legal.{history_of}
+use Rattle.script_runner.specs.Course.{Course, IsFinished, IsStopped, IsFull}
+use Rattle.script_runner.specs.Going.{HasEnded, IsWhy, at}
 
--- a display was started on accepted bytes, so many, which are those that are told
+-- a display was started on accepted bytes, so many, which are those that are given
 abbrev pub IsOpenedOn : Option (List ℕ) → ℕ → History → Type 0
 IsOpenedOn told count display =
     (bytes : List ℕ) × AreTold told bytes × IsAccepted bytes × (display ≡ record { opening = clean bytes; events = [] })
@@ -73,14 +73,14 @@ abbrev pub SeeLast : Option Known → List (List Seen) → Type 0
 SeeLast None watched = watched ≡ []
 SeeLast (Some writer) watched = ends writer.newest.events ≡ true → All (IsWatched writer.newest) watched
 
--- how the play of a script ended, with what the watchers saw written behind it
+-- how the play of a script ended, with what the watchers saw written after it
 abbrev pub HasWatched : Option ℕ → Course → List Event → SinkState → List (List Seen) → Result Tally Stop → Type 0
 HasWatched make course events sink watched (Ok tally) =
     (status : ℕ) → ((status ≡ 1) ↔ (1 ≤ tally.refused)) → IsFinished make course events sink watched status
 HasWatched make course events sink watched (Err stop) =
     IsStopped make course events sink watched × IsWhy course (at (history_of course.text events) sink) stop
 
--- so many watchers ended their watch behind a play that ended so, whose last version the writer shows
+-- so many watchers ended their watch after a play that ended so, whose last version the writer shows
 abbrev pub EndsWatch : Result Tally Stop → Option Known → ℕ → SinkState → SinkState → Result Tally Stop → List (List Seen) → Type 0
 EndsWatch played writer count old new result watched =
     (make : Option ℕ) (course : Course) (h : History) → HasEnded make course (at h old) played → OnOk played (IfSome writer (λ w. w.newest ≡ h)) → count ≤ course.watchers
@@ -111,7 +111,7 @@ HasRunOn plan opening script old new ended =
 
 -- ---- a made run
 
--- the same course to a sink that tells what it took, and of which no write fails
+-- the same course to a sink that gives what it took, and of which no write fails
 abbrev pub to_nowhere : Course → List ℕ → Course
 to_nowhere course taken = record course { sink = nowhere taken }
 

@@ -1,6 +1,6 @@
 -- The bytes that were read stand behind those before.
 use Rattle.std.proofs.Common.{◌≤◌, length, arith, drop, rules, ◌≡◌}
-use Rattle.display_cli.proofs.Fronts.{front-more}
+use Rattle.display_cli.proofs.NameRead.{front-more}
 use Rattle.display_cli.proofs.read.read_more.Goals as goal
 
 pub returns-clause-front : goal.returns-clause-front

@@ -1,7 +1,7 @@
 -- Turn after turn what was read is a front of what is told.
 use Rattle.std.proofs.Common.{ℕ, List, length, Option, ap, subst, arith, length-append, length-take}
 use Rattle.display_cli.specs.inside.Reading.{HasFront}
-use Rattle.display_cli.proofs.Fronts.{counted-up-to, reads-once-more, up-to-more}
+use Rattle.display_cli.proofs.NameRead.{counted-up-to, reads-once-more, up-to-more}
 use Rattle.display_cli.proofs.read.read_whole.Goals as goal
 
 pub returns-in_err-read_more-clause-reads : goal.returns-in_err-read_more-clause-reads

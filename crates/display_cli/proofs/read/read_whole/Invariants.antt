@@ -1,7 +1,7 @@
 -- What was read is a front of what is told, and the reads so far stand in order.
 use Rattle.std.proofs.Common.{◌+◌, ◌-◌, ◌<◌, ◌≤◌, length}
 use Rattle.display_cli.specs.inside.Reading.{HasFront}
-use Rattle.display_cli.proofs.Fronts.{ReadsUpTo}
+use Rattle.display_cli.proofs.NameRead.{ReadsUpTo}
 use Rattle.display_cli.proofs.read.read_whole.Given as goal
 
 abbrev pub invariant-loop-part : goal.invariant-loop-part

@@ -1,9 +1,9 @@
 -- A front of one of three pieces is a front of all, behind the pieces before it.
 use Rattle.std.specs.Prelude.{Result, Ok, Err, OnErr}
 use Rattle.std.proofs.Common.{◌++◌, ◌∙◌, [], append_assoc, append-nil}
-use Rattle.display_cli.specs.Outside.{TakesFront}
-use Rattle.display_cli.proofs.Fronts.{takes-more, front-behind}
-use Rattle.display_cli.proofs.Results.{on-err}
+use Rattle.script_runner.specs.Outside.{TakesFront}
+use Rattle.script_runner.proofs.Fronts.{takes-more, front-behind}
+use Rattle.script_runner.proofs.Results.{on-err}
 use Rattle.display_cli.proofs.say.write_three.Goals as goal
 
 on_err_weaker : {A E : Type 0} (r : Result A E) (P Q : Type 0) → (P → Q) → OnErr r P → OnErr r Q

@@ -4,11 +4,11 @@ use Rattle.std.proofs.lemmas.List.{length-map}
 use Rattle.std.proofs.lemmas.List.Elements.{All-map}
 use Rattle.board_watch.specs.declared.seen.Watched.{Watched}
 use Rattle.board_watch.specs.Watching.{AreRising}
-use Rattle.display_cli.specs.declared.stop.Stop.TheVariants as stops
-use Rattle.display_cli.specs.Outside.{SinkState, Takes}
-use Rattle.display_cli.specs.Output.{printed, watched_lines}
+use Rattle.script_runner.specs.declared.stop.Stop.TheVariants as stops
+use Rattle.script_runner.specs.Outside.{SinkState, Takes}
+use Rattle.script_runner.specs.Output.{printed, watched_lines}
 use Rattle.display_cli.specs.inside.Opening.{EndsWatch}
-use Rattle.display_cli.specs.inside.Reading.{IsUnwritten}
+use Rattle.script_runner.specs.Writing.{IsUnwritten}
 use Rattle.display_cli.proofs.Watches.{ends-short, ends-stopped, ends-unwritten, ends-written}
 use Rattle.display_cli.proofs.top.end_watch.Goals as goal
 

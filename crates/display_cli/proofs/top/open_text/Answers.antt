@@ -1,6 +1,6 @@
 -- What was read is what the display is started on.
 use Rattle.std.proofs.Common.{List, ℕ, subst}
-use Rattle.display_cli.specs.Outside.{AreTold}
+use Rattle.script_runner.specs.Outside.{AreTold}
 use Rattle.display_cli.proofs.Headline.{opened-told}
 use Rattle.display_cli.proofs.top.open_text.Goals as goal
 

@@ -10,7 +10,10 @@ returns-clause-left g c number =
     (bytes_told c.new-nowhere.result.told) (bytes_told c.play_opened-left.new.out.told) c.play_opened-left.result.0 c.report-played.result
     c.play_opened-left.ensures.left c.report-played.ensures.reports c.report-played.ensures.same
 
-pub returns-clause-all : goal.returns-clause-all
-returns-clause-all g c =
-    on-ok-same c.report-played.result c.play_opened-left.result.0.played (vec_len c.play_opened-left.result.1 ≡ vec_len c.args.opened.readers) c.report-played.ensures.same
-    c.play_opened-left.ensures.all
+pub returns-clause-team : goal.returns-clause-team
+returns-clause-team g c = record {
+  boards = c.play_opened-left.ensures.team.boards;
+  few = c.play_opened-left.ensures.team.few;
+  all = on-ok-same c.report-played.result c.play_opened-left.result.0.played (vec_len c.play_opened-left.result.1 ≡ vec_len c.args.opened.readers) c.report-played.ensures.same
+      c.play_opened-left.ensures.team.all;
+}

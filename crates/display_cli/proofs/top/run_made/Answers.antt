@@ -2,7 +2,7 @@
 use Rattle.std.proofs.Common.{◌≡◌, ℕ, List, Option, Some, length, map, refl, sym, ap, ◌∙◌, subst, arith}
 use Rattle.command_line.specs.declared.plan.Plan.{Plan}
 use Rattle.display_cli.specs.declared.ended.Note.{Note}
-use Rattle.display_cli.specs.Outside.{AreTold}
+use Rattle.script_runner.specs.Outside.{AreTold}
 use Rattle.display_cli.specs.Ended.{Run, IsEndedAs, HasStatus, run_of, script_of, text_of}
 use Rattle.display_cli.specs.inside.Opening.{IsOpenedOn}
 use Rattle.display_cli.proofs.Headline.{ended-run, ended-short}

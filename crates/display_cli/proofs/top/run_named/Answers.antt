@@ -4,12 +4,12 @@ use Rattle.cell_units.specs.declared.limits.TheConstants.{TEXT_LIMIT}
 use Rattle.command_line.specs.declared.plan.Plan.{Plan}
 use Rattle.display_cli.specs.declared.limits.TheConstants.{SCRIPT_LIMIT}
 use Rattle.display_cli.specs.declared.ended.Note.{Note}
-use Rattle.display_cli.specs.declared.outside.Part.TheVariants as parts
-use Rattle.display_cli.specs.Outside.{InputState, count_between}
+use Rattle.script_runner.specs.declared.outside.Part.TheVariants as parts
+use Rattle.script_runner.specs.Outside.{InputState, count_between}
 use Rattle.display_cli.specs.Ended.{Run, IsEndedAs, HasStatus, ends_at_text, run_of}
 use Rattle.display_cli.specs.inside.Opening.{IsOpenedOn, IsScript, IsTextUnread}
 use Rattle.display_cli.proofs.Headline.{ended-unopened, ended-unread, ended-run, named-text, named-script, reads-text, reads-both, run-behind, script-passed, text-passed, unread-behind}
-use Rattle.display_cli.proofs.Fronts.{script-counted, text-counted}
+use Rattle.display_cli.proofs.NameRead.{script-counted, text-counted}
 use Rattle.display_cli.proofs.top.run_named.Goals as goal
 
 pub run_script-requires-clause-events : goal.run_script-requires-clause-events

@@ -1,11 +1,11 @@
 -- Each line stands behind those that were written before.
 use Rattle.std.proofs.Common.{◌∙◌, arith}
-use Rattle.display_cli.specs.declared.stop.Stop.{Stop}
-use Rattle.display_cli.specs.Output.{printed, watch_line}
+use Rattle.script_runner.specs.declared.stop.Stop.{Stop}
+use Rattle.script_runner.specs.Output.{printed, watch_line}
 use Rattle.std.proofs.Common.{map}
-use Rattle.display_cli.specs.inside.Reading.{IsUnwritten}
-use Rattle.display_cli.proofs.Results.{err-same}
-use Rattle.display_cli.proofs.Fronts.{listed-unwritten, listed-written}
+use Rattle.script_runner.specs.Writing.{IsUnwritten}
+use Rattle.script_runner.proofs.Results.{err-same}
+use Rattle.script_runner.proofs.Fronts.{listed-unwritten, listed-written}
 use Rattle.display_cli.proofs.watch.write_seen.Goals as goal
 
 pub returns-in_err-write_line-clause-stopped : goal.returns-in_err-write_line-clause-stopped

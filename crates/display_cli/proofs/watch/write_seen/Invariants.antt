@@ -1,7 +1,7 @@
 -- The lines before those that are left were written.
 use Rattle.std.proofs.Common.{drop, map}
-use Rattle.display_cli.specs.Output.{watch_line}
-use Rattle.display_cli.proofs.Fronts.{AreWritten}
+use Rattle.script_runner.specs.Output.{watch_line}
+use Rattle.script_runner.proofs.Fronts.{AreWritten}
 use Rattle.display_cli.proofs.watch.write_seen.Given as goal
 
 abbrev pub invariant-loop-one : goal.invariant-loop-one

@@ -1,10 +1,10 @@
 -- What each watcher saw stands behind what those before it saw.
 use Rattle.std.proofs.Common.{ap, ◌∙◌, arith}
 use Rattle.board_watch.specs.declared.seen.Watched.{Watched}
-use Rattle.display_cli.specs.declared.stop.Stop.{Stop}
-use Rattle.display_cli.specs.Output.{printed, watch_lines}
-use Rattle.display_cli.specs.inside.Reading.{IsUnwritten}
-use Rattle.display_cli.proofs.Results.{err-same}
+use Rattle.script_runner.specs.declared.stop.Stop.{Stop}
+use Rattle.script_runner.specs.Output.{printed, watch_lines}
+use Rattle.script_runner.specs.Writing.{IsUnwritten}
+use Rattle.script_runner.proofs.Results.{err-same}
 use Rattle.display_cli.proofs.Watches.{lists-unwritten, lists-written, lists_of}
 use Rattle.display_cli.proofs.watch.write_watched.Goals as goal
 

@@ -1,7 +1,7 @@
 -- The lines before those of the watchers that are left were written.
 use Rattle.std.proofs.Common.{drop}
-use Rattle.display_cli.specs.Output.{watch_lines}
-use Rattle.display_cli.proofs.Fronts.{AreWritten}
+use Rattle.script_runner.specs.Output.{watch_lines}
+use Rattle.script_runner.proofs.Fronts.{AreWritten}
 use Rattle.display_cli.proofs.Watches.{lists_of}
 use Rattle.display_cli.proofs.watch.write_watched.Given as goal
 

@@ -1,4 +1,4 @@
-use Rattle.display_cli.proofs.Handled.{has-answer}
+use Rattle.script_runner.proofs.Handled.{has-answer}
 use Rattle.test_program.proofs.callers.first_answer.Goals as goal
 
 pub answer-requires : goal.answer-requires

@@ -1,0 +1,15 @@
+pub mod Snoc
+pub mod LastLine
+pub mod Unsettled
+pub mod Next
+pub mod Sends
+pub mod Ready
+pub mod GoingOn
+pub mod Results
+pub mod Fronts
+pub mod Lines
+pub mod Handled
+pub mod Played
+pub mod LastVersion
+pub mod ReadLines
+pub mod Heads
