@@ -1,0 +1,6 @@
+pub mod Pieces
+pub mod Changed
+pub mod Laws
+pub mod Worked
+pub mod Listed
+pub mod inside
