@@ -1,0 +1,5 @@
+pub mod Biases
+pub mod Calls
+pub mod Handles
+pub mod Held
+pub mod Statuses

@@ -1,0 +1,84 @@
+//! A handle through its calls.
+use crate::changing::{
+    displaymap_answer, displaymap_close, displaymap_edit, displaymap_line, displaymap_open,
+    displaymap_version, displaymap_wrap,
+};
+use crate::handle::Handle;
+use crate::reading::{
+    Place, displaymap_back, displaymap_clip, displaymap_row, displaymap_row_count, displaymap_rows,
+    displaymap_show,
+};
+use crate::status::{CLOSED, NO_ROW, OK};
+use std::test::Fail;
+
+/// Three lines, of 11, 15 and 1 bytes, with a line feed after each. A tab has 4 cells.
+const TEXT: &[u8] = b"fn main() {\n\tlet total = 1;\n}\n";
+
+#[test]
+fn a_closed_handle_answers_nothing(rt: HostRuntime) -> Result<(), Fail> {
+    let alloc = rt.alloc();
+    let mut handle = Handle::closed();
+    let mut number = 7;
+    assert_eq!(rt; displaymap_version(), 1);
+    assert_eq!(rt;
+        displaymap_row_count(alloc, &mut handle, &mut number),
+        CLOSED
+    );
+    assert_eq!(rt; number, 7);
+    assert_eq!(rt; displaymap_open(alloc, &mut handle, TEXT), OK);
+    displaymap_close(alloc, &mut handle);
+    assert_eq!(rt;
+        displaymap_row_count(alloc, &mut handle, &mut number),
+        CLOSED
+    );
+    Ok(())
+}
+
+#[test]
+fn a_handle_changes_its_display(rt: HostRuntime) -> Result<(), Fail> {
+    let alloc = rt.alloc();
+    let mut handle = Handle::closed();
+    let mut waits = true;
+    let mut out = [0; 8];
+    assert_eq!(rt; displaymap_open(alloc, &mut handle, TEXT), OK);
+    let fold = br#"{"fold":[1,11,28]}"#;
+    assert_eq!(rt; displaymap_line(alloc, &mut handle, fold), OK);
+    assert_eq!(rt; displaymap_line(alloc, &mut handle, br#"{"unfold":2}"#), 4);
+    assert_eq!(rt; displaymap_edit(alloc, &mut handle, 3, 7, b"run"), OK);
+    assert_eq!(rt; displaymap_wrap(alloc, &mut handle, 9, &mut waits), OK);
+    assert!(rt; !waits);
+    assert_eq!(rt; displaymap_rows(alloc, &mut handle, 0, 1), OK);
+    assert_eq!(rt; displaymap_answer(alloc, &mut handle, 4, &mut out), 19);
+    assert_eq!(rt; out.as_slice(), b"fn run()".as_slice());
+    displaymap_close(alloc, &mut handle);
+    Ok(())
+}
+
+#[test]
+fn a_handle_shows_its_rows(rt: HostRuntime) -> Result<(), Fail> {
+    let alloc = rt.alloc();
+    let mut handle = Handle::closed();
+    let mut number = 0;
+    let mut place = Place { row: 7, column: 7 };
+    assert_eq!(rt; displaymap_open(alloc, &mut handle, TEXT), OK);
+    assert_eq!(rt; displaymap_row(alloc, &mut handle, 0, &mut number), OK);
+    assert_eq!(rt; number, 116);
+    assert_eq!(rt; displaymap_row(alloc, &mut handle, 4, &mut number), NO_ROW);
+    assert_eq!(rt;
+        displaymap_show(alloc, &mut handle, 13, true, &mut place),
+        OK
+    );
+    assert_eq!(rt; place.column, 4);
+    assert_eq!(rt;
+        displaymap_clip(alloc, &mut handle, 0, 40, false, &mut place),
+        OK
+    );
+    assert_eq!(rt; place.column, 11);
+    assert_eq!(rt;
+        displaymap_back(alloc, &mut handle, 1, 4, true, &mut number),
+        OK
+    );
+    assert_eq!(rt; number, 13);
+    displaymap_close(alloc, &mut handle);
+    Ok(())
+}

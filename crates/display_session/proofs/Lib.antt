@@ -1,0 +1,4 @@
+pub mod Lines
+pub mod LoneDisplays
+pub mod Settled
+pub mod Wrapping

@@ -1,0 +1,6 @@
+pub mod Answers
+pub mod CaretLines
+pub mod Lines
+pub mod LoneDisplays
+pub mod Troubles
+pub mod Wrapping

@@ -1,0 +1,70 @@
+//! Sessions from their opening to their answers, by lines and by calls.
+use cell_units::{Bias, Refusal, Spot};
+use display_session::{Session, Trouble};
+use std::alloc::Global;
+use std::test::Fail;
+
+/// Three lines, of 11, 15 and 1 bytes, with a line feed after each. A tab has 4 cells.
+const TEXT: &[u8] = b"fn main() {\n\tlet total = 1;\n}\n";
+
+fn opened(alloc: Global) -> Result<Session, Fail> {
+    Ok(Session::open(alloc, TEXT).ok().ok_or("no session")?)
+}
+
+/// The lines that answer a line of a script, where it isn't refused.
+fn answer<'a>(alloc: Global, session: &'a mut Session, line: &[u8]) -> Option<&'a str> {
+    match session.apply(alloc, line) {
+        Ok(()) => Some(session.answer()),
+        Err(_) => None,
+    }
+}
+
+#[test]
+fn a_fold_hides_its_bytes_until_a_refusal_and_after_it(rt: HostRuntime) -> Result<(), Fail> {
+    let alloc = rt.alloc();
+    let mut session = opened(alloc)?;
+    let fold = br#"{"fold":[1,11,28]}"#;
+    assert_eq!(rt; session.apply(alloc, fold), Ok(()));
+    let rows = answer(alloc, &mut session, br#"{"rows":[0,9]}"#);
+    assert_eq!(rt; rows, Some("0 t|fn main() {⋯}\n1 t|\n"));
+    let refused = Err(Trouble::Refused(Refusal::IdInUse));
+    assert_eq!(rt; session.apply(alloc, fold), refused);
+    assert_eq!(rt; session.row_count().ok(), Some(2));
+    Ok(())
+}
+
+#[test]
+fn a_caret_goes_on_to_the_next_line(rt: HostRuntime) -> Result<(), Fail> {
+    let alloc = rt.alloc();
+    let mut session = opened(alloc)?;
+    let caret = answer(alloc, &mut session, br#"{"move":[0,11,11,"right"]}"#);
+    assert_eq!(rt; caret, Some("1 0 0\n"));
+    let selection = answer(alloc, &mut session, br#"{"select":[1,4,0,3]}"#);
+    assert_eq!(rt; selection, Some("3 13\n0 3-11\n1 0-4\n"));
+    Ok(())
+}
+
+#[test]
+fn offsets_lead_to_spots_and_back(rt: HostRuntime) -> Result<(), Fail> {
+    let alloc = rt.alloc();
+    let session = opened(alloc)?;
+    let spot = Spot { row: 1, col: 4 };
+    assert_eq!(rt; session.show(alloc, 13, Bias::Left).ok(), Some(spot));
+    assert_eq!(rt; session.back(alloc, spot, Bias::Right).ok(), Some(13));
+    let inside = Spot { row: 1, col: 2 };
+    assert_eq!(rt; session.clip(alloc, inside, Bias::Right).ok(), Some(spot));
+    Ok(())
+}
+
+#[test]
+fn an_edit_is_one_row_until_its_line_is_wrapped(rt: HostRuntime) -> Result<(), Fail> {
+    let alloc = rt.alloc();
+    let mut session = Session::open(alloc, b"world").ok().ok_or("no session")?;
+    assert_eq!(rt; session.apply(alloc, br#"{"width":5}"#), Ok(()));
+    assert_eq!(rt; session.edit(alloc, 0, 0, b"hello "), Ok(()));
+    assert_eq!(rt; session.row_count().ok(), Some(1));
+    assert_eq!(rt; session.wrap(alloc, 9), Ok(false));
+    assert_eq!(rt; session.row_count().ok(), Some(2));
+    assert_eq!(rt; session.edit(alloc, 0, 0, b"\xff"), Err(Trouble::NotUtf8));
+    Ok(())
+}

@@ -1,0 +1,109 @@
+/* displaymap.h: the display map of a text editor, as calls from C and C++.
+ *
+ * A text under folds, inlays, blocks, tabs and a width is shown as rows of cells. These calls change it, read its rows, and
+ * say which offset of the text is shown where. The calls are proved; this file and the programs that call are not.
+ *
+ * Units    Offsets and lengths count bytes. Offsets are those of the text after each CR LF and each lone CR became one LF.
+ *          Rows count from 0 and columns count cells from 0. `right` is the bias: false is left, true is right.
+ * Handles  A `displaymap` is two words in the caller's memory. Zero it before its first use: `displaymap d = {0};`. It is
+ *          closed then. Never copy or write it while it is open, and close it before its memory is given up. What it holds
+ *          lies on the heap of malloc, realloc and free.
+ * Memory   What a parameter points to is the caller's, and no call keeps it. A slice is a pointer and a count; NULL with 0
+ *          is an empty one. No other pointer may be NULL. No two parameters may overlap.
+ * Errors   A call returns a status. Where it isn't DISPLAYMAP_OK, nothing is written through a pointer but to the handle,
+ *          the display is as it was, and the last answer is kept. Lines may have been wrapped all the same.
+ * Threads  No call starts a thread, waits, prints or aborts. Use a handle on the thread that opened it. Handles are
+ *          independent of each other. No call may be made from a signal handler.
+ * Stack    Calls ran in 64 KiB of stack. No proof bounds it.
+ */
+#ifndef DISPLAYMAP_H
+#define DISPLAYMAP_H
+
+#include <stdbool.h>
+#include <stddef.h>
+#include <stdint.h>
+
+#ifdef __cplusplus
+extern "C" {
+#endif
+
+typedef struct displaymap {
+    bool open;
+    void *at;
+} displaymap;
+
+typedef struct displaymap_place {
+    uint32_t row;
+    uint32_t column;
+} displaymap_place;
+
+enum displaymap_status {
+    DISPLAYMAP_OK = 0,
+    /* Refusals, with the numbers that a script prints after `!`. */
+    DISPLAYMAP_NOT_COMMAND = 1, /* the line isn't one JSON object with one key that is known and a value of its form */
+    DISPLAYMAP_BAD_RANGE = 2,   /* an offset is past the end or inside a character, ranges aren't in order, a fold is empty,
+                                 * or a block's row is past the last */
+    DISPLAYMAP_ID_IN_USE = 3,   /* an inlay, a fold or a block has the id of one of its kind */
+    DISPLAYMAP_UNKNOWN_ID = 4,  /* none of that kind has the id */
+    DISPLAYMAP_TOO_LONG = 5,    /* a text over 33,554,432 bytes, a line over 1,048,576, an inlay's text or a block's line
+                                 * over 1,024, or there are 65,536 of that kind */
+    DISPLAYMAP_BAD_NUMBER = 6,  /* an id is over 4,294,967,295, a tab size isn't 1 to 16, or a width neither 0 nor 2 to 10,000 */
+    DISPLAYMAP_BAD_TEXT = 7,    /* an inlay's text is empty, or a block has no lines, over 256, or a line break inside one */
+    /* Others. */
+    DISPLAYMAP_CLOSED = 16,       /* the handle is closed */
+    DISPLAYMAP_NO_MEMORY = 17,    /* out of memory; the same call may succeed later */
+    DISPLAYMAP_JOURNAL_FULL = 18, /* the display had 4,294,967,295 events: open the text anew */
+    DISPLAYMAP_NOT_UTF8 = 19,     /* the bytes of a text aren't UTF-8 */
+    DISPLAYMAP_NO_ROW = 20        /* the row is past the last */
+};
+
+/* Returns the number of this interface, 1. */
+uint32_t displaymap_version(void);
+
+/* Opens a text of UTF-8, at a tab size of 4 cells and a width of 80. What the handle held before is closed, also where this
+ * fails. Fails with TOO_LONG, NOT_UTF8 and NO_MEMORY. */
+uint32_t displaymap_open(displaymap *d, const uint8_t *text, size_t length);
+
+/* Closes a handle, and frees what it held. A closed handle stays closed. */
+void displaymap_close(displaymap *d);
+
+/* Does what one line of a script asks, as {"fold":[1,11,67]} or {"rows":[0,40]}. README.md of the repository has the keys,
+ * and crates/edit_script/README.md their values, here in the second form. A question but `peek` first wraps every line that
+ * waits. Its lines are kept as the answer, each with a LF after it; a line that isn't a question leaves an empty answer.
+ * Fails with the refusals, NO_MEMORY and JOURNAL_FULL. */
+uint32_t displaymap_line(displaymap *d, const uint8_t *line, size_t length);
+
+/* Replaces the bytes of the text from `start` to `end` by others, as the line {"edit":[[start,end,text]]} does.
+ * Fails with BAD_RANGE, TOO_LONG, NOT_UTF8, NO_MEMORY and JOURNAL_FULL. */
+uint32_t displaymap_edit(displaymap *d, uint32_t start, uint32_t end, const uint8_t *text, size_t length);
+
+/* Wraps lines. A line that a change touched is one row until it is wrapped; so is every line after a change of the width.
+ * Wraps up to `runs` runs of such lines, of 128 lines at most each. `*waits` is false where no line waits any more.
+ * Fails with NO_MEMORY and JOURNAL_FULL. */
+uint32_t displaymap_wrap(displaymap *d, uint32_t runs, bool *waits);
+
+/* Copies the bytes of the last answer from byte `from` on, as many as there are and as fit into `room` bytes, and returns
+ * the length of the whole answer: 0 where the handle is closed. Bytes of `out` past those stay as they were. */
+size_t displaymap_answer(displaymap *d, size_t from, uint8_t *out, size_t room);
+
+/* The rows as they are now; lines that wait are not wrapped first.
+ * `row_count` gives how many there are. `row` keeps the text of one row as the answer, without a LF; `*kind` is 't' for a
+ * line's first row, 'w' for one that goes on, 'b' for a block's. `rows` keeps up to `count` rows from number `first` on as
+ * the answer, as the lines that {"rows":[first,count]} prints: number, space, kind, '|', text, LF.
+ * They fail with NO_MEMORY, and `row` with NO_ROW. */
+uint32_t displaymap_row_count(displaymap *d, uint32_t *count);
+uint32_t displaymap_row(displaymap *d, uint32_t row, uint32_t *kind);
+uint32_t displaymap_rows(displaymap *d, uint32_t first, uint32_t count);
+
+/* `show` gives the place where an offset is shown; `clip` the nearest place at which some offset is shown, on the side of
+ * the bias; `back` the offset that this place shows, the least for left and the greatest for right.
+ * They fail with NO_MEMORY, and `show` with BAD_RANGE. */
+uint32_t displaymap_show(displaymap *d, uint32_t offset, bool right, displaymap_place *place);
+uint32_t displaymap_clip(displaymap *d, uint32_t row, uint32_t column, bool right, displaymap_place *place);
+uint32_t displaymap_back(displaymap *d, uint32_t row, uint32_t column, bool right, uint32_t *offset);
+
+#ifdef __cplusplus
+}
+#endif
+
+#endif

@@ -1,0 +1,73 @@
+//! The sessions of the repository, and worked rows.
+use displaymap::{Bias, DisplayMap, Error, Kind, Row, Spot};
+use std::{fs, path::Path};
+
+const TEXT: &[u8] = b"fn main() {\n\tlet total = 1;\n}\n";
+
+/// What the program prints for a script, whose lines are read in the second form.
+fn played(text: &[u8], script: &[u8]) -> Result<String, Error> {
+    let mut map = DisplayMap::open(text)?;
+    let mut output = String::new();
+    let lines = script.split(|byte| *byte == b'\n');
+    let mut lines = lines.filter(|line| !line.is_empty()).peekable();
+    lines.next_if(|line| *line == br#"{"script":2}"#);
+    for line in lines {
+        match map.line(line) {
+            Ok(answer) => output += &answer,
+            Err(Error::Refused(number)) => output += &format!("! {number}\n"),
+            Err(error) => return Err(error),
+        }
+    }
+    Ok(output)
+}
+
+/// The sessions with `peek` print the numbers of versions, of which a display of this crate has one alone.
+#[test]
+fn sessions_print_what_the_program_prints() -> Result<(), Box<dyn std::error::Error>> {
+    let folder = Path::new(env!("CARGO_MANIFEST_DIR")).join("../../crates/sessions/data");
+    let mut count = 0;
+    for entry in fs::read_dir(folder)? {
+        let session = entry?.path();
+        let script = fs::read(session.join("script"))?;
+        if String::from_utf8_lossy(&script).contains("\"peek\"") {
+            continue;
+        }
+        let output = fs::read_to_string(session.join("output"))?;
+        let text = fs::read(session.join("text"))?;
+        assert_eq!(played(&text, &script)?, output, "{}", session.display());
+        count += 1;
+    }
+    assert!(count >= 10, "{count} sessions");
+    Ok(())
+}
+
+#[test]
+fn a_fold_hides_a_range() -> Result<(), Error> {
+    let mut map = DisplayMap::open(TEXT)?;
+    map.line(br#"{"fold":[1,11,28]}"#)?;
+    map.edit(3..7, "run")?;
+    assert!(!map.wrap(9)?);
+    assert_eq!(map.row_count()?, 2);
+    let text = "fn run() {⋯}".to_string();
+    let kind = Kind::Head;
+    assert_eq!(map.row(0)?, Some(Row { kind, text }));
+    assert_eq!(map.rows(0, 9)?, "0 t|fn run() {⋯}\n1 t|\n");
+    assert_eq!(map.row(2)?, None);
+    Ok(())
+}
+
+#[test]
+fn offsets_lead_to_spots_and_back() -> Result<(), Error> {
+    let mut map = DisplayMap::open(TEXT)?;
+    let spot = Spot { row: 1, column: 4 };
+    assert_eq!(map.show(13, Bias::Left)?, spot);
+    assert_eq!(map.back(spot, Bias::Right)?, 13);
+    assert_eq!(map.clip(Spot { row: 1, column: 2 }, Bias::Right)?, spot);
+    assert_eq!(map.show(31, Bias::Left), Err(Error::Refused(2)));
+    Ok(())
+}
+
+#[test]
+fn bytes_that_are_no_text_are_refused() {
+    assert_eq!(DisplayMap::open(b"\xff").err(), Some(Error::NotUtf8));
+}
