@@ -1,9 +1,9 @@
-//! Looks at versions in so many threads, while the owner of a display publishes as fast as it can, and prints how many looks
-//! there were. On standard error it says how many versions were published meanwhile.
+//! Looks at versions in so many threads, while the owner of a display publishes as fast as it can. Prints how many
+//! looks there were, and on standard error how many versions were published meanwhile.
 //!
-//! The words are where the versions are, how many readers there are, and how often each of them looks: `board 4 1000000`
-//! for a board, `lock 4 1000000` for the same share of a version under a lock. `bench/board` times it. With no words two
-//! readers look a hundred times each at a board.
+//! The words are where the versions are, how many readers there are, and how often each of them looks. `board 4
+//! 1000000` is for a board, `lock 4 1000000` for the same share of a version under a lock. `bench/board` times it. With
+//! no words two readers look a hundred times each at a board.
 #![tactic(auto)]
 
 mod boarded;

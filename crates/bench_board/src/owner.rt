@@ -28,6 +28,7 @@ pub fn first(alloc: Global, display: &mut Display) -> Result<Version, NoMemory>
     ensures goes_on { OnOk result (ends display.new.events ≡ false) }
     ensures events { OnOk result (length display.new.events ≡ 1) }
 {
+    // For the proof: a version that is published first can begin a row.
     row_laws();
     display.publish(alloc, false)
 }
@@ -43,6 +44,7 @@ pub fn next(alloc: Global, display: &mut Display) -> Result<Version, NoMemory>
     ensures goes_on { OnOk result (ends display.new.events ≡ false) }
     ensures events { OnOk result (length display.new.events ≡ length display.old.events + 1) }
 {
+    // For the proof: a version that is published next follows the last one in a row.
     row_laws();
     display.publish(alloc, false)
 }

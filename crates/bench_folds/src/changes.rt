@@ -1,4 +1,5 @@
-//! What is timed of changes, each with the snapshot after it. Each task gives the number of bytes that are shown at its end.
+//! What is timed of changes, each with the snapshot after it. Each task gives the number of bytes that are shown at its
+//! end.
 
 use crate::text::{FIRST, fold_at, scattered};
 use cell_units::{Fault, Layer, NoMemory, Steps};

@@ -84,8 +84,8 @@ pub fn shares<L: Layer>(layer: &FoldSnapshot<L>, times: u32) -> Result<u64, NoMe
     Ok(lines)
 }
 
-/// Puts a letter in front of the text. It gives the number of folds that are hidden at their places in the snapshot from before,
-/// and a byte behind these in the one after it.
+/// Puts a letter before the text. Returns the number of folds that are hidden at their places in the snapshot from
+/// before. In the one after it they are a byte further on.
 pub fn check(
     alloc: Global,
     text: &mut FoldedText,
@@ -99,7 +99,7 @@ pub fn check(
     Ok(count_hidden(&before, &after, inlays, folds, bytes))
 }
 
-/// The number of folds that are hidden at their places in the one layer, and a byte behind these in the other.
+/// The number of folds that are hidden at their places in the one layer, and a byte after these in the other.
 fn count_hidden<L: Layer>(
     before: &FoldSnapshot<L>,
     after: &FoldSnapshot<L>,
@@ -119,7 +119,7 @@ fn count_hidden<L: Layer>(
     found
 }
 
-/// Whether an offset is hidden behind a placeholder at this place, and the next one in the other layer at the next place.
+/// Whether an offset is hidden by a placeholder at this place, and the next one in the other layer at the next place.
 fn hides_at_both<L: Layer>(
     before: &FoldSnapshot<L>,
     after: &FoldSnapshot<L>,
@@ -130,8 +130,8 @@ fn hides_at_both<L: Layer>(
         && hides_at(after, offset.wrapping_add(1), place.wrapping_add(1))
 }
 
-/// Where the placeholder of a fold is shown: behind the text before it, the inlays in that and the placeholders of folds, without
-/// what these hide.
+/// Where the placeholder of a fold is shown. It is after the text before it, the inlays in that and the placeholders of
+/// folds, without what these hide.
 fn place_of(number: u32, inlays: u32, folds: u32, bytes: u32) -> u32 {
     let (start, end) = fold_at(number, folds, bytes);
     let mut place = start;
@@ -144,7 +144,7 @@ fn place_of(number: u32, inlays: u32, folds: u32, bytes: u32) -> u32 {
     place.wrapping_sub(number.wrapping_mul(hidden))
 }
 
-/// Whether an offset is hidden behind a placeholder at this place.
+/// Whether an offset is hidden by a placeholder at this place.
 fn hides_at<L: Layer>(layer: &FoldSnapshot<L>, offset: u32, place: u32) -> bool {
     layer.on_boundary(offset)
         && layer.place(offset, Bias::Left) == place

@@ -1,9 +1,9 @@
-//! Makes a text of lines with inlays and folds evenly spread, asks its maps and changes them, and prints a check of what it read.
-//! On standard error it says how many nodes it opened or made.
+//! Makes a text of lines with inlays and folds evenly spread, asks its maps and changes them, and prints a check of
+//! what it read. On standard error it says how many nodes it opened or made.
 //!
-//! The words are what to do, the bytes of the text, the number of inlays and of folds, and how often:
-//! `letters 33554432 65536 65536 100000`. `bench/folds` times it. With no words it checks on a small text that a snapshot has each
-//! placeholder at its place, and that no later letter reaches it.
+//! The words are what to do, the bytes of the text, the number of inlays and of folds, and how often. An example is
+//! `letters 33554432 65536 65536 100000`. `bench/folds` times it. With no words it checks on a small text that a
+//! snapshot has each placeholder at its place. It checks too that no later letter reaches it.
 #![tactic(auto)]
 
 mod changes;
@@ -90,7 +90,8 @@ impl Task {
     }
 }
 
-/// The check of what was read. A fault is want of memory, or that there can be no such text, no such inlay or no such fold.
+/// The check of what was read. A fault is out of memory, or that there can be no such text, no such inlay or no such
+/// fold.
 fn carry_out(alloc: Global, order: &Order, steps: &mut Steps) -> Result<u64, Fault> {
     let mut text = text::plain(alloc, order.bytes, steps)?;
     play(alloc, &mut text, order, steps)
@@ -113,7 +114,7 @@ fn play(
     }
 }
 
-/// The check of what the text's snapshot answers.
+/// The check of what the text's snapshot returns.
 fn look(
     alloc: Global,
     text: &mut FoldedText,
@@ -154,7 +155,7 @@ fn fold(
     }
 }
 
-/// The check of what a snapshot answers.
+/// The check of what a snapshot returns.
 fn ask<L: Layer>(alloc: Global, layer: &FoldSnapshot<L>, order: &Order) -> Result<u64, NoMemory> {
     match order.task {
         Task::Boundaries => Ok(looks::boundaries(layer, order.times)),

@@ -1,4 +1,4 @@
-//! The text that is timed, and where its inlays and folds stand.
+//! The text that is timed, and where its inlays and folds are.
 ghost use Rattle.std.specs.Prelude.{◌≤◌};
 
 use cell_units::{Bias, Fault, NoMemory, Refusal, Steps, TextFault};

@@ -1,4 +1,5 @@
-//! What is timed of changes, each with the snapshot after it. Each task gives the number of bytes that are shown at its end.
+//! What is timed of changes, each with the snapshot after it. Each task gives the number of bytes that are shown at its
+//! end.
 use crate::laid::{FIRST, Laid};
 use crate::text::{offset_of, scattered};
 use cell_units::{Fault, Layer, Steps};
@@ -50,7 +51,7 @@ pub fn scattered_letters(
     Ok(Layer::length(&layer) as u64)
 }
 
-/// Changes letters right behind inlays far from each other.
+/// Changes letters right after inlays far from each other.
 pub fn letters_at_inlays(
     alloc: Global,
     laid: &mut Laid,

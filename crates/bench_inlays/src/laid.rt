@@ -62,7 +62,7 @@ impl Laid {
         ensures { IfOk result (λ layer. layer ≡ self.new.map.current) }
     {
         let bytes = self.rope.len();
-        // The inlays stand at boundaries of the text.
+        // For the proof: the inlays are at boundaries of the text.
         let _inlays = self.map.len();
         let mut rope = self.rope.share()?;
         rope.replace(alloc, start, end, text, steps)?;

@@ -63,8 +63,8 @@ pub fn shares(layer: &InlaySnapshot, times: u32) -> Result<u64, NoMemory> {
     Ok(lines)
 }
 
-/// Puts a letter in front of the text. It gives the number of inlays that stand at their places in the snapshot from before,
-/// and a byte behind these in the one after it.
+/// Puts a letter before the text. Returns the number of inlays that are at their places in the snapshot from before,
+/// and a byte after these in the one after it.
 pub fn check(alloc: Global, laid: &mut Laid, inlays: u32, steps: &mut Steps) -> Result<u64, Fault> {
     let before = laid.show(alloc, steps)?;
     let bytes = before.buffer_len();

@@ -1,9 +1,9 @@
-//! Makes a text of lines with inlays evenly spread, asks a map of them and changes it, and prints a check of what it read.
-//! On standard error it says how many nodes it opened or made.
+//! Makes a text of lines with inlays evenly spread, asks a map of them and changes it, and prints a check of what it
+//! read. On standard error it says how many nodes it opened or made.
 //!
-//! The words are what to do, the bytes of the text, the number of inlays, and how often: `letters 33554432 65536 100000`.
-//! `bench/maps` times it. With no words it checks on a small text that a snapshot shows each inlay at its place, and that no
-//! later letter reaches it.
+//! The words are what to do, the bytes of the text, the number of inlays, and how often: `letters 33554432 65536
+//! 100000`. `bench/maps` times it. With no words it checks on a small text that a snapshot shows each inlay at its
+//! place, and that no later letter reaches it.
 #![tactic(auto)]
 
 mod changes;
@@ -93,7 +93,7 @@ impl Task {
     }
 }
 
-/// The check of what was read. A fault is want of memory, or that there can be no such text or no such inlay.
+/// The check of what was read. A fault is out of memory, or that there can be no such text or no such inlay.
 fn carry_out(alloc: Global, order: &Order, steps: &mut Steps) -> Result<u64, Fault> {
     let mut laid = Laid::build(alloc, order.bytes, order.inlays, steps)?;
     play(alloc, &mut laid, order, steps)
@@ -133,7 +133,7 @@ fn note(alloc: Global, laid: &mut Laid, order: &Order, steps: &mut Steps) -> Res
     }
 }
 
-/// The check of what a snapshot answers.
+/// The check of what a snapshot returns.
 fn ask(layer: &InlaySnapshot, order: &Order) -> Result<u64, NoMemory> {
     match order.task {
         Task::Boundaries => Ok(looks::boundaries(layer, order.times)),

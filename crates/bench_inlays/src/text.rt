@@ -1,4 +1,4 @@
-//! The text that is timed, and where its inlays stand.
+//! The text that is timed, and where its inlays are.
 ghost use Rattle.std.specs.Prelude.{◌≤◌};
 
 use cell_units::NoMemory;

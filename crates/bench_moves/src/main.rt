@@ -1,8 +1,9 @@
-//! Opens a text, wraps all of its lines, and moves a caret or selects rows on one view of it. It prints a check of where the
-//! carets went.
+//! Opens a text, wraps all of its lines, and moves a caret or selects rows on one view of it. It prints a check of
+//! where the carets went.
 //!
-//! The words are what to do, the kind of text, its size in bytes, how often, and how many inlays, folds and blocks there
-//! are: `right long 4194304 10000 60`. `bench/moves` times it. With no words it moves a caret three times on ten short lines.
+//! The words are what to do, the kind of text, its size in bytes, how often, and how many inlays, folds and blocks
+//! there are. An example is `right long 4194304 10000 60`. `bench/moves` times it. With no words it moves a caret three
+//! times on ten short lines.
 #![tactic(auto)]
 
 mod moves;

@@ -12,6 +12,7 @@ use wrap_workers::{Finished, do_job};
 fn wrap_run(alloc: Global, display: &mut Display, steps: &mut Steps) -> Result<bool, NoMemory>
     requires room { length display.old.events + 2 ≤ event_limit }
 {
+    // For the proof: a job that was sent is out.
     job_laws();
     let Some(job) = display.take_run(alloc, steps)? else {
         return Ok(false);

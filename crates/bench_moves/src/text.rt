@@ -1,4 +1,4 @@
-//! The texts.
+//! The texts on which carets are moved, by kind and size.
 use cell_units::NoMemory;
 use std::alloc::Global;
 

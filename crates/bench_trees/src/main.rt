@@ -1,8 +1,8 @@
-//! Makes trees, ropes and trees of marks of the size that it is told, reads and changes them, and prints a check of what it
-//! read. On standard error it says how many nodes it opened or made.
+//! Makes trees, ropes and trees of marks of the given size, reads and changes them, and prints a check of what it read.
+//! On standard error it says how many nodes it opened or made.
 //!
-//! The words are what to do, the number of items, bytes or marks, and how often: `seek 1000000 1000000`. `bench/trees` times
-//! it. With no words it checks on a small tree that a change of a copy leaves the tree as it was.
+//! The words are what to do, the number of items, bytes or marks, and how often: `seek 1000000 1000000`. `bench/trees`
+//! times it. With no words it checks on a small tree that a change of a copy leaves the tree as it was.
 #![tactic(auto)]
 
 ghost use Rattle.std.specs.Prelude.{◌≤◌, All};

@@ -7,7 +7,7 @@ use mark_tree::{Mark, MarkTree};
 use std::alloc::Global;
 use sum_core::NoLoad;
 
-/// The bytes of the text that the marks stand in.
+/// The bytes of the text that the marks are in.
 const TEXT: u32 = 33_554_432;
 
 /// A mark of this id at a random offset of the text.
@@ -56,8 +56,8 @@ fn one_byte(turn: u32, start: u32) -> Shift
     }
 }
 
-/// Puts in and takes out a byte at random offsets, in turn, `times` times or as often as the text has bytes. It gives the
-/// number of marks.
+/// Puts in and takes out a byte at random offsets, in turn, `times` times or as often as the text has bytes. It gives
+/// the number of marks.
 pub fn shift_each(
     alloc: Global,
     tree: &mut MarkTree<NoLoad>,

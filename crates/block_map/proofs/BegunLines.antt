@@ -30,7 +30,7 @@ module _ (b : Between) (is : IsBetween b) (row t at line k : ℕ) (z : IsInZone 
       let lt : l < length b.lines = omega (arith, within) in
       sooner l lt (omega (arith, same, is.rows l [] lt, rows_before-next b.lines l lt, rows_before-rises b.lines (l + 1) line (omega arith)))
 
-  -- where its first text row is there, what stands above that is counted
+  -- where its first text row is there, what is above that is counted
   first : k ≡ 0 → zone_start b t + length (texts_at t b.above) ≡ place_of_row b line 0
   first none =
       let e : rows_before b.lines line + 0 ≡ t = omega (arith, same, none) in

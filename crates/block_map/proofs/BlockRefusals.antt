@@ -77,7 +77,7 @@ known-id s id e = ap {B = Option Refusal} (λ (b : Bool). cond b None (Some Unkn
 pub unknown-id : (s : BlockState) (id : ℕ) → has_block id s ≡ false → Some UnknownId ≡ remove_refusal s id
 unknown-id s id e = ap {B = Option Refusal} (λ (b : Bool). cond b None (Some UnknownId)) (sym e)
 
--- where nothing is refused, want of memory is owed
+-- where nothing is refused, the error is out of memory
 pub owed-memory : {A : Type 0} (refusal : Option Refusal) (r : Result A Fault) → None ≡ refusal → IsErrAnd r (λ e. e ≡ NoMemory) → IfErr r (IsOwed refusal)
 owed-memory refusal (Ok x) none h = tt
 owed-memory refusal (Err e) none h = subst (λ (o : Option Refusal). IsOwed o e) none h

@@ -18,7 +18,7 @@ use Rattle.block_map.proofs.LineStarts.{rows_before-next, rows_before-rises}
 
 -- ---- lists
 
--- what stands above and below is asked of the lines alone
+-- what is above and below is asked of the lines alone
 with-same : (f g f' g' : ℕ → List Row) (n : ℕ) (ls : List (List Row)) → ((l : ℕ) → n ≤ l → l < n + length ls → (f l ≡ f' l) × (g l ≡ g' l))
     → map (λ (m : ℕ × List Row). f m.0 ++ (m.1 ++ g m.0)) (enumerate_from n ls) ≡ map (λ (m : ℕ × List Row). f' m.0 ++ (m.1 ++ g' m.0)) (enumerate_from n ls)
 with-same f g f' g' n [] same = refl

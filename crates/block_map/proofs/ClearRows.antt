@@ -1,4 +1,4 @@
--- Rows of text behind one at which no stop stands: those up to the next stop.
+-- Rows of text after one at which there is no stop: those up to the next stop.
 use Rattle.std.proofs.Common.{◌≡◌, ℕ, ◌+◌, ◌<◌, ◌≤◌, ◌↔◌, true, List, [], Some, length, get_or, sym, ap, inl, inr, ◌⊎◌, arith}
 use Rattle.std.specs.List.{slice_get}
 use Rattle.std.proofs.lemmas.Bool.{cases_lt, le-leb, leb-true}
@@ -19,7 +19,7 @@ module _ (ss : List Stop) (row at : ℕ) (place : (k : ℕ) (s : Stop) → slice
         omega (arith, leb-true s.row row ((place k s (slice_get-get_or ss k d few)).0 less), e, lt)
     none k d few e (inr ge) = omega (arith, further k (get_or ss k d) ge (slice_get-get_or ss k d few), e)
 
-  -- no stop is behind it
+  -- no stop is after it
   pub clear-end : length ss ≤ at → (t : ℕ) → row < t → texts_at t ss ≡ []
   clear-end end t lt = clear-before t lt (λ k s ge seen. absurd (omega (arith, slice_get_within ss k s seen, end, ge)))
 

@@ -1,4 +1,4 @@
--- What a look at the start of a zone tells of where the zone of a row is.
+-- What a look at the start of a zone says of where the zone of a row is.
 use Rattle.std.proofs.Common.{◌≡◌, ℕ, zero, suc, ◌+◌, ◌-◌, ◌/◌, ◌^◌, ◌<◌, ◌≤◌, length, max, min, sym, ap, subst, arith, add-one, inl, inr}
 use Rattle.std.proofs.lemmas.Bool.{cases_lt, cases_order}
 use Rattle.cell_units.specs.Rows.{all_rows}
@@ -17,7 +17,7 @@ halved n (suc k) some few =
     (omega arith, subst (λ (m : ℕ). n / 2 < 2 ^ m) (sym before) (omega (arith, few)))
 
 module _ (b : Between) where
-  -- zones begin at least as far from each other as their text rows stand
+  -- zones begin at least as far from each other as their text rows are
   pub zones-apart : (s t : ℕ) → s ≤ t → zone_start b s + (t - s) ≤ zone_start b t
   zones-apart s zero le = let e : s ≡ 0 = omega arith in omega (arith, ap (zone_start b) e)
   zones-apart s (suc t) le = elim (cases_order s (suc t)) [
@@ -26,7 +26,7 @@ module _ (b : Between) where
     | inr (inr gt) ↦ absurd (omega arith)
   ]
 
-  -- where a zone begins behind the row, the row's is at most as much before it as there are rows between
+  -- where a zone begins after the row, the row's is at most as much before it as there are rows between
   pub left-below : (row low next guess first m : ℕ) → (low + 1 < next → zone_start b next ≤ row) → row < zone_start b guess
       → first ≡ guess - min (zone_start b guess - row) guess → m ≡ max next first → low + 1 < m → zone_start b m ≤ row
   left-below row low next guess first m before past is most out = elim (cases_lt next first) [
@@ -38,7 +38,7 @@ module _ (b : Between) where
         omega (arith, before (omega (arith, out, e)), ap (zone_start b) e)
   ]
 
-  -- and where it begins at the row or before it, at most as much behind it
+  -- and where it begins at the row or before it, at most as much after it
   pub left-above : (row guess start behind : ℕ) → start ≡ zone_start b guess → start ≤ row → behind ≡ guess + (row - start) + 1 → row + 1 ≤ zone_start b behind
   left-above row guess start behind is le e = omega (arith, zones-apart guess behind (omega (arith, e)), is, le, e)
 
@@ -57,7 +57,7 @@ module _ (b : Between) where
         }
   ]
 
--- at first every zone is open, and no stop stands before it
+-- at first every zone is open, and no stop is before it
 pub whole-window : (b : Between) → IsBetween b → (row count all : ℕ) → row < length (rows_between b) → count ≡ length (all_rows b.lines) → all ≡ length (rows_between b)
     → IsWindow b row (record { low = 0; start = 0; above = 0; next = 1; high = count; end = all })
 whole-window b lawful row count all lt is these = record {

@@ -11,7 +11,7 @@ use Rattle.edit_patch.specs.Patch.{IsPatchFrom}
 use Rattle.block_map.specs.Stops.{Stop, stands_before}
 use Rattle.block_map.specs.inside.RowMoves.{grown, moved_stop, own, shrunk}
 
--- what lies before the next edit goes as far behind `new` as it is behind `old`
+-- what lies before the next edit goes as far after `new` as it is after `old`
 pub before-next : (old new row : ℕ) (e : Edit) (es : List Edit) → row < e.old_start → origin_from new old (inverted (e ∷ es)) row ≡ Some (new + (row - old))
 before-next old new row e es lt = ap (λ (b : Bool). cond b (Some (new + (row - old))) (cond (nat_lt row e.old_end) None (origin_from e.new_end e.old_end (inverted es) row))) (lt-ltb row e.old_start lt)
 
@@ -25,7 +25,7 @@ behind-next old new row e es le end =
     ap (λ (b : Bool). cond b (Some (new + (row - old))) (cond (nat_lt row e.old_end) None (origin_from e.new_end e.old_end (inverted es) row))) (le-ltb row e.old_start le)
     ∙ ap (λ (b : Bool). cond b None (origin_from e.new_end e.old_end (inverted es) row)) (le-ltb row e.old_end end)
 
--- ---- a stop before a row of text (Left), or behind one (Right)
+-- ---- a stop before a row of text (Left), or after one (Right)
 
 abbrev pub stop_at : ℕ → List (List ℕ) → Stop
 stop_at row lines = record { row = row; lines = lines }
@@ -68,8 +68,8 @@ grown-before bias gap old new row lines (e ∷ es) p lt =
     ap (grown bias es) (moved-before bias e.new_start e.new_start (added_count e) row lines small)
     ∙ grown-before bias 1 e.old_end e.new_end row lines es p.1 (omega (arith, small, next.new_order))
 
--- Behind what ends at `old` and `new`, a row that is kept goes to c when all edits have taken their rows away, and from there,
--- as far on as the edits before have moved it, to j.
+-- After what ends at `old` and `new`, a row that is kept goes to c when all edits have taken their rows away. From
+-- there it goes to j, as far on as the edits before have moved it.
 pub record Goes (bias : Bias) (old new : ℕ) (es : List Edit) (row j : ℕ) (lines : List (List ℕ)) (c : ℕ) : Type 0 where
   pub behind : old ≤ c
   pub shrinks : shrunk bias es (stop_at (row + own bias) lines) ≡ stop_at (c + own bias) lines

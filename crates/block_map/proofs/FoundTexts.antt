@@ -29,7 +29,7 @@ texts-cons t s ss = go (eqb s.row t) where
   go true = refl
   go false = refl
 
--- none stands at a place before them all
+-- none is at a place before them all
 pub texts-none : (t o : ℕ) (ps : List StopPiece) → t < o → texts_at t (stops_from o ps) ≡ []
 texts-none t o [] lt = refl
 texts-none t o (p ∷ ps) lt =
@@ -37,11 +37,11 @@ texts-none t o (p ∷ ps) lt =
     ∙ ap (λ b. cond b p.load [] ++ texts_at t (stops_from (o + p.gap.rows) ps)) (ne_eqb (o + p.gap.rows) t (λ e. absurd (omega (arith, e))))
     ∙ texts-none t (o + p.gap.rows) ps (omega arith)
 
--- how many rows stand up to the end of the first n splices, of text and of stops
+-- how many rows there are up to the end of the first n splices, of text and of stops
 abbrev pub shown_to : List StopPiece → ℕ → ℕ
 shown_to ps n = rows_in (total (none no_rows) (both more_rows) (piece_sum more_rows) (take n ps)).upper
 
--- the row x lies in the splice of the index, or behind all
+-- the row x lies in the splice of the index, or after all
 pub record IsSeek (ps : List StopPiece) (x i : ℕ) : Type 0 where
   pub short : shown_to ps i ≤ x
   pub reach : i < length ps → x < shown_to ps (suc i)
@@ -92,7 +92,7 @@ module _ (p : StopPiece) (ps : List StopPiece) (is : IsStopPiece p) (rest : Find
   abbrev stop : Stop
   stop = record { row = o + p.gap.rows; lines = p.load }
 
-  -- the stop stands at the place
+  -- the stop is at the place
   same : o + p.gap.rows ≡ t → (i : ℕ) → IsSeek (p ∷ ps) x i → IsTextFound (p ∷ ps) x i (slice_get texts r)
   same here i s =
       let none : rows_upto Left t (stops_from o (p ∷ ps)) ≡ 0 =
@@ -124,7 +124,7 @@ module _ (p : StopPiece) (ps : List StopPiece) (is : IsStopPiece p) (rest : Find
             (sym (get-append_right p.load (texts_at t others) (r - length p.load)) ∙ ap (slice_get (p.load ++ texts_at t others)) index ∙ ap (λ (l : List (List ℕ)). slice_get l r) (sym joined))
             (further p ps x j (slice_get (texts_at t others) (r - length p.load)) (omega arith) found)
 
-  -- the stop stands before the place
+  -- the stop is before the place
   earlier : o + p.gap.rows < t → (i : ℕ) → IsSeek (p ∷ ps) x i → IsTextFound (p ∷ ps) x i (slice_get texts r)
   earlier before i s =
       let more : rows_upto Left t (stops_from o (p ∷ ps)) ≡ length p.load + rows_upto Left t others =
@@ -142,7 +142,7 @@ module _ (p : StopPiece) (ps : List StopPiece) (is : IsStopPiece p) (rest : Find
             retext (p ∷ ps) x (suc j) (slice_get (texts_at t others) r) (slice_get texts r) (ap (λ (l : List (List ℕ)). slice_get l r) (sym same_texts))
             (further p ps x j (slice_get (texts_at t others) r) (omega arith) found)
 
-  -- none stands there behind it
+  -- there is none after it
   behind : t < o + p.gap.rows → ⊥
   behind far =
       let none : texts ≡ [] =

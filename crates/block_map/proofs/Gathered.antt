@@ -1,4 +1,5 @@
--- Places that are gathered: ranges of places, those of a replacement's marks, of blocks that aren't shown yet, and of edited lines.
+-- Places that are gathered: ranges of places, those of a replacement's marks, of blocks that aren't shown yet, and of
+-- edited lines.
 use Rattle.std.proofs.Common.{◌≡◌, ℕ, zero, suc, ◌+◌, ◌-◌, ◌<◌, ◌≤◌, ◌&&◌, not, nat_le, Bool, true, false, cond, eqb, List, [], ◌∷◌, ◌++◌, Option, Some, None, length, map, filter, refl, sym, ap, subst, ◌∙◌, arith, inl, inr, ◌⊎◌}
 use Rattle.std.specs.List.{All, Contains, dedup, position_or_len, slice_get, slice_index}
 use Rattle.std.specs.List.Sorted.{IsPermutation, IsSorted, IsStrictlyIncreasing}
@@ -116,7 +117,7 @@ module _ {X : Type 0} (p : X → Bool) where
     go true r = omega arith
     go false r = omega (arith, r)
 
-  -- where all behind one that passes pass
+  -- where all after one that passes pass
   pub passes-from : (xs : List X) (k : ℕ) (x : X) → ((i j : ℕ) (y z : X) → i ≤ j → slice_get xs i ≡ Some y → slice_get xs j ≡ Some z → p y ≡ true → p z ≡ true) → slice_get xs k ≡ Some x → position_or_len p xs ≤ k → p x ≡ true
   passes-from [] zero x on e le = absurd (cc)
   passes-from [] (suc k) x on e le = absurd (cc)
@@ -152,7 +153,7 @@ offsets-rise (x ∷ ms) s zero (suc j) m n le e f =
 offsets-rise (x ∷ ms) s (suc i) zero m n le e f = absurd (omega (arith, le))
 offsets-rise (x ∷ ms) s (suc i) (suc j) m n le e f = offsets-rise ms s.1 i j m n (omega (arith, le)) e f
 
--- those that a replacement meets stand from the first at its start to the first behind its end
+-- those that a replacement meets go from the first at its start to the first after its end
 pub met-run : (s : Shift) (ms : List BlockMark) → sorting.IsSorted mark_le ms → (k : ℕ) → IsMetAt (Some s) ms k
     → IsIn (position_or_len (λ m. nat_le s.start m.offset) ms) (position_or_len (λ m. nat_le (s.end + 1) m.offset) ms) k
 met-run s ms sorted k at =
@@ -171,7 +172,7 @@ met-run s ms sorted k at =
       low (inl lt) le = lt
       low (inr ge) le = absurd (omega (arith, le, leb-true (s.end + 1) at.0.offset (passes-from (λ m. nat_le (s.end + 1) m.offset) ms k at.0 on at.1 ge)))
 
--- and no others stand there
+-- and no others are there
 pub met-only : (s : Shift) (ms : List BlockMark) → sorting.IsSorted mark_le ms → (k : ℕ) (m : BlockMark) → slice_get ms k ≡ Some m
     → IsIn (position_or_len (λ m. nat_le s.start m.offset) ms) (position_or_len (λ m. nat_le (s.end + 1) m.offset) ms) k → IsMetAt (Some s) ms k
 met-only s ms sorted k m there p = (m, there, both s.start s.end m.offset (leb-true s.start m.offset from) (to (cases_lt s.end m.offset))) where
@@ -283,7 +284,7 @@ anchor-mark (n ∷ ms) (t ∷ ss) j a e = go (is_unshown (kept n t)) refl j e (�
 
 -- ---- lines of which an edit replaces a row
 
--- the stop stands between those of the first and the last line that the edit reaches
+-- the stop is between those of the first and the last line that the edit reaches
 pub edited-between : (lines : List (List (List ℕ))) (side : Side) (e : Edit) (first last line row : ℕ) → line < length lines → row < length (line_rows lines line)
     → e.old_start ≤ rows_before lines line + row → rows_before lines line + row < e.old_end
     → rows_before lines first ≤ e.old_start → e.old_end ≤ rows_before lines (last + 1)
@@ -306,7 +307,7 @@ edited-between lines side e first last line row within own low high from to =
 rows-more : (lines : List (List (List ℕ))) (l m : ℕ) → HaveRows lines → l < m → l < length lines → rows_before lines l < rows_before lines m
 rows-more lines l m have lt within = omega (arith, rows_before-next lines l within, rows_before-rises lines (l + 1) m (omega (arith, lt)), have l [] within)
 
--- lines in the order in which what stands at them does
+-- lines in the order of what is at them
 in-line-order : (lines : List (List (List ℕ))) (side : Side) (l m : ℕ) → HaveRows lines → l < length lines → m < length lines → row_at_line lines side l ≤ row_at_line lines side m → l ≤ m
 in-line-order lines side l m have lw mw le = elim (cases_lt m l) [
   | inl lt ↦ absurd (below side lt le)

@@ -123,7 +123,7 @@ no-row n e lines side ss xs le = record {
   within = λ w. w;
 }
 
--- what stands beside the lines of its first and its last row stands in order
+-- what is beside the lines of its first and its last row is in order
 pub rows-in_order : (lines : List (List (List ℕ))) (side : Side) (e : Edit) (low high : ℕ) → e.old_start < e.old_end → IsBeside lines side e.old_start low → IsBeside lines side (e.old_end - 1) high → low ≤ high
 rows-in_order lines side e low high some a b =
     let last = b.of_line in
@@ -145,7 +145,7 @@ edited-in e lines side ss first last low high from to some a b low-is high-is f 
       lower (inl lt) le = absurd (omega (arith, ltb-true at.stop.row low ((f k at.stop at.there).0 lt), low-is, at.stands, le))
       lower (inr ge) le = ge
 
--- and at whichever line such a stop stands the edit replaces a row
+-- and at whichever line such a stop is the edit replaces a row
 pub touched-in : (e : Edit) (lines : List (List (List ℕ))) (side : Side) (ss : List Stop) (first last low high from to : ℕ) → HaveRows lines → e.old_start < e.old_end
     → IsOfLine lines first e.old_start → IsOfLine lines last (e.old_end - 1) → low ≡ row_at_line lines side first → high ≡ row_at_line lines side last
     → ((k : ℕ) (s : Stop) → slice_get ss k ≡ Some s → (k < from) ↔ (stands_before Left low s ≡ true)) → ((k : ℕ) (s : Stop) → slice_get ss k ≡ Some s → (k < to) ↔ (stands_before Right high s ≡ true))

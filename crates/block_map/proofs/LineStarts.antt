@@ -1,4 +1,4 @@
--- How many rows stand before lines.
+-- How many rows are before lines.
 use Rattle.std.proofs.Common.{◌≡◌, ℕ, zero, suc, ◌+◌, ◌<◌, ◌≤◌, List, [], ◌∷◌, length, take, ap, ◌∙◌, arith, add-one, append-nil}
 use Rattle.std.proofs.lemmas.List.{length-append}
 use Rattle.cell_units.specs.Rows.{all_rows, line_rows, rows_before}

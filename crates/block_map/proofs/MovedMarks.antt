@@ -13,7 +13,7 @@ use Rattle.mark_tree.proofs.Moved.{move-before, move-behind, move-within}
 use Rattle.mark_tree.proofs.Order.{in_order-below, in_order-cases, in_order-same}
 use Rattle.mark_tree.proofs.Sorting.{Every, IsSorted, every-sort}
 
--- an offset that isn't met stands before the replaced bytes or behind them
+-- an offset that isn't met is before the replaced bytes or after them
 pub unmet-cases : (a b o : ℕ) → (nat_le a o && nat_le o b) ≡ false → (o < a) ⊎ (b < o)
 unmet-cases a b o e = elim (cases_lt o a) [
   | inl lt ↦ inl lt
@@ -42,7 +42,7 @@ module _ {X : Type 0} (le : X → X → Bool) where
     go false r = r
 
 module _ {P : Type 0} (s : Shift) where
-  -- both before or both behind: the order stays
+  -- both before or both after: the order stays
   abbrev rest_le : Mark P → Mark P → Bool
   rest_le m n = in_order (bias_rank m.bias) (bias_rank n.bias) (nat_le m.id n.id)
 
@@ -82,7 +82,7 @@ module _ {P : Type 0} (s : Shift) where
     | inr e ↦ omega (arith, e.0)
   ]
 
-  -- one that isn't met stays before those behind it
+  -- one that isn't met stays before those after it
   first-unmet : (m n : Mark P) → is_met s m ≡ false → mark_le m n ≡ true → mark_le (move_mark s m) (move_mark s n) ≡ true
   first-unmet m n un le =
       let low = order-le m n le in
@@ -94,7 +94,7 @@ module _ {P : Type 0} (s : Shift) where
         | inr lt ↦ both-behind m n lt (omega (arith, lt, low)) le
       ]
 
-  -- and behind those before it
+  -- and after those before it
   second-unmet : (m n : Mark P) → is_met s n ≡ false → mark_le m n ≡ true → mark_le (move_mark s m) (move_mark s n) ≡ true
   second-unmet m n un le =
       let low = order-le m n le in

@@ -196,7 +196,7 @@ anchors-insert k ks un sorted =
       each [] = tt
       each (l ∷ ls) = (tt, each ls)
 
-      -- before all that it stands before
+      -- before all that it comes before
       low : (ls : List Kept) → Every (λ l. kept_le k l ≡ true) ls → insert_by kept_le k (filter is_unshown ls) ≡ k ∷ filter is_unshown ls
       low [] a = refl
       low (l ∷ ls) a = pick (is_unshown l) (low ls a.1) where

@@ -15,7 +15,7 @@ first-at base [] k d r lt = absurd (omega arith)
 first-at base (s ∷ ss) zero d r lt = r.0
 first-at base (s ∷ ss) (suc k) d r lt = omega (arith, r.0, first-at s.row ss k d r.1 (omega arith))
 
--- no stop stands behind a later one
+-- no stop is after a later one
 pub rises : (base : ℕ) (ss : List Stop) (i j : ℕ) (d : Stop) → AreRising base ss → i ≤ j → j < length ss → (get_or ss i d).row ≤ (get_or ss j d).row
 rises base [] i j d r le lt = absurd (omega arith)
 rises base (s ∷ ss) zero zero d r le lt = omega arith

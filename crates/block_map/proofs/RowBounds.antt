@@ -15,7 +15,7 @@ feed-small b e = omega (arith, eqb-true b 10 e)
 boundary-of : (text : List ℕ) (o : ℕ) → IsUtf8 text → IsCharBoundary text o → IsBoundary text o
 boundary-of text o utf8 b = (b.0, IsUtf8-take text o utf8 b)
 
--- a row starts at the text's start or behind a feed
+-- a row starts at the text's start or after a feed
 abbrev AfterFeed : List ℕ → ℕ → Type 0
 AfterFeed text o = (o ≡ 0) ⊎ ((k : ℕ) × ((o ≡ k + 1) × ((k < length text) × (is_feed (get_or text k 0) ≡ true))))
 

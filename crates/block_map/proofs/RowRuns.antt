@@ -1,4 +1,4 @@
--- Rows that stand together: text rows with no block between them, and rows of blocks.
+-- Rows that follow each other: text rows with no block between them, and rows of blocks.
 use Rattle.std.proofs.Common.{◌≡◌, ℕ, zero, suc, ◌+◌, ◌<◌, ◌≤◌, List, [], ◌∷◌, Result, Ok, Err, Some, length, map, take, drop, get_or, refl, sym, ap, subst, ◌∙◌, arith}
 use Rattle.std.specs.List.{slice_get}
 use Rattle.std.specs.Result.{OnErr}
@@ -51,7 +51,7 @@ module _ (b : Between) (is : IsBetween b) (row t at : ℕ) (z : IsInZone b row t
             ∙ zone-at b is t (length (texts_at t b.above) + suc k) z.there (omega (arith, length-zone b t, slice_get_within (texts_at (t + 1) b.below) k text e))
             ∙ below-part b t (length (texts_at t b.above) + suc k) k text refl e
 
--- text rows behind one, up to the next block, stand right behind it
+-- text rows after one, up to the next block, come right after it
 pub clear-zone : (b : Between) (row t n : ℕ) → IsInZone b row t (length (texts_at t b.above)) → IsClear b t (t + n) → t + n ≤ length (all_rows b.lines)
     → (j : ℕ) → j < n → IsInZone b (row + j) (t + j) (length (texts_at (t + j) b.above))
 clear-zone b row t n z clear le zero lt =

@@ -1,4 +1,4 @@
--- What stands at a row of lines with blocks between them, by its zone.
+-- What is at a row of lines with blocks between them, by its zone.
 use Rattle.std.proofs.Common.{◌≡◌, ◌≢◌, ℕ, zero, suc, ◌+◌, ◌*◌, ◌^◌, ◌<◌, ◌≤◌, Bool, cond, eqb, List, [], ◌∷◌, ◌++◌, flat_map, length, map, min, take, drop, get_or, refl, sym, ap, subst, ◌∙◌, inl, inr, arith, Option, Some, None, option_map}
 use Rattle.std.specs.List.{range_with_len, slice_get}
 use Rattle.std.proofs.Math.Nat.{mul-le-mul_left}
@@ -153,16 +153,16 @@ module _ (b : Between) (is : IsBetween b) where
   pub row-in-zone : (row t at : ℕ) → IsInZone b row t at → slice_get (rows_between b) row ≡ slice_get (zone b t) at
   row-in-zone row t at z = ap (slice_get (rows_between b)) (sym z.start) ∙ zone-at t at z.there (in-zone row t at z)
 
-  -- ---- where a row of text stands
+  -- ---- where a row of text is
 
-  -- a line begins, with what stands above it, where the zone of its first row does
+  -- a line begins, with what is above it, where the zone of its first row does
   pub line-zone : (l : ℕ) → l ≤ length b.lines → zone_start b (rows_before b.lines l) ≡ rows_to l (rows_by_line b)
   line-zone l le = sym (ap length (rows-zones-before b is l le) ∙ zone-sizes b none-first (rows_before b.lines l))
 
   no-rows : (xs : List (List ℕ)) → map block_row xs ≡ [] → length xs ≡ 0
   no-rows xs e = sym (length-map xs block_row) ∙ ap length e
 
-  -- no stop stands between the rows of a line
+  -- no stop is between the rows of a line
   pub same-upto : (l k : ℕ) → l < length b.lines → k < length (line_rows b.lines l) →
       (rows_upto Right (rows_before b.lines l + k) b.above ≡ rows_upto Right (rows_before b.lines l) b.above)
       × (rows_upto Right (rows_before b.lines l + k) b.below ≡ rows_upto Right (rows_before b.lines l) b.below)
@@ -190,7 +190,7 @@ module _ (b : Between) (is : IsBetween b) where
   pub within-count : (l k : ℕ) → l < length b.lines → k < length (line_rows b.lines l) → rows_before b.lines l + k < count
   within-count l k lt few = omega (arith, few, rows_before-next b.lines l lt, line-end l lt)
 
-  -- a row of text stands in its zone behind what stands above it
+  -- a row of text is in its zone after what is above it
   pub text-zone : (l k : ℕ) → l < length b.lines → k < length (line_rows b.lines l) →
       let t = rows_before b.lines l + k in IsInZone b (place_of_row b l k) t (length (texts_at t b.above))
   text-zone l k lt few =
@@ -210,7 +210,7 @@ module _ (b : Between) (is : IsBetween b) where
     | inr (inr gt) ↦ absurd (omega (arith, z.end, y.start, zones-rise b (t + 1) s (omega arith)))
   ]
 
-  -- no row of text stands past the last row
+  -- no row of text is past the last row
   pub none-past : (row : ℕ) → length (rows_between b) ≤ row → IsTextAt b row None
   none-past row le l k lt few e =
       let z = text-zone l k lt few in

@@ -1,4 +1,4 @@
--- The row at which a block stands, by what a layer and rows answer.
+-- The row at which a block is, by what a layer and rows return.
 use Rattle.std.proofs.Common.{◌≡◌, ℕ, ◌<◌, ◌≤◌, length, subst}
 use Rattle.cell_units.specs.declared.place.Bias.{Bias}
 use Rattle.cell_units.specs.Folded.{line_of}

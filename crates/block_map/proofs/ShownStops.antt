@@ -63,7 +63,7 @@ module _ (lines : List (List (List ℕ))) where
     one None e f = absurd (cc)
     one (Some r) e f = let w = a.0 r e in (w.0, w.1, ap row_or_none e ∙ w.2)
 
--- blocks that are all shown stand between the lines
+-- blocks that are all shown are between the lines
 pub are-between : (s : BlockState) → IsState s → HaveRows s.lines → AreShown s.above → AreShown s.below
     → length (all_rows s.lines) + (block_height s.above + block_height s.below) < 2 ^ 32 → IsBetween (shown_between s)
 are-between s state have above below sizes = record {

@@ -1,4 +1,4 @@
--- The stops of one side after a `sync`: those that edits carry stand where those made anew would.
+-- The stops of one side after a `sync`: those that edits carry are where those made anew would be.
 use Rattle.std.proofs.Common.{◌≡◌, ℕ, zero, suc, ◌+◌, ◌-◌, ◌^◌, ◌<◌, ◌≤◌, Bool, true, false, cond, List, [], ◌∷◌, Option, Some, None, length, map, take, get_or, sum_by, refl, sym, ap, subst, ◌∙◌, arith, inl, inr, ◌⊎◌}
 use Rattle.std.specs.List.{All, Contains, slice_get}
 use Rattle.std.proofs.lemmas.Bool.{ne_eqb}
@@ -80,7 +80,7 @@ shown-row s lt = ap (λ (b : Bool). cond b None (Some s.row)) (ne_eqb (length s.
 -- ---- a stop that may be carried
 
 module _ (source : Source) (shift : Option Shift) (es : List Edit) (old new : List (List (List ℕ))) where
-  -- where its own row stands, and where that goes
+  -- where its own row is, and where that goes
   pub record Carried (side : Side) (m : BlockMark) (s : Stop) : Type 0 where
     pub row : ℕ
     pub j : ℕ
@@ -144,7 +144,7 @@ module _ (source : Source) (shift : Option Shift) (es : List Edit) (old new : Li
     go None = refl
     go (Some s) = refl
 
-  -- it goes to where its block stands then
+  -- it goes to where its block is then
   carried-there : (k : ℕ) (m : BlockMark) (s : Stop) → slice_get ms k ≡ Some m → slice_get ss k ≡ Some s → MayBeCarried shift es old side m s
       → carried (bias_of side) es s ≡ stop_of_mark source new side (mark_after shift m)
   carried-there k m s em es' may =

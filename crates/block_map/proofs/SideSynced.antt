@@ -65,7 +65,7 @@ all-unmet shift es old side ms ss same leave k d lt =
       | inr may ↦ may.unmet
     ]
 
--- the marks of moved blocks stand where these do
+-- the marks of moved blocks are where these are
 pub anchors-after : (source : Source) (shift : Option Shift) (ms : List BlockMark) (ss : List Stop) → ArePaired ms ss → All (λ k. IsBoundary source.text k.offset) (moved_kept shift (kept_of ms ss))
     → All (λ m. IsBoundary source.text m.offset) (marks_after shift ms)
 anchors-after source shift ms ss p all =

@@ -85,7 +85,7 @@ module _ (f g : Stop → Stop) (lines : (s : Stop) → (f s).lines ≡ s.lines) 
 abbrev pub IsKeptFrom : ℕ → ℕ → List Edit → ℕ → Type 0
 IsKeptFrom old new es row = (row < old) ⊎ ((old ≤ row) × ((j : ℕ) × (origin_from new old (inverted es) row ≡ Some j)))
 
--- the same behind the first edits
+-- the same after the first edits
 pub record Rest (es : List Edit) (row n : ℕ) : Type 0 where
   pub gap : ℕ
   pub old : ℕ
@@ -110,7 +110,7 @@ rest-of (e ∷ es) gap old new row (suc n) p k =
         ]
       ]
 
--- where the later edits have taken their rows away it doesn't stand among the rows of the next one
+-- where the later edits have taken their rows away it isn't among the rows of the next one
 pub clear-next : (bias : Bias) (e : Edit) (es : List Edit) (gap old new row : ℕ) (lines : List (List ℕ)) → IsPatchFrom gap old new (e ∷ es) → IsKeptFrom old new (e ∷ es) row
     → stands_before bias e.old_end (shrunk bias es (stop_at (row + own bias) lines)) ≡ true → (shrunk bias es (stop_at (row + own bias) lines)).row ≤ e.old_start
 clear-next bias e es gap old new row lines p k before = elim (cases_lt row e.old_end) [

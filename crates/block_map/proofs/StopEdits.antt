@@ -16,7 +16,7 @@ use Rattle.block_map.specs.Stops.{Stop, all_stop_rows}
 use Rattle.block_map.specs.inside.StopLists.{AreRising, AreStopPieces, IsRowFor, IsStopPiece, StopPiece, StopsFit, last_row, stop_with, stops_from, with_stop}
 use Rattle.block_map.proofs.StopPlaces.{height, length-stops, sums-are}
 
--- how many rows of text stand before the last stop of splices, or before all where there is none
+-- how many rows of text are before the last stop of splices, or before all where there is none
 abbrev pub end_row : ℕ → List StopPiece → ℕ
 end_row base [] = base
 end_row base (p ∷ ps) = end_row (base + p.gap.rows) ps
@@ -64,7 +64,7 @@ are-regapped gap (p ∷ ps) a = a
 pub are-replaced : (from to : ℕ) (fresh ps : List StopPiece) (gap : RowCount) → AreStopPieces fresh → AreStopPieces ps → AreStopPieces (replaced from to fresh gap ps)
 are-replaced from to fresh ps gap f a = are-append (take from ps) (fresh ++ with_first_gap gap (drop to ps)) (are-take ps from a) (are-append fresh (with_first_gap gap (drop to ps)) f (are-regapped gap (drop to ps) (are-drop ps to a)))
 
--- the gap before the first of the splices behind puts them where they were
+-- the gap before the first of the splices that follow puts them where they were
 abbrev pub PutsBack : ℕ → RowCount → ℕ → List StopPiece → Type 0
 PutsBack base gap old [] = Unit {0}
 PutsBack base gap old (p ∷ ps) = base + gap.rows ≡ old + p.gap.rows
@@ -76,7 +76,7 @@ put-back base gap old (p ∷ ps) e =
       the_stop : ℕ → List (List ℕ) → Stop
       the_stop row lines = record { row = row; lines = lines }
 
--- other splices in the place of some, with the stops behind them where they were
+-- other splices in the place of some, with the stops after them where they were
 pub stops-replaced : (from to : ℕ) (fresh ps : List StopPiece) (gap : RowCount) → PutsBack (end_row (end_row 0 (take from ps)) fresh) gap (end_row 0 (take to ps)) (drop to ps)
     → stops_from 0 (replaced from to fresh gap ps) ≡ take from (stops_from 0 ps) ++ (stops_from (end_row 0 (take from ps)) fresh ++ drop to (stops_from 0 ps))
 stops-replaced from to fresh ps gap put =
@@ -147,7 +147,7 @@ puts (p ∷ ps) (suc n) base gap old each = puts ps n base gap old each
 -- ---- one stop more
 
 module _ (ps : List StopPiece) (stops : List Stop) (are : AreStopPieces ps) (is : stops_from 0 ps ≡ stops) (at row : ℕ) (place : IsRowFor stops at row) where
-  -- the row lies behind the stop before
+  -- the row lies after the stop before
   pub row-behind : end_row 0 (take at ps) ≤ row
   row-behind = go at refl where
     go : (n : ℕ) → at ≡ n → end_row 0 (take at ps) ≤ row
@@ -182,7 +182,7 @@ module _ (ps : List StopPiece) (stops : List Stop) (are : AreStopPieces ps) (is 
 
 -- ---- as the code puts one in
 
--- how many rows of text stand before an index, as a look at it says
+-- how many rows of text are before an index, as a look at it says
 pub start-is : (ps : List StopPiece) → AreStopPieces ps → (at index : ℕ) (before : Sides RowCount) → at ≤ length ps → index ≡ min at (length ps)
     → before ≡ total (none no_rows) (both more_rows) (piece_sum more_rows) (take index ps) → before.lower.rows ≡ end_row 0 (take at ps)
 start-is ps are at index before le index-is before-is =

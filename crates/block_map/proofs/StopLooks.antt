@@ -1,5 +1,5 @@
--- What one way down the tree of stops tells of a place: the rows of the stops before it, and which places near it have the same
--- stops before them.
+-- What one way down the tree of stops says of a place. It gives the rows of the stops before it, and which places near
+-- it have the same stops before them.
 use Rattle.std.proofs.Common.{◌≡◌, ℕ, zero, suc, ◌+◌, ◌<◌, ◌≤◌, ◌↔◌, true, List, [], ◌∷◌, Option, Some, None, length, take, get_or, unwrap_or, refl, sym, ap, ◌∙◌, inl, inr, ◌⊎◌, arith}
 use Rattle.std.specs.List.{slice_get}
 use Rattle.std.specs.Option.{MatchOption}
@@ -59,14 +59,14 @@ module _ (ps : List StopPiece) (stops : List Stop) (are : AreStopPieces ps) (is 
         ap (last_row 0) taken,
       )
 
--- ---- places before which the same stops stand
+-- ---- places that have the same stops before them
 
--- what stands before a place has all stops before it that aren't behind it
+-- what is before a place has all stops before it that aren't after it
 before-too : (bias : Bias) (t : ℕ) (s d : Stop) → s.row ≤ d.row → stands_before bias t d ≡ true → stands_before bias t s ≡ true
 before-too Left t s d le b = lt-ltb s.row t (omega (arith, le, ltb-true d.row t b))
 before-too Right t s d le b = le-leb s.row t (omega (arith, le, leb-true d.row t b))
 
--- a stop stands before places from one on
+-- a stop is before places from one on
 pub from-left : (row t : ℕ) (s : Stop) → s.row ≡ row → (row + 1 ≤ t) ↔ (stands_before Left t s ≡ true)
 from-left row t s is = (λ le. lt-ltb s.row t (omega (arith, le, is)), λ b. omega (arith, is, ltb-true s.row t b))
 

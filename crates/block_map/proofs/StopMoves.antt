@@ -42,7 +42,7 @@ module _ (bias : Bias) (start end count : ℕ) where
       ap (λ (b : Bool). cond b s moved ∷ map (moved_stop bias start end count) (stops_from (base + q.gap.rows) qs)) test
       ∙ ap (λ (l : List Stop). s ∷ l) (kept-before (base + q.gap.rows) qs short)
 
-  -- those behind it move, all as far
+  -- those after it move, all as far
   moved-behind : (base to : ℕ) (qs : List StopPiece) → start ≤ end → IsReaching bias end base → to + (end - start) ≡ base + count
       → map (moved_stop bias start end count) (stops_from base qs) ≡ stops_from to qs
   moved-behind base to [] order reaching far = refl
@@ -81,7 +81,7 @@ get-append [] ys (suc n) y e = absurd (omega (arith, e))
 get-append (x ∷ xs) ys zero y e = absurd (omega (arith, e))
 get-append (x ∷ xs) ys (suc n) y e = get-append xs ys n y (omega (arith, e))
 
--- the splice at the first stop that doesn't stand before the end gets another gap
+-- the splice at the first stop that isn't before the end gets another gap
 module _ (ps : List StopPiece) (stops : List Stop) (are : AreStopPieces ps) (is : stops_from 0 ps ≡ stops) (bias : Bias) (start end count at : ℕ) (order : start ≤ end)
     (first : IsFirst (none no_rows) (both more_rows) (piece_sum more_rows) (λ (s : Sides RowCount). rows_in s.lower) ps end bias at) (clear : AreClear bias start end stops) where
   base : ℕ
@@ -122,7 +122,7 @@ module _ (ps : List StopPiece) (stops : List Stop) (are : AreStopPieces ps) (is 
       ∙ ap (λ (l : List StopPiece). stops_from 0 (take at ps) ++ stops_from (end_row 0 (take at ps)) l) gone
       ∙ sym (parts-moved ∙ ap (λ (l : List StopPiece). stops_from 0 (take at ps) ++ map (moved_stop bias start end count) (stops_from (end_row 0 (take at ps)) l)) gone)
 
-  -- the stop before it stands at the start at most
+  -- the stop before it is at the start at most
   base-clear : end_row 0 (take at ps) ≤ start
   base-clear = elim (cases_lt 0 at) [
     | inl some ↦
@@ -216,7 +216,7 @@ module _ (ps : List StopPiece) (stops : List Stop) (are : AreStopPieces ps) (is 
             let old = piece-at 0 ps at q are e in
             (omega (arith, sizes, old.0), omega (arith, sizes, ap (λ (r : StopPiece). r.new.rows) same))
 
--- ---- which stops stand before a place
+-- ---- which stops are before a place
 
 rows-least : (base : ℕ) (ps : List StopPiece) (k : ℕ) (s : Stop) → slice_get (stops_from base ps) k ≡ Some s → base ≤ s.row
 rows-least base [] zero s e = absurd (cc)

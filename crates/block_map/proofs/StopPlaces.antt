@@ -1,4 +1,5 @@
--- How many rows the stops before a place have, one stop more at a time, and what splices cover of the text with the rows of stops.
+-- How many rows the stops before a place have, one stop more at a time. And what splices cover of the text with the
+-- rows of stops.
 use Rattle.std.proofs.Common.{◌≡◌, ℕ, suc, ◌+◌, Bool, true, false, cond, nat_le, nat_lt, List, [], ◌∷◌, filter, sum_by, length, refl, ap, ◌∙◌, arith}
 use Rattle.std.proofs.lemmas.Bool.Decides.{nat_tests}
 use Rattle.std.proofs.lemmas.List.Sums.{sum_by-cons}

@@ -1,4 +1,4 @@
--- Which stops stand from a row through another, by the first of them.
+-- Which stops there are from a row through another, by the first of them.
 use Rattle.std.proofs.Common.{◌≡◌, ℕ, zero, suc, ◌+◌, ◌<◌, ◌≤◌, ◌↔◌, true, List, [], ◌∷◌, Option, Some, None, length, take, get_or, inl, inr, ◌⊎◌, sym, ap, subst, arith}
 use Rattle.std.specs.Borrow.{Bor}
 use Rattle.std.specs.List.{slice_get}
@@ -33,8 +33,8 @@ found-row ps stops are is at before (Some b) r d before-is found m =
     subst (λ (r : Option ℕ). MatchOption r (length stops ≤ at) (λ n. (get_or stops at d).row ≡ n)) (sym m)
     (omega (arith, ap (λ (l : List Stop). (get_or l at d).row) is, row-at 0 ps at b.now d (sym found), ap (λ (s : Sides RowCount). s.lower.rows) before-is, lower-is 0 (take at ps) (are-take ps at are)))
 
--- Where the first stop from a row on stands behind another row, or where there is no such stop, none stands from the one through
--- the other.
+-- Where the first stop from a row on is after another row, none is from the one through the other. The same holds where
+-- there is no such stop.
 module _ (ss : List Stop) (first last at : ℕ) (order : first ≤ last) (place : (k : ℕ) (s : Stop) → slice_get ss k ≡ Some s → (k < at) ↔ (stands_before Left first s ≡ true)) where
   upto-last : (k : ℕ) (s : Stop) → slice_get ss k ≡ Some s → k < at → stands_before Right last s ≡ true
   upto-last k s e lt = le-leb s.row last (omega (arith, ltb-true s.row first ((place k s e).0 lt), order))

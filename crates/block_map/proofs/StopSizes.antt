@@ -32,7 +32,7 @@ pub last-rises : (from : ℕ) (ss : List Stop) → AreRising from ss → from �
 last-rises from [] r = omega arith
 last-rises from (s ∷ ss) r = omega (arith, r.0, last-rises s.row ss r.1)
 
--- none is behind the last
+-- none is after the last
 pub each-upto : (from : ℕ) (ss : List Stop) → AreRising from ss → Every (IsUpto (last_row from ss)) ss
 each-upto from [] r = tt
 each-upto from (s ∷ ss) r = (last-rises s.row ss r.1, each-upto s.row ss r.1)
@@ -60,7 +60,7 @@ fit-left bs ss rise fit =
 
 -- ---- a row of one among the others
 
--- those before an index stand at most at its row, and those behind it at least
+-- those before an index are at most at its row, and those after it at least
 pub record IsAmong (from n : ℕ) (y : Stop) (ys : List Stop) : Type 0 where
   pub behind : (k : ℕ) (d : Stop) → k < n → (get_or (take n ys ++ drop (n + 1) ys) k d).row ≤ y.row
   pub before : (k : ℕ) (d : Stop) → n ≤ k → k + 1 < length ys → y.row ≤ (get_or (take n ys ++ drop (n + 1) ys) k d).row

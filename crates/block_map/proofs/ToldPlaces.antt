@@ -1,4 +1,4 @@
--- The place of a row at which a zone begins, as a look at another zone tells it.
+-- The place of a row at which a zone begins, as a look at another zone gives it.
 use Rattle.std.proofs.Common.{◌≡◌, ℕ, ◌+◌, ◌-◌, ◌<◌, ◌≤◌, inl, inr, length, arith}
 use Rattle.std.proofs.lemmas.Bool.{cases_lt}
 use Rattle.cell_units.specs.Rows.{all_rows}

@@ -115,7 +115,7 @@ on-one id s Below e = ap (λ (b : Bool). is_kept id s.above || b) e ∙ right (i
 pub state-of_none : (lines : List (List (List ℕ))) → IsState (state_of lines)
 state-of_none lines = record { distinct = λ id e. refl; few = omega arith; above = All-nil (WasAtLine lines Above); below = All-nil (WasAtLine lines Below) }
 
--- ---- what a search of both sides answers
+-- ---- what a search of both sides returns
 
 pub has-side : (id : ℕ) (s : BlockState) (found : Option Side) → MatchOption found (has_block id s ≡ false) (λ side. is_kept id (on_side side s) ≡ true) → has_block id s ≡ is_some found
 has-side id s None e = e

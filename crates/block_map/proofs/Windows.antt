@@ -19,11 +19,11 @@ module _ {X : Type 0} where
     front (z ∷ zs) (suc n) e = ap (λ (l : List X). z ∷ l) (front zs n e)
   window-more (y ∷ ys) (suc first) n x is = window-more ys first n x (let e : suc first + n ≡ suc (first + n) = omega arith in sym (ap (slice_get (y ∷ ys)) e) ∙ is)
 
-  -- one window behind another
+  -- one window after another
   pub window-join : (xs : List X) (first m n : ℕ) → take (m + n) (drop first xs) ≡ take m (drop first xs) ++ take n (drop (first + m) xs)
   window-join xs first m n = take-add m n (drop first xs) ∙ ap (λ (l : List X). take m (drop first xs) ++ take n l) (drop-drop m first xs)
 
-  -- the first one, and those behind it
+  -- the first one, and those after it
   pub window-cons : (xs : List X) (first n : ℕ) (x : X) → slice_get xs first ≡ Some x → take (suc n) (drop first xs) ≡ x ∷ take n (drop (first + 1) xs)
   window-cons xs first n x is = go xs first is ∙ ap (λ (k : ℕ). x ∷ take n (drop k xs)) (sym (add-one first)) where
     go : (xs : List X) (first : ℕ) → slice_get xs first ≡ Some x → take (suc n) (drop first xs) ≡ x ∷ take n (drop (suc first) xs)

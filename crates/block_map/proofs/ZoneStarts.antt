@@ -1,4 +1,4 @@
--- How many rows stand before a zone, and what stands in it.
+-- How many rows are before a zone, and what is in it.
 use Rattle.std.proofs.Common.{◌≡◌, ℕ, zero, suc, ◌+◌, ◌<◌, ◌≤◌, Bool, true, false, cond, eqb, ltb, leb, List, [], ◌∷◌, ◌++◌, flat_map, length, map, get_or, refl, sym, ap, ◌∙◌, inl, inr, arith, add-one, append-nil}
 use Rattle.std.specs.List.{range_with_len}
 use Rattle.std.proofs.lemmas.Bool.{cases_order, le-ltb}

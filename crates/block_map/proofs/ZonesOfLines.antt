@@ -26,11 +26,11 @@ range-append a (suc m) n =
 -- ---- one line
 
 module _ (A B : ℕ → List Row) (T : ℕ → Row) where
-  -- a zone: what stands above, the row of text, and what stands below
+  -- a zone: what is above, the row of text, and what is below
   abbrev pub Z : ℕ → List Row
   Z t = A t ++ (T t ∷ B (t + 1))
 
-  -- nothing stands between the rows of a line
+  -- nothing is between the rows of a line
   abbrev pub IsBare : ℕ → ℕ → Type 0
   IsBare p n = (t : ℕ) → p < t → t < p + n → (A t ≡ []) × (B t ≡ [])
 
@@ -64,7 +64,7 @@ pub length-texts : (lines : List (List (List ℕ))) → length (text_rows lines)
 length-texts [] = refl
 length-texts (x ∷ xs) = omega (arith, length-append (head_and_more x) (text_rows xs), length-append x (all_rows xs), length-head x, length-texts xs)
 
--- nothing stands at a place where no stop does
+-- nothing is at a place where no stop is
 pub no-texts : (t : ℕ) (stops : List Stop) → ((k : ℕ) (d : Stop) → k < length stops → (get_or stops k d).row ≡ t → ⊥) → texts_at t stops ≡ []
 no-texts t [] none = refl
 no-texts t (s ∷ ss) none =

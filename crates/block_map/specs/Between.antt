@@ -17,7 +17,7 @@ block_row text = record { kind = block_kind; text = text }
 abbrev pub rows_above : Between → ℕ → List Row
 rows_above b line = map block_row (texts_at (rows_before b.lines line) b.above)
 
--- the rows below a line: those of the stops behind its last row
+-- the rows below a line: those of the stops after its last row
 abbrev pub rows_below : Between → ℕ → List Row
 rows_below b line = map block_row (texts_at (rows_before b.lines (line + 1)) b.below)
 
@@ -35,11 +35,11 @@ rows_to line lines = length (flat_map (λ rows. rows) (take line lines))
 
 -- ---- rows of text among them
 
--- the row at which a text row of a line stands
+-- the row at which a text row of a line is
 abbrev pub place_of_row : Between → ℕ → ℕ → ℕ
 place_of_row b line k = rows_to line (rows_by_line b) + (length (rows_above b line) + k)
 
--- the line and the text row in it that stand at a row, or none where no text row does
+-- the line and the text row in it that are at a row, or none where no text row is
 abbrev pub IsTextAt : Between → ℕ → Option (ℕ × ℕ) → Type 0
 IsTextAt b row None =
     (line k : ℕ) → line < length b.lines → k < length (line_rows b.lines line) → place_of_row b line k ≢ row

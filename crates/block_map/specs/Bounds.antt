@@ -1,5 +1,5 @@
--- How many steps calls on rows with blocks between them take at most, as costs of a height h that neither tree of stops can
--- exceed.
+-- How many steps calls on rows with blocks between them take at most. They are costs of a height h that neither tree of
+-- stops can exceed.
 use Rattle.std.specs.Prelude.{ℕ, ◌+◌, ◌*◌, ◌^◌, ◌<◌, ◌≤◌, length}
 use Rattle.block_map.specs.Between.{Between}
 
@@ -19,7 +19,7 @@ both_ways h = 2 * (h + 1)
 abbrev pub zoning : ℕ → ℕ
 zoning h = 64 * (h + 1)
 
--- what stands at a place of a zone
+-- what is at a place of a zone
 abbrev pub finding : ℕ → ℕ
 finding h = 2 * (h + 1)
 
@@ -27,7 +27,7 @@ finding h = 2 * (h + 1)
 abbrev pub reading : ℕ → ℕ
 reading h = 66 * (h + 1)
 
--- a row is sought, and where in its zone the text row stands
+-- a row is sought, and where in its zone the text row is
 abbrev pub locating : ℕ → ℕ
 locating h = 65 * (h + 1)
 
@@ -45,7 +45,8 @@ inserting h = 171 * (h + 1)
 
 -- ---- a block that is added or taken out
 
--- A call may look at every one of n blocks twice, each time on a fifth as many nodes, and takes at most `cost h` steps beside.
+-- A call may look at every one of n blocks twice, each time on a fifth as many nodes. It takes at most `cost h` steps
+-- beside that.
 abbrev pub SearchesTwice : (ℕ → ℕ) → ℕ → ℕ → ℕ → Type 0
 SearchesTwice cost n old new = (h : ℕ) → n < 2 * 6 ^ (h + 1) → 5 * new ≤ 5 * old + (2 * n + 5 * cost h)
 
@@ -78,8 +79,8 @@ gathering anchors edits h = (35 * anchors + 2 * edits + 2) * (h + 1)
 abbrev pub remaking : ℕ → ℕ → ℕ → ℕ → ℕ
 remaking met anew edits h = (170 * met + 341 * anew + 340 * edits + 170) * (h + 1)
 
--- of one side the marks follow the replacement before and then this one, so many blocks are shown anew, and so many edits move
--- the others
+-- of one side the marks follow the replacement before and then this one. So many blocks are shown anew, and so many
+-- edits move the others
 abbrev pub syncing_side : ℕ → ℕ → ℕ → ℕ
 syncing_side anew edits h = (546 * anew + 342 * edits + 342) * (h + 1)
 

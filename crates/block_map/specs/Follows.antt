@@ -29,7 +29,7 @@ abbrev pub moved_one : Option Shift → Kept → Kept
 moved_one None k = k
 moved_one (Some s) k = move_kept s k
 
--- a block that was shown at a line of which every row is kept stands at the line to which those rows go
+-- a block that was shown at a line of which every row is kept is at the line to which those rows go
 abbrev pub Follows : Source → Option Shift → List Edit → List (List (List ℕ)) → List (List (List ℕ))
     → Side → Kept → Type 0
 Follows source shift es old new side k =
@@ -40,8 +40,8 @@ Follows source shift es old new side k =
 abbrev pub block_height : List Kept → ℕ
 block_height ks = sum_by (λ k. length k.lines) ks
 
--- The rows that a block map showed last became these, by edits of rows, beside a layer that a replacement of the text has
--- made, if there was one.
+-- The rows that a block map showed last became these by edits of rows. The layer beside them was made by a replacement
+-- of the text, if there was one.
 pub record IsFollowed (source : Source) (shift : Option Shift) (es : List Edit)
     (lines : List (List (List ℕ))) (s : BlockState) : Type 0 where
   pub edits : Fits es (all_rows s.lines) (all_rows lines)

@@ -1,3 +1,6 @@
+-- What the crate promises: all but those named next
+-- What its parts say to each other: RowCounts, inside
+
 pub mod Between
 pub mod Bounds
 pub mod Carried

@@ -20,8 +20,8 @@ use Rattle.plain_rows.specs.Rows.{Row, blocks_at, head_and_more, line_of_block, 
 use Rattle.block_map.specs.Between.{Between, rows_above, rows_below, rows_by_line}
 use Rattle.block_map.specs.Stops.{Stop}
 
--- A block of one side: its anchor in the text, its id and its lines, and how many rows of text stood before its own when the
--- map was last shown, if it was there then.
+-- A block of one side: its anchor in the text, its id and its lines. If it was there when the map was last shown, it
+-- has how many rows of text were before its own then.
 pub record Kept : Type 0 where
   pub offset : ℕ
   pub id : ℕ
@@ -85,7 +85,7 @@ add_refusal source s id offset lines =
 abbrev pub remove_refusal : BlockState → ℕ → Option Refusal
 remove_refusal s id = if has_block id s then None else Some UnknownId
 
--- the refusal that is owed, and where there is none want of memory
+-- the refusal that is owed, and out of memory where there is none
 abbrev pub IsOwed : Option Refusal → Fault → Type 0
 IsOwed (Some refusal) fault = fault ≡ Refused refusal
 IsOwed None fault = fault ≡ NoMemory
@@ -125,13 +125,13 @@ moved_kept (Some s) ks = sort_by kept_le (map (move_kept s) ks)
 abbrev pub moved : Option Shift → BlockState → BlockState
 moved shift s = record s { above = moved_kept shift s.above; below = moved_kept shift s.below }
 
--- ---- where blocks stand
+-- ---- where blocks are
 
 -- the line of a block
 abbrev pub line_of_kept : Source → Side → Kept → ℕ
 line_of_kept source side k = line_of_block (record_with source []) (block_of side k)
 
--- how many rows of text stand before what stands at a line, above it or below it
+-- how many rows of text are before what is at a line, above it or below it
 abbrev pub row_at_line : List (List (List ℕ)) → Side → ℕ → ℕ
 row_at_line lines Above line = rows_before lines line
 row_at_line lines Below line = rows_before lines (line + 1)
@@ -162,7 +162,7 @@ between_of source lines s = record {
   below = map (stop_of source lines Below) s.below;
 }
 
--- each block stands at one of the lines
+-- each block is at one of the lines
 abbrev pub StandWithin : Source → List (List (List ℕ)) → Side → List Kept → Type 0
 StandWithin source lines side ks = All (λ k. line_of_kept source side k < length lines) ks
 

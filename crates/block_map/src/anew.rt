@@ -21,8 +21,9 @@ use mark_tree::MarkTree;
 use std::alloc::Global;
 use sum_core::NoLoad;
 
-/// The places of the stops that are made anew, in order: those of marks that the replacement meets, of blocks of which nothing
-/// was shown yet, and at lines of which edits replace a row. `rows` are the old ones.
+/// The places of the stops that are made anew, in order. They are those of marks that the replacement meets, and of
+/// blocks of which nothing was shown yet. And they are those at lines of which edits replace a row. `rows` are the old
+/// ones.
 pub(crate) fn places_anew<R: Rows>(
     alloc: Global,
     marks: &MarkTree<BlockLines>,
@@ -51,7 +52,7 @@ pub(crate) fn places_anew<R: Rows>(
     ensures steps { let cost = gathering (length anchors.now) (length edits.now) in
         TakesAtMost cost (length marks.now) steps.old steps.new }
 {
-    // Marks are in order, no two with one id.
+    // For the proof: marks are in order, no two with one id.
     let _count = marks.len();
     let mut places = Vec::new(alloc);
     push_met(&mut places, marks, shift, steps)?;
@@ -86,7 +87,7 @@ fn push_met(
     ensures counted { steps.old ≤ steps.new }
     ensures steps { TakesAtMost both_ways (length marks.now) steps.old steps.new }
 {
-    // Marks are in order.
+    // For the proof: marks are in order.
     let _count = marks.len();
     match shift {
         None => Ok(()),
@@ -139,12 +140,12 @@ fn push_anchored(
     Ok(())
 }
 
-/// How many rows stand before what stands on a side of the line of a row.
+/// How many rows are before what is on a side of the line of a row.
 fn row_beside<R: Rows>(rows: &R, side: Side, row: u32) -> u32
     requires { row < length (all_rows (R.shown rows.now)) }
     ensures { IsBeside (R.shown rows.now) side row result }
 {
-    // The number of lines is a u32.
+    // For the proof: the number of lines is a u32.
     let _lines = rows.lines();
     match rows.line_at(row) {
         None => unreachable!(),
@@ -210,7 +211,7 @@ fn push_lines_of<R: Rows>(
     ensures counted { steps.old ≤ steps.new }
     ensures steps { TakesAtMost both_ways (length stops.now) steps.old steps.new }
 {
-    // Each line has a row.
+    // For the proof: each line has a row.
     let _lines = rows.lines();
     if edit.old_end <= edit.old_start {
         return Ok(());

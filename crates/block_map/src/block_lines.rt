@@ -1,4 +1,4 @@
-//! The lines of a block.
+//! The lines of a block, shared by the copies of the block.
 ghost use Rattle.std.specs.Prelude.{◌≡◌, ◌<◌, [], Some, length, slice_get, IfOk};
 ghost use Rattle.std.specs.List.{All};
 ghost use Rattle.std.specs.Str.{IsUtf8};

@@ -16,11 +16,11 @@ use cell_units::{Fault, Layer, NoMemory, Refusal, Rows, Side, Steps, Text};
 use std::alloc::Global;
 use std::marker::Model;
 
-/// Blocks above and below lines: each at its anchor, and where it was last shown. Contracts see the lines that were last shown
-/// and the blocks of each side in order.
+/// Blocks above and below lines: each at its anchor, and where it was last shown. Contracts see the lines that were
+/// last shown and the blocks of each side in order.
 ///
-/// The bounds on the steps of a call are given for each h such that the number of blocks is less than 2 * 6^(h + 1). The
-/// least such h is the greatest height of a tree of so many.
+/// Bounds on the steps of a call are given for each h such that the blocks are fewer than 2 * 6^(h + 1). The least such
+/// h is the greatest height of a tree of so many.
 pub struct BlockMap<R: Rows> {
     pub(crate) rows: R,
     pub(crate) above: BlockSide,
@@ -50,7 +50,8 @@ impl<R: Rows> Model for BlockMap<R> {
 }
 
 impl<R: Rows> BlockMap<R> {
-    /// The rows without blocks, which count as shown. It opens no node and takes no memory.
+    /// The rows without blocks, which count as shown. It opens no node and allocates nothing, so `NoMemory` has no
+    /// cause.
     pub fn new(alloc: Global, rows: R, steps: &mut Steps) -> Result<BlockMap<R>, NoMemory>
         ensures ok { IfOk result (λ m. m ≡ state_of (R.shown rows)) }
         ensures steps { steps.new ≡ steps.old }
@@ -64,7 +65,8 @@ impl<R: Rows> BlockMap<R> {
         })
     }
 
-    /// An equal map, and no later change of either changes the other. It takes no memory: `NoMemory` is one holder too many.
+    /// An equal map, and no later change of either changes the other. It allocates nothing, and fails with `NoMemory`
+    /// only where the count of holders is full.
     pub fn share(&self) -> Result<BlockMap<R>, NoMemory>
         ensures { IfOk result (λ m. m ≡ self.now) }
     {
@@ -81,8 +83,8 @@ impl<R: Rows> BlockMap<R> {
         self.above.len() + self.below.len()
     }
 
-    /// The offset, id and lines of a block of one side, by its place among those of that side, counted from 0. `None` exactly
-    /// where there is none.
+    /// The offset, id and lines of a block of one side, by its place among those of that side, counted from 0. `None`
+    /// exactly where there is none.
     pub fn get(&self, side: Side, at: u32, steps: &mut Steps) -> Option<(u32, u32, &[Text])>
         ensures block { MatchOption result (length (on_side side self.now) ≤ at) (λ b.
             IsBlockAt (on_side side self.now) at b.0 b.1 b.2.now) }
@@ -95,11 +97,14 @@ impl<R: Rows> BlockMap<R> {
         }
     }
 
-    /// Adds a block: lines that are shown above or below the line of an offset's row. The offset counts bytes, and goes behind
-    /// what is inserted there. In this order `IdInUse` where the id is there, `BadRange` where the offset is past the text's
-    /// end or inside a character, `BadText` where there is no line, more than `BLOCK_LINES_LIMIT`, or one with a line break,
-    /// and `TooLong` where a line has more than `BLOCK_LINE_LIMIT` bytes or `ENTRY_LIMIT` blocks are there. Nothing is shown
-    /// of the block before the next `sync`.
+    /// Adds a block: lines that are shown above or below the line of an offset's row. The offset counts bytes, and goes
+    /// after what is inserted there. Nothing is shown of the block before the next `sync`. It is refused by the first
+    /// of these that fits:
+    ///
+    /// - `IdInUse`: the id is there;
+    /// - `BadRange`: the offset is past the text's end or inside a character;
+    /// - `BadText`: there is no line, more than `BLOCK_LINES_LIMIT`, or one with a line break;
+    /// - `TooLong`: a line has more than `BLOCK_LINE_LIMIT` bytes, or `ENTRY_LIMIT` blocks are there.
     pub fn insert<P: Layer>(
         &mut self,
         alloc: Global,
@@ -168,7 +173,7 @@ impl<R: Rows> BlockMap<R> {
         None
     }
 
-    /// Why a block isn't added to these, if it isn't.
+    /// Why a block isn't added to these, if it isn't: the refusal of `insert`. The offset counts bytes.
     pub fn refusal_to_add<P: Layer>(
         &self,
         layer: &P,
@@ -182,7 +187,7 @@ impl<R: Rows> BlockMap<R> {
         ensures steps { let count = length self.now.above + length self.now.below in
             SearchesBoth count steps.old steps.new }
     {
-        // The text is UTF-8.
+        // For the proof: the text is UTF-8.
         let _len = layer.buffer_len();
         if self.side_of(id, steps).is_some() {
             return Some(Refusal::IdInUse);

@@ -12,8 +12,9 @@ use mark_tree::{MarkTree, moved_offset};
 use std::alloc::Global;
 use std::marker::Model;
 
-/// The marks of blocks, and the replacement that they have yet to follow, if there is one: it meets none of them. A tree that
-/// nobody else holds is moved in place, where its share would be copied on the way to a mark. Contracts see the marks after it.
+/// The marks of blocks, and the replacement that they have yet to follow, if there is one: it meets none of them. A
+/// tree that nobody else holds is moved in place, where its share would be copied on the way to a mark. Contracts see
+/// the marks after it.
 pub(crate) struct BlockMarks {
     marks: MarkTree<BlockLines>,
     pending: Option<Shift>,
@@ -52,7 +53,7 @@ impl BlockMarks {
     pub(crate) fn of(marks: MarkTree<BlockLines>) -> BlockMarks
         ensures { result ≡ marks }
     {
-        // Their offsets are u32.
+        // For the proof: offsets of marks are u32.
         let _count = marks.len();
         BlockMarks {
             marks,
@@ -60,13 +61,13 @@ impl BlockMarks {
         }
     }
 
-    /// The marks after a replacement that meets none of them, if there was one. One that keeps the length of the text moves none,
-    /// and any other is left to be followed.
+    /// The marks after a replacement that meets none of them, if there was one. One that keeps the length of the text
+    /// moves none, and any other is left to be followed.
     pub(crate) fn behind(marks: MarkTree<BlockLines>, shift: Option<Shift>) -> BlockMarks
         requires { MayFollow shift marks }
         ensures { result ≡ marks_after shift marks }
     {
-        // They are in order.
+        // For the proof: marks are in order.
         let _count = marks.len();
         match shift {
             None => BlockMarks::of(marks),
@@ -106,7 +107,7 @@ impl BlockMarks {
         ensures counted { steps.old ≤ steps.new }
         ensures steps { TakesAtMost way (length self.now) steps.old steps.new }
     {
-        // They are in order.
+        // For the proof: marks are in order.
         let _count = self.marks.len();
         let (offset, bias, id, lines) = self.marks.get(at, steps)?;
         match self.pending {
@@ -124,7 +125,7 @@ impl BlockMarks {
         self.marks.contains(id, steps)
     }
 
-    /// Moves the marks by the replacement that they have yet to follow, in place, and answers a share of their tree.
+    /// Moves the marks by the replacement that they have yet to follow, in place, and returns a share of their tree.
     pub(crate) fn settled(
         &mut self,
         alloc: Global,

@@ -1,4 +1,4 @@
-//! The blocks of one side.
+//! The blocks of one side, above lines or below them, each with its stop.
 ghost use Rattle.std.specs.Prelude.{◌≡◌, ◌==◌, ◌+◌, ◌<◌, ◌≤◌, ◌^◌, [], true, false, length, IfOk, MatchOption, OnErr, OnOk};
 ghost use Rattle.std.specs.List.{list_any};
 ghost use Rattle.cell_units.specs.declared.limits.TheConstants.{ENTRY_LIMIT};
@@ -20,8 +20,8 @@ use std::alloc::Global;
 use std::marker::Model;
 use sum_core::NoLoad;
 
-/// Blocks at their anchors, beside each its stop, and the anchors of those of which nothing is shown yet. Contracts see the
-/// blocks in order, each with how many rows of text stood before its own when it was shown.
+/// Blocks at their anchors, beside each its stop, and the anchors of those of which nothing is shown yet. Contracts see
+/// the blocks in order, each with how many rows of text were before its own when it was shown.
 pub(crate) struct BlockSide {
     pub(crate) marks: BlockMarks,
     pub(crate) stops: Stops,
@@ -126,7 +126,7 @@ impl BlockSide {
         ensures steps { SearchesTwice altering_side (length self.old + 1) steps.old steps.new }
     {
         let settled = self.marks.settled(alloc, steps)?;
-        // Marks are in order, of distinct ids.
+        // For the proof: marks are in order, of distinct ids.
         let _marks = settled.len();
         let block = mark(offset, id, lines);
         let (at, marks) = with_new(&settled, alloc, block, steps)?;
@@ -155,7 +155,7 @@ impl BlockSide {
         ensures steps { SearchesTwice altering_side (length self.old) steps.old steps.new }
     {
         let settled = self.marks.settled(alloc, steps)?;
-        // Marks are in order, of distinct ids.
+        // For the proof: marks are in order, of distinct ids.
         let _marks = settled.len();
         let (at, marks) = without_known(&settled, alloc, id, steps)?;
         let stops = self.stops.without(alloc, at, steps)?;
@@ -169,7 +169,7 @@ impl BlockSide {
     }
 }
 
-/// The mark of a block, which goes behind what is inserted at its offset.
+/// The mark of a block, which goes after what is inserted at its offset.
 fn mark<P>(offset: u32, id: u32, load: P) -> Mark<P>
     ensures { result ≡ mark_with offset Right id load }
 {

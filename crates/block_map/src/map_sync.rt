@@ -25,10 +25,12 @@ impl BlockSide {
 }
 
 impl<R: Rows> BlockMap<R> {
-    /// Takes the layer and its rows as they are now, with the replacement of the text that led to the layer since the last call,
-    /// if there was one, and the edits that lead from the rows that were shown last to these. The blocks move with the text, each
-    /// is shown at its line, and it answers what is shown. All but the blocks that are carried with their lines are shown anew:
-    /// those of which nothing was shown yet, those that the replacement meets, and those at lines of which an edit replaces a row.
+    /// Takes the layer and its rows as they are now, and moves the blocks with the text. Returns what is shown: each
+    /// block at its line. With the layer comes the replacement of the text that led to it since the last call, if there
+    /// was one. With the rows come the edits that lead to them from the rows that were shown last.
+    ///
+    /// All but the blocks that are carried with their lines are shown anew. These are the ones of which nothing was
+    /// shown yet, and those that the replacement meets. And they are those at lines of which an edit replaces a row.
     pub fn sync<P: Layer>(
         &mut self,
         alloc: Global,
@@ -51,7 +53,7 @@ impl<R: Rows> BlockMap<R> {
         ensures counted { steps.old ≤ steps.new }
         ensures steps { SyncsAtMost shift row_edits.now self.old steps.old steps.new }
     {
-        // The layer is lawful, and each line has a row.
+        // For the proof: the layer is well formed, and each line has a row.
         let _len = layer.buffer_len();
         let _lines = rows.lines();
         let next = self.after(alloc, layer, shift, rows, row_edits, steps)?;
@@ -82,7 +84,7 @@ impl<R: Rows> BlockMap<R> {
         ensures counted { steps.old ≤ steps.new }
         ensures steps { SyncsAtMost shift row_edits.now self.old steps.old steps.new }
     {
-        // The layer is lawful.
+        // For the proof: the layer is well formed.
         let _len = layer.buffer_len();
         let old = &self.rows;
         let above = self.above.synced(
@@ -116,7 +118,7 @@ impl<R: Rows> BlockMap<R> {
             length (all_rows self.now.lines) + blocks < 2 ^ 32 }
         ensures { IfOk result (λ b. b ≡ shown_between self.now) }
     {
-        // Each line has a row.
+        // For the proof: each line has a row.
         let _lines = self.rows.lines();
         Ok(BlockSnapshot {
             rows: self.rows.share()?,

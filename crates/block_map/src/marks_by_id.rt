@@ -21,7 +21,7 @@ pub(crate) fn with_new<P: Load>(
     requires room { length tree.now + 1 < 2 ^ 32 }
     requires unused { list_any (has_id mark.id) tree.now ≡ false }
 
-    // The marks in order with it, where it stands at the place.
+    // The marks in order with it, where it is at the place.
     ensures ok { IfOk result (λ r. r.1 ≡ insert_by mark_le mark tree.now) }
     ensures place { IfOk result (λ r. r.1 ≡ take r.0 tree.now ++ mark ∷ drop r.0 tree.now) }
     ensures within { IfOk result (λ r. r.0 ≤ length tree.now) }
@@ -39,7 +39,7 @@ pub(crate) fn with_new<P: Load>(
     }
 }
 
-/// The tree without the mark of an id that is there, and the place at which that stood.
+/// The tree without the mark of an id that is there, and the place at which that was.
 pub(crate) fn without_known<P: Load>(
     tree: &MarkTree<P>,
     alloc: Global,

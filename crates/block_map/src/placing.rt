@@ -18,14 +18,14 @@ use mark_tree::MarkTree;
 use std::alloc::Global;
 use sum_core::Load;
 
-/// How many rows of text stand before what stands on a side of the line of an offset's row.
+/// How many rows of text are before what is on a side of the line of an offset's row.
 pub(crate) fn row_at_side<P: Layer, R: Rows>(layer: &P, rows: &R, side: Side, offset: u32) -> u32
     requires boundary { IsBoundary (P.source layer.now).text offset }
     requires equal { length (shown_lines (P.source layer.now)) ≡ length (R.shown rows.now) }
     ensures { let source = P.source layer.now in
         result ≡ row_of_kept source (R.shown rows.now) side (fresh 0 offset []) }
 {
-    // The text is UTF-8, and each line has a row.
+    // For the proof: the text is UTF-8, and each line has a row.
     let _len = layer.buffer_len();
     let _lines = rows.lines();
     let (start, end) = layer.row_ends(offset);
@@ -42,7 +42,7 @@ pub(crate) fn row_at_side<P: Layer, R: Rows>(layer: &P, rows: &R, side: Side, of
 }
 
 impl Stops {
-    /// Puts in the stops that stand at some places of all, which rise: each at the line of its mark.
+    /// Puts in the stops of some places of all, which rise: each at the line of its mark.
     pub(crate) fn put_in<P: Layer, R: Rows>(
         &mut self,
         alloc: Global,
@@ -53,7 +53,7 @@ impl Stops {
         side: Side,
         steps: &mut Steps,
     ) -> Result<(), NoMemory>
-        // The places are of marks, all other marks have their stops, and the stops of all may stand at their lines.
+        // The places are of marks, all other marks have their stops, and the stops of all may be at their lines.
         requires rising { IsRising 0 places.now }
         requires within { All (λ a. a < length marks.now) places.now }
         requires others { let source = P.source layer.now in
@@ -89,13 +89,13 @@ impl Stops {
         side: Side,
         steps: &mut Steps,
     ) -> Result<(), NoMemory>
-        // The mark is there, stops of marks may stand at their lines, and this one may be put at its place.
+        // The mark is there, stops of marks may be at their lines, and this one may be put at its place.
         requires there { at < length marks.now }
         requires marks { MayStand (P.source layer.now) (R.shown rows.now) side marks.now }
         requires room { (m : BlockMark) → slice_get marks.now at ≡ Some m →
             MayBePut self.old at (stop_of_mark (P.source layer.now) (R.shown rows.now) side m) }
 
-        // It stands at its line, before the stops that were from its place on.
+        // It is at its line, before the stops that were from its place on.
         ensures ok { (m : BlockMark) → slice_get marks.now at ≡ Some m →
             let stop = stop_of_mark (P.source layer.now) (R.shown rows.now) side m in
             OnOk result (self.new ≡ with_stop at stop self.old) }

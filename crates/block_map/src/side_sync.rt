@@ -21,7 +21,7 @@ use edit_patch::{Edit, Patch};
 use mark_tree::MarkTree;
 use std::alloc::Global;
 
-/// Whether stops of a side stand before a row of text, or behind one.
+/// Whether stops of a side are before a row of text, or after one.
 fn bias_of(side: Side) -> Bias
     ensures { result ≡ bias_of side }
 {
@@ -131,9 +131,10 @@ fn some_anew<P: Layer, R: Rows>(
 }
 
 impl BlockSide {
-    /// The blocks after a replacement of the text, if there was one, each shown at its line of the new layer and rows. Stops are
-    /// made anew where the replacement meets the mark, where nothing was shown yet, and at lines of which an edit replaces a row;
-    /// all others move with the edits of rows. These blocks stay as they are, with their marks moved by the replacements before.
+    /// The blocks after a replacement of the text, if there was one, each shown at its line of the new layer and rows.
+    /// Stops are made anew where the replacement meets the mark, where nothing was shown yet, and at lines of which an
+    /// edit replaces a row. All others move with the edits of rows. These blocks stay as they are, with their marks
+    /// moved by the replacements before.
     pub(crate) fn synced<P: Layer, R: Rows>(
         &mut self,
         alloc: Global,
@@ -145,7 +146,7 @@ impl BlockSide {
         edits: &Patch,
         steps: &mut Steps,
     ) -> Result<BlockSide, NoMemory>
-        // What a `sync` asks of one side: the edits lead to the new rows, and shown blocks stood at old lines.
+        // What a `sync` asks of one side: the edits lead to the new rows, and shown blocks were at old lines.
         requires { let source = P.source layer.now in let lines = R.shown old.now in
             IsSideFollowed source shift edits.now lines (R.shown rows.now) side self.old }
 
@@ -160,13 +161,13 @@ impl BlockSide {
         ensures steps { let lines = R.shown old.now in
             SyncsSideAtMost shift edits.now lines side self.old steps.old steps.new }
     {
-        // The text's length is a u32, each line has a row, and marks are in order.
+        // For the proof: the text's length is a u32, each line has a row, and marks are in order.
         let _len = layer.buffer_len();
         let _lines = old.lines();
         let marks = self.marks.settled(alloc, steps)?;
-        // Marks are in order, of distinct ids.
+        // For the proof: marks are in order, of distinct ids.
         let _count = marks.len();
-        // Rows of stops don't fall.
+        // For the proof: rows of stops don't fall.
         let _rising = self.stops.len();
         let edits = edits.edits();
         let places = places_anew(

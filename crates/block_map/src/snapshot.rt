@@ -18,8 +18,8 @@ use plain_rows::{Kind, Shown};
 use std::alloc::Global;
 use std::marker::Model;
 
-/// How many times as many text rows as there are may be open at first, where each look halves that: 2^4, so there is room for four
-/// looks that tell little.
+/// How many times as many text rows as there are may be open at first, where each look halves that. It is 2^4, so there
+/// is room for four looks that say little.
 const SPARE_ROOM: u32 = 16;
 
 /// Rows of lines with blocks between them. Contracts see the lines, and the stops of the blocks above and below them.
@@ -51,8 +51,8 @@ impl<R: Rows> Model for BlockSnapshot<R> {
         IsBetween (record { lines = R.shown s.rows; above = s.above; below = s.below }) };
 }
 
-/// Where a row lies: in the zone of which text row, and how far in it. Before that zone the stops above lines have `above` rows,
-/// and those below lines `below`. Where the zone is known to have no row of a block it is `plain`.
+/// Where a row lies: in the zone of which text row, and how far in it. Before that zone the stops above lines have
+/// `above` rows, and those below lines `below`. Where the zone is known to have no row of a block it is `plain`.
 #[derive(Clone, Copy)]
 pub(crate) struct Place {
     pub(crate) text_row: u32,
@@ -62,8 +62,8 @@ pub(crate) struct Place {
     pub(crate) plain: bool,
 }
 
-/// The row at which a zone begins. Before it there are `blocks` rows of blocks, and `above` of these stand above lines. There are
-/// as many before the zone of each text row from `from` on before `to`.
+/// The row at which a zone begins. Before it there are `blocks` rows of blocks, and `above` of these are above lines.
+/// There are as many before the zone of each text row from `from` on before `to`.
 #[derive(Clone, Copy)]
 struct ZoneStart {
     row: u32,
@@ -74,7 +74,7 @@ struct ZoneStart {
 }
 
 impl ZoneStart {
-    /// The place of a row, if it is the first of its zone and the look tells how many rows of blocks stand before that.
+    /// The place of a row, if it is the first of its zone and the look says how many rows of blocks are before that.
     fn place_of(self, row: u32) -> Option<Place>
         requires { self.above ≤ self.blocks }
         ensures told { (t : ℕ) → self.from ≤ t → t < self.to → t + self.blocks ≡ row →
@@ -102,7 +102,8 @@ impl ZoneStart {
 }
 
 impl<R: Rows> BlockSnapshot<R> {
-    /// An equal snapshot, which no later change of a map reaches. It takes no memory: `NoMemory` is one holder too many.
+    /// An equal snapshot, which no later change of a map reaches. It allocates nothing, and fails with `NoMemory` only
+    /// where the count of holders is full.
     pub fn share(&self) -> Result<BlockSnapshot<R>, NoMemory>
         ensures { IfOk result (λ s. s ≡ self.now) }
     {
@@ -136,7 +137,7 @@ impl<R: Rows> BlockSnapshot<R> {
         ensures counted { steps.old ≤ steps.new }
         ensures steps { TakesBetween both_ways self.now steps.old steps.new }
     {
-        // All rows together are a u32.
+        // For the proof: all rows together are a u32.
         let _count = self.text_rows();
         let above = self.above.look(text_row, Bias::Left, steps);
         let below = self.below.look(text_row, Bias::Right, steps);
@@ -171,7 +172,7 @@ impl<R: Rows> BlockSnapshot<R> {
             high: self.text_rows(),
             end: self.row_count(),
         };
-        // Each look halves it. Beside those that halving takes there is room for some that tell little.
+        // Each look halves it. Beside those that halving takes there is room for some that say little.
         let mut room = window.high.saturating_mul(SPARE_ROOM);
         'seek: while window.next < window.high {
             room /= 2;
@@ -191,8 +192,8 @@ impl<R: Rows> BlockSnapshot<R> {
         }
     }
 
-    /// The window that a look at the start of a zone leaves. A text row farther is at least a row farther: so it is cut at both
-    /// ends.
+    /// The window that a look at the start of a zone leaves. A text row farther is at least a row farther: so it is cut
+    /// at both ends.
     fn narrowed(&self, window: Window, guess: u32, start: ZoneStart, row: u32) -> Window
         // The row lies in the window, and the look was at one of its open text rows.
         requires window { IsWindow self.now row window }
@@ -200,7 +201,7 @@ impl<R: Rows> BlockSnapshot<R> {
         requires upto { guess < window.high }
         requires start { IsZoneStart self.now guess start }
 
-        // The row lies in this one too, and no more stay open than were before the look or behind it.
+        // The row lies in this one too, and no more stay open than were before the look or after it.
         ensures window { IsWindow self.now row result }
         ensures cut { let before = guess - window.next in
             let behind = window.high - (guess + 1) in
@@ -240,7 +241,7 @@ impl<R: Rows> BlockSnapshot<R> {
         ensures counted { steps.old ≤ steps.new }
         ensures steps { TakesBetween reading self.now steps.old steps.new }
     {
-        // Stops stand between lines.
+        // For the proof: stops are between lines.
         let _count = self.text_rows();
         if row >= self.row_count() {
             return Ok(None);
@@ -263,7 +264,7 @@ impl<R: Rows> BlockSnapshot<R> {
         ensures counted { steps.old ≤ steps.new }
         ensures steps { TakesBetween finding self.now steps.old steps.new }
     {
-        // Each text row is a u32.
+        // For the proof: each text row is a u32.
         let _count = self.text_rows();
         let above = self.rows_above(place, steps);
         if place.at < above {
@@ -296,7 +297,7 @@ impl<R: Rows> BlockSnapshot<R> {
         }
     }
 
-    /// The row at which a text row of a line stands.
+    /// The row at which a text row of a line is. All are counted from 0.
     pub fn row_of(&self, line: u32, row: u32, steps: &mut Steps) -> u32
         // The line is there, and has such a row.
         requires line { line < length self.now.lines }
@@ -309,7 +310,7 @@ impl<R: Rows> BlockSnapshot<R> {
         ensures counted { steps.old ≤ steps.new }
         ensures steps { TakesBetween both_ways self.now steps.old steps.new }
     {
-        // All rows together are a u32.
+        // For the proof: all rows together are a u32.
         let _count = self.text_rows();
         let text_row = self.rows.rows_before(line) + row;
         let above = self.above.rows_upto(text_row, Bias::Right, steps);
@@ -317,28 +318,28 @@ impl<R: Rows> BlockSnapshot<R> {
         text_row + above + below
     }
 
-    /// The row at which a line begins with the blocks above it: how many rows all lines before it have, with theirs. That of the
-    /// number of lines is the number of rows.
+    /// The row at which a line begins with the blocks above it: how many rows all lines before it have, with theirs.
+    /// That of the number of lines is the number of rows.
     pub fn start_of(&self, line: u32, steps: &mut Steps) -> u32
         requires { line ≤ length self.now.lines }
         ensures start { result ≡ rows_to line (rows_by_line self.now) }
         ensures counted { steps.old ≤ steps.new }
         ensures steps { TakesBetween both_ways self.now steps.old steps.new }
     {
-        // No line begins past all rows.
+        // For the proof: all rows together are a u32, and no line begins past them.
         let _count = self.text_rows();
         let text_row = self.rows.rows_before(line);
         self.zone_start(text_row, steps).row
     }
 
-    /// The line whose text row stands at a row, and which of its text rows that is. `None` exactly at a block's row and
+    /// The line whose text row is at a row, and which of its text rows that is. `None` exactly at a block's row and
     /// past the last row.
     pub fn text_at(&self, row: u32, steps: &mut Steps) -> Option<(u32, u32)>
         ensures text { IsTextAt self.now row result }
         ensures counted { steps.old ≤ steps.new }
         ensures steps { TakesBetween locating self.now steps.old steps.new }
     {
-        // Stops stand between lines.
+        // For the proof: stops are between lines.
         let _count = self.text_rows();
         if row >= self.row_count() {
             return None;
@@ -350,14 +351,15 @@ impl<R: Rows> BlockSnapshot<R> {
         self.rows.line_at(place.text_row)
     }
 
-    /// The last line of which the text rows begin at or before a row, and the first line at the rows of blocks above it.
+    /// The last line of which the text rows begin at or before a row, and the first line at the rows of blocks above
+    /// it.
     pub fn line_of_row(&self, row: u32, steps: &mut Steps) -> u32
         requires { row < length (rows_between self.now) }
         ensures line { IsLastBegun self.now row result }
         ensures counted { steps.old ≤ steps.new }
         ensures steps { TakesBetween locating self.now steps.old steps.new }
     {
-        // Stops stand between lines.
+        // For the proof: stops are between lines.
         let _count = self.text_rows();
         let place = self.place_of(row, steps);
         let Some((line, at)) = self.rows.line_at(place.text_row) else {
@@ -369,7 +371,7 @@ impl<R: Rows> BlockSnapshot<R> {
         line
     }
 
-    /// How many rows of blocks stand in a place's zone above the line, before its text row.
+    /// How many rows of blocks are in a place's zone above the line, before its text row.
     pub(crate) fn rows_above(&self, place: Place, steps: &mut Steps) -> u32
         requires { IsPlace self.now place }
         ensures count { result ≡ length (texts_at place.text_row self.now.above) }
@@ -382,7 +384,7 @@ impl<R: Rows> BlockSnapshot<R> {
         self.above.rows_at(place.text_row, place.above, steps)
     }
 
-    /// How many rows of blocks stand in a place's zone below the line, behind its text row.
+    /// How many rows of blocks are in a place's zone below the line, after its text row.
     pub(crate) fn rows_below(&self, place: Place, steps: &mut Steps) -> u32
         requires { IsPlace self.now place }
         ensures count { result ≡ length (texts_at (place.text_row + 1) self.now.below) }
@@ -392,7 +394,7 @@ impl<R: Rows> BlockSnapshot<R> {
         if place.plain {
             return 0;
         }
-        // Each text row is a u32.
+        // For the proof: each text row is a u32.
         let _count = self.text_rows();
         self.below.rows_at(place.text_row + 1, place.below, steps)
     }

@@ -44,7 +44,7 @@ impl Stops {
         ensures steps { let count = length places.now in
             TakesAtMost (λ h. count * putting h) (length self.old) steps.old steps.new }
     {
-        // Their rows don't fall.
+        // For the proof: rows of stops don't fall.
         let _count = self.len();
         let mut left = places.len();
         while left > 0 {
@@ -54,8 +54,9 @@ impl Stops {
         Ok(())
     }
 
-    /// Moves stops beside rows that edits keep, each with its row. All edits take their rows away, from the last to the first,
-    /// and then each puts in its own, from the first to the last: so no stop is ever behind where it was and where it goes.
+    /// Moves stops beside rows that edits keep, each with its row. All edits take their rows away, from the last to the
+    /// first, and then each puts in its own, from the first to the last. So no stop is ever after both where it was and
+    /// where it goes.
     pub(crate) fn carry(
         &mut self,
         alloc: Global,
@@ -104,7 +105,7 @@ impl Stops {
         ensures steps { let count = length edits.now in
             TakesAtMost (λ h. count * putting h) (length self.old) steps.old steps.new }
     {
-        // Their rows don't fall.
+        // For the proof: rows of stops don't fall.
         let _count = self.len();
         let mut left = edits.len();
         while left > 0 {

@@ -1,4 +1,4 @@
-//! The stops of one side.
+//! The stops of one side: where the rows of its blocks are between the rows of text.
 ghost use Rattle.std.specs.Prelude.{ℕ, ◌↔◌, true, OnOk, OnErr, IfSome, MatchOption, ◌≡◌, ◌+◌, ◌<◌, ◌≤◌, ◌^◌, [], None, Some, length, map, slice_get, slice_index_or, take, IfOk};
 ghost use Rattle.cell_units.specs.declared.place.Bias.TheVariants.{Left, Right};
 ghost use Rattle.sum_tree.specs.Bounds.{TakesAtMost, way};
@@ -17,7 +17,7 @@ use std::alloc::Global;
 use std::marker::Model;
 use sum_core::Summary;
 
-/// Where the rows of blocks stand between rows of text. Contracts see a list of stops, whose rows don't fall.
+/// Where the rows of blocks are between rows of text. Contracts see a list of stops, whose rows don't fall.
 pub(crate) struct Stops {
     splices: SpliceTree<RowCount, BlockLines>,
 }
@@ -67,7 +67,7 @@ impl Stops {
         sum.upper.rows - sum.lower.rows
     }
 
-    /// How many rows the stops have that stand before a place between rows of text.
+    /// How many rows the stops have that are before a place between rows of text.
     pub(crate) fn rows_upto(&self, row: u32, bias: Bias, steps: &mut Steps) -> u32
         ensures rows { result ≡ rows_upto bias row self.now }
         ensures counted { steps.old ≤ steps.new }
@@ -76,7 +76,7 @@ impl Stops {
         self.first_behind(row, bias, steps).rows
     }
 
-    /// How many rows the stops behind so many rows of text have. `before` is how many the stops before them have.
+    /// How many rows the stops after so many rows of text have. `before` is how many the stops before them have.
     pub(crate) fn rows_at(&self, row: u32, before: u32, steps: &mut Steps) -> u32
         requires { before ≡ rows_upto Left row self.now }
         ensures count { result ≡ length (texts_at row self.now) }
@@ -86,13 +86,13 @@ impl Stops {
         self.rows_upto(row, Bias::Right, steps) - before
     }
 
-    /// The end of the text rows behind one between which no stop stands: the row of the next stop, or `limit` where that is
-    /// before it.
+    /// The end of the text rows after one between which there is no stop. It is the row of the next stop, or `limit`
+    /// where that is before it.
     pub(crate) fn clear_to(&self, row: u32, limit: u32, steps: &mut Steps) -> u32
-        // The limit is behind the row.
+        // The limit is after the row.
         requires { row < limit }
 
-        // An end behind the row and not behind the limit, with no stop between.
+        // An end after the row and not after the limit, with no stop between.
         ensures some { row < result }
         ensures within { result ≤ limit }
         ensures clear { (t : ℕ) → row < t → t < result → texts_at t self.now ≡ [] }
@@ -101,7 +101,7 @@ impl Stops {
         ensures counted { steps.old ≤ steps.new }
         ensures steps { TakesAtMost way (length self.now) steps.old steps.new }
     {
-        // Rows don't fall.
+        // For the proof: rows of stops don't fall.
         let _count = self.len();
         match self.first_behind(row, Bias::Right, steps).row {
             None => limit,
@@ -109,13 +109,13 @@ impl Stops {
         }
     }
 
-    /// The text of a row of the stops behind so many rows of text. `before` is how many rows the stops before them have.
+    /// The text of a row of the stops after so many rows of text. `before` is how many rows the stops before them have.
     pub(crate) fn text_at(&self, row: u32, before: u32, at: u32, steps: &mut Steps) -> &Text
         // The stops there have such a row, and the count before them is right.
         requires there { at < length (texts_at row self.now) }
         requires before { before ≡ rows_upto Left row self.now }
 
-        // The rows of all stops that stand there are counted together.
+        // The rows of all stops that are there are counted together.
         ensures text { slice_get (texts_at row self.now) at ≡ Some result.now }
 
         // The work: one way down.
@@ -155,7 +155,7 @@ impl Stops {
         self.splices.find_at(at, steps).before.lower.rows
     }
 
-    /// Puts a stop before that of an index, or behind all.
+    /// Puts a stop before that of an index, or after all.
     pub(crate) fn insert(
         &mut self,
         alloc: Global,
@@ -195,7 +195,7 @@ impl Stops {
         requires room { length self.now + 1 < 2 ^ 32 }
         requires fit { StopsFit self.now }
 
-        // It stands at the row of the one before it, or at 0, and adds no row.
+        // It is at the row of the one before it, or at 0, and adds no row.
         ensures ok { let row = last_row 0 (take at self.now) in
             IfOk result (λ stops. stops ≡ with_stop at (stop_with row []) self.now) }
         ensures fits { IfOk result StopsFit }
@@ -204,7 +204,7 @@ impl Stops {
         ensures counted { steps.old ≤ steps.new }
         ensures steps { TakesAtMost inserting (length self.now + 1) steps.old steps.new }
     {
-        // Rows don't fall.
+        // For the proof: rows of stops don't fall.
         let _count = self.len();
         let row = self.row_before(at, steps);
         let mut next = self.share()?;
@@ -231,7 +231,7 @@ impl Stops {
         ensures counted { steps.old ≤ steps.new }
         ensures steps { TakesAtMost putting (length self.now) steps.old steps.new }
     {
-        // Rows don't fall.
+        // For the proof: rows of stops don't fall.
         let _count = self.len();
         let mut next = self.share()?;
         next.remove(alloc, at, steps)?;
@@ -266,8 +266,8 @@ impl Stops {
 }
 
 impl Stops {
-    /// How many rows the stops have that stand before a place between rows of text, and which places near it have the same stops
-    /// before them. All of it is told by one way down.
+    /// How many rows the stops before a place between rows of text have. And which places near it have the same stops
+    /// before them. One way down finds all of it.
     pub(crate) fn look(&self, row: u32, bias: Bias, steps: &mut Steps) -> Look
         ensures rows { result.rows ≡ rows_upto bias row self.now }
         ensures same { (t : ℕ) → result.from ≤ t → t < result.to →
@@ -275,7 +275,7 @@ impl Stops {
         ensures counted { steps.old ≤ steps.new }
         ensures steps { TakesAtMost way (length self.now) steps.old steps.new }
     {
-        // Rows don't fall.
+        // For the proof: rows of stops don't fall.
         let _count = self.len();
         let found = self.first_behind(row, bias, steps);
         let next = found.row.unwrap_or(ROWS_END).min(ROWS_END);
@@ -286,14 +286,14 @@ impl Stops {
         }
     }
 
-    /// The first stop that doesn't stand before a place between rows of text, or the end of all.
+    /// The first stop that isn't before a place between rows of text, or the end of all.
     fn first_behind(&self, row: u32, bias: Bias, steps: &mut Steps) -> FirstStop
         // How many rows the stops before it have, and the row of text of the last of these.
         ensures within { result.index ≤ length self.now }
         ensures rows { result.rows ≡ rows_upto bias row self.now }
         ensures before { result.before ≡ last_row 0 (take result.index self.now) }
 
-        // Exactly the stops before its index stand before the place. It has a row unless it is the end.
+        // Exactly the stops before its index are before the place. It has a row unless it is the end.
         ensures place { (k : ℕ) (s : Stop) → slice_get self.now k ≡ Some s →
             (k < result.index) ↔ (stands_before bias row s ≡ true) }
         ensures row { (d : Stop) →
@@ -313,7 +313,8 @@ impl Stops {
         }
     }
 
-    /// The places of the stops from a row through another one, which isn't before it. Where there is none, one look tells.
+    /// The places of the stops from a row through another one, which isn't before it. One look shows where there is
+    /// none.
     pub(crate) fn places_through(&self, first: u32, last: u32, steps: &mut Steps) -> Places
         // The rows are in order.
         requires { first ≤ last }
@@ -329,7 +330,7 @@ impl Stops {
         ensures counted { steps.old ≤ steps.new }
         ensures steps { TakesAtMost both_ways (length self.now) steps.old steps.new }
     {
-        // Rows don't fall.
+        // For the proof: rows of stops don't fall.
         let _count = self.len();
         let found = self.first_behind(first, Bias::Left, steps);
         let from = found.index;
@@ -343,8 +344,8 @@ impl Stops {
         Places { from, to }
     }
 
-    /// Moves the stops that don't stand before the end of replaced rows of text, as the replacement moves the rows there. At
-    /// the end itself a stop stands before it by Right, and not by Left.
+    /// Moves the stops that aren't before the end of replaced rows of text, as the replacement moves the rows there. At
+    /// the end itself a stop is before it by Right, and not by Left.
     pub(crate) fn move_behind(
         &mut self,
         alloc: Global,
@@ -352,7 +353,7 @@ impl Stops {
         rows: Shift,
         steps: &mut Steps,
     ) -> Result<(), NoMemory>
-        // No stop stands among the replaced rows, and after it all rows together are a u32.
+        // No stop is among the replaced rows, and after it all rows together are a u32.
         requires clear { AreClear bias rows.start rows.end self.old }
         requires fits { StopsFit (map (moved_stop bias rows.start rows.end rows.count) self.old) }
 
@@ -386,7 +387,8 @@ impl Stops {
 /// More than there can be rows of text.
 const ROWS_END: u64 = u32::MAX as u64 + 1;
 
-/// How many rows the stops before a place between rows of text have. From one place up to another these are all the stops.
+/// How many rows the stops before a place between rows of text have. From one place up to another these are all the
+/// stops.
 #[derive(Clone, Copy)]
 pub(crate) struct Look {
     pub(crate) rows: u32,
@@ -394,8 +396,8 @@ pub(crate) struct Look {
     pub(crate) to: u64,
 }
 
-/// A place among stops: how many rows those before it have, the row of text of the last of them, or 0 where there is none, and
-/// that of the stop there, if there is one.
+/// A place among stops, with how many rows those before it have. It has the row of text of the last of them, or 0 where
+/// there is none. And it has that of the stop there, if there is one.
 #[derive(Clone, Copy)]
 struct FirstStop {
     index: u32,
@@ -415,7 +417,7 @@ fn first_place(row: u64, bias: Bias) -> u64
     }
 }
 
-/// How many rows of text stand before the stop of a splice, if there is one: it has `before` and its gap.
+/// How many rows of text are before the stop of a splice, if there is one: it has `before` and its gap.
 fn row_in(splice: Option<&Splice<RowCount, BlockLines>>, before: u32) -> Option<u64>
     ensures { MatchOption splice.entry (result ≡ None) (λ p.
         result ≡ Some (before + p.now.gap.rows)) }
@@ -426,7 +428,7 @@ fn row_in(splice: Option<&Splice<RowCount, BlockLines>>, before: u32) -> Option<
     }
 }
 
-/// The splice of a block's lines behind so many rows of text.
+/// The splice of a block's lines after so many rows of text.
 fn splice_of(gap: u32, lines: BlockLines) -> Splice<RowCount, BlockLines>
     requires { gap + length lines < 2 ^ 32 }
     ensures { result ≡ record { gap = record { rows = gap }; old = no_rows; new = record { rows = length lines }; load = lines } }
@@ -440,7 +442,7 @@ fn splice_of(gap: u32, lines: BlockLines) -> Splice<RowCount, BlockLines>
     )
 }
 
-/// The gap that a splice has behind a row, if there is one: it has another one behind `before` rows of text.
+/// The gap that a splice has after a row, if there is one: it has another one after `before` rows of text.
 fn gap_behind(splice: Option<&Splice<RowCount, BlockLines>>, before: u32, row: u32) -> RowCount
     requires { IfSome splice (λ p.
         (row ≤ before + p.now.gap.rows) × (before + p.now.gap.rows < 2 ^ 32)) }

@@ -17,8 +17,8 @@ use plain_rows::Shown;
 use std::alloc::Global;
 
 impl<R: Rows> BlockSnapshot<R> {
-    /// The rows from `first` on, as many as there are up to `count`. Each line is walked once, and a row is sought only where a
-    /// block begins or ends.
+    /// The rows from `first` on, as many as there are up to `count`. Each line is walked once, and a row is sought only
+    /// where a block begins or ends.
     pub fn rows(
         &self,
         alloc: Global,
@@ -41,8 +41,8 @@ impl<R: Rows> BlockSnapshot<R> {
         Ok(shown)
     }
 
-    /// Appends the rows from one on up to the row `end` that stand together: those of blocks above a line, those of blocks below
-    /// it, or text rows with no block between them. It answers the row behind them.
+    /// Appends the rows from one on up to the row `end` that follow each other. They are those of blocks above a line,
+    /// those of blocks below it, or text rows with no block between them. Returns the row after them.
     fn push_run(
         &self,
         alloc: Global,
@@ -55,7 +55,7 @@ impl<R: Rows> BlockSnapshot<R> {
         requires some { row < end }
         requires within { end ≤ length (rows_between self.now) }
 
-        // The rows up to the answer: at least one, and none from the end on.
+        // The rows up to the result: at least one, and none from the end on.
         ensures some { IfOk result (λ next. (row < next) × (next ≤ end)) }
         ensures rows { IfOk result (λ next. shown_rows shown.new.items
             ≡ shown_rows shown.old.items ++ take (next - row) (drop row (rows_between self.now))) }
@@ -67,7 +67,7 @@ impl<R: Rows> BlockSnapshot<R> {
         ensures steps_err { OnErr result
             (TakesBetween (λ h. (end - row) * walking h) self.now steps.old steps.new) }
     {
-        // Stops stand between lines.
+        // For the proof: stops are between lines.
         let _count = self.text_rows();
         let place = self.place_of(row, steps);
         let above = self.rows_above(place, steps);
@@ -102,7 +102,7 @@ impl<R: Rows> BlockSnapshot<R> {
         requires order { place.at ≤ to }
         requires within { to ≤ length (texts_at place.text_row self.now.above) }
 
-        // These rows, in order, behind those that were there.
+        // These rows, in order, after those that were there.
         ensures rows { let texts = texts_at place.text_row self.now.above in
             OnOk result (shown_rows shown.new.items ≡ shown_rows shown.old.items
             ++ map block_row (take (to - place.at) (drop place.at texts))) }
@@ -130,7 +130,7 @@ impl<R: Rows> BlockSnapshot<R> {
         requires order { from ≤ to }
         requires within { to ≤ length (texts_at (place.text_row + 1) self.now.below) }
 
-        // These rows, in order, behind those that were there.
+        // These rows, in order, after those that were there.
         ensures rows { let texts = texts_at (place.text_row + 1) self.now.below in
             OnOk result (shown_rows shown.new.items ≡ shown_rows shown.old.items
             ++ map block_row (take (to - from) (drop from texts))) }
@@ -139,13 +139,13 @@ impl<R: Rows> BlockSnapshot<R> {
         ensures counted { steps.old ≤ steps.new }
         ensures steps { TakesBetween (λ h. (to - from) * way h) self.now steps.old steps.new }
     {
-        // Each text row is a u32.
+        // For the proof: each text row is a u32.
         let _count = self.text_rows();
         let (row, before) = (place.text_row + 1, place.below);
         push_blocks(alloc, shown, &self.below, row, before, from, to, steps)
     }
 
-    /// The end of the text rows from one on, at most so many, between which no block stands.
+    /// The end of the text rows from one on, at most so many, with no block between them.
     fn clear_to(&self, text_row: u32, count: u32, steps: &mut Steps) -> u32
         // The text row is there, and at least one is asked for.
         requires there { text_row < length (all_rows self.now.lines) }
@@ -166,7 +166,7 @@ impl<R: Rows> BlockSnapshot<R> {
         self.below.clear_to(text_row, above, steps)
     }
 
-    /// Appends text rows between which no block stands, the first of which stands at `row`, up to the row `end`.
+    /// Appends text rows with no block between them, the first of which is at `row`, up to the row `end`.
     fn push_lines(
         &self,
         alloc: Global,
@@ -175,7 +175,7 @@ impl<R: Rows> BlockSnapshot<R> {
         row: u32,
         end: u32,
     ) -> Result<(), NoMemory>
-        // So many text rows are there, the first stands at `row`, and no stop stands between them.
+        // So many text rows are there, the first is at `row`, and no stop is between them.
         requires order { row ≤ end }
         requires within { text_row + (end - row) ≤ length (all_rows self.now.lines) }
         requires zone { let above = length (texts_at text_row self.now.above) in
@@ -186,7 +186,7 @@ impl<R: Rows> BlockSnapshot<R> {
         ensures rows { OnOk result (shown_rows shown.new.items
             ≡ shown_rows shown.old.items ++ take (end - row) (drop row (rows_between self.now))) }
     {
-        // Stops stand between lines.
+        // For the proof: stops are between lines.
         let _count = self.text_rows();
         let mut next = row;
         'lines: while next < end {
@@ -195,8 +195,8 @@ impl<R: Rows> BlockSnapshot<R> {
         Ok(())
     }
 
-    /// Appends a text row, which stands at `row`, and those of its line behind it, up to the row `end`. It answers the row
-    /// behind them.
+    /// Appends a text row, which is at `row`, and those of its line after it, up to the row `end`. Returns the row
+    /// after them.
     fn push_line(
         &self,
         alloc: Global,
@@ -205,18 +205,18 @@ impl<R: Rows> BlockSnapshot<R> {
         row: u32,
         end: u32,
     ) -> Result<u32, NoMemory>
-        // There is a row to append, all up to the end are there, and the text row stands at `row`.
+        // There is a row to append, all up to the end are there, and the text row is at `row`.
         requires some { row < end }
         requires within { end ≤ length (rows_between self.now) }
         requires zone { let above = length (texts_at text_row self.now.above) in
             IsInZone self.now row text_row above }
 
-        // The rows up to the answer: at least one, and none from the end on.
+        // The rows up to the result: at least one, and none from the end on.
         ensures some { IfOk result (λ next. (row < next) × (next ≤ end)) }
         ensures rows { IfOk result (λ next. shown_rows shown.new.items
             ≡ shown_rows shown.old.items ++ take (next - row) (drop row (rows_between self.now))) }
     {
-        // Each line has a row.
+        // For the proof: each line has a row.
         let _count = self.text_rows();
         match self.rows.line_at(text_row) {
             None => unreachable!(),
@@ -248,8 +248,8 @@ fn push_texts(shown: &mut Vec<Shown>, texts: Vec<Text>, first: u32) -> Result<()
     Ok(())
 }
 
-/// Appends rows of the stops behind so many rows of text, from one of them up to another. `before` is how many rows the stops before
-/// them have.
+/// Appends rows of the stops after so many rows of text, from one of them up to another. `before` is how many rows the
+/// stops before them have.
 fn push_blocks(
     alloc: Global,
     shown: &mut Vec<Shown>,
@@ -265,7 +265,7 @@ fn push_blocks(
     requires within { to ≤ length (texts_at text_row stops.now) }
     requires before { before ≡ rows_upto Left text_row stops.now }
 
-    // These rows, in order, behind those that were there.
+    // These rows, in order, after those that were there.
     ensures rows { let texts = take (to - from) (drop from (texts_at text_row stops.now)) in
         OnOk result (shown_rows shown.new.items
         ≡ shown_rows shown.old.items ++ map block_row texts) }

@@ -1,8 +1,8 @@
 //! Where the zone of a row is sought.
 ghost use Rattle.std.specs.Prelude.{◌+◌, ◌-◌, ◌*◌, ◌<◌, ◌≤◌};
 
-/// The zone of a row is that of the text row `low`, or of one from `next` on before `high`. That of `low` begins at the row
-/// `start`, and that of `high` at `end` or behind it. Before that of `low` the stops above lines have `above` rows.
+/// The zone of a row is that of the text row `low`, or of one from `next` on before `high`. That of `low` begins at the
+/// row `start`, and that of `high` at `end` or after it. Before that of `low` the stops above lines have `above` rows.
 #[derive(Clone, Copy)]
 pub(crate) struct Window {
     pub(crate) low: u32,
@@ -14,8 +14,8 @@ pub(crate) struct Window {
 }
 
 impl Window {
-    /// The text row to look at for a row, of which at most `room` stay open on either side: by share if no more than `room` are
-    /// open, and else in the middle.
+    /// The text row to look at for a row, of which at most `room` stay open on either side. It is taken by share if no
+    /// more than `room` are open, and else from the middle.
     pub(crate) fn guess(self, row: u32, room: u32) -> u32
         // Text rows are open, at most `room` on either side of the middle, and the row lies between the ends.
         requires some { self.next < self.high }

@@ -50,7 +50,7 @@ module _ (old new : Lines) (a b n : ℕ) (order : a ≤ b) (leads : LeadsAt old 
   pub start-before : (i : ℕ) → i ≤ a → rows_before new i ≡ rows_before old i
   start-before i le = ap (λ (ls : Lines). length (all_rows ls)) (sym (take-take i a new le) ∙ ap (take i) leads.before ∙ take-take i a old le)
 
-  -- lines behind them
+  -- lines after them
   pub line-behind : (i : ℕ) → b ≤ i → line_rows new (a + n + (i - b)) ≡ line_rows old i
   line-behind i le =
       sym (get_or-drop (a + n) new (i - b) [])

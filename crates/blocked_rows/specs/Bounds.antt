@@ -1,7 +1,8 @@
 -- How many steps a change of blocks takes at most, at a height h that no tree of blocks exceeds.
 use Rattle.std.specs.Prelude.{ℕ, ◌+◌, ◌*◌, ◌^◌, ◌<◌, ◌≤◌}
 
--- A call looks at each of n blocks six times, each time on a fifth as many nodes, and takes at most `cost h` steps beside.
+-- A call looks at each of n blocks six times, each time on a fifth as many nodes. It takes at most `cost h` steps
+-- beside that.
 abbrev pub SearchesSixTimes : (ℕ → ℕ) → ℕ → ℕ → ℕ → Type 0
 SearchesSixTimes cost n old new = (h : ℕ) → n < 2 * 6 ^ (h + 1) → 5 * new ≤ 5 * old + (6 * n + 5 * cost h)
 

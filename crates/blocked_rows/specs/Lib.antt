@@ -1,3 +1,4 @@
+-- What the crate promises
 pub mod Bounds
 pub mod Laws
 pub mod Records

@@ -53,7 +53,8 @@ IsShiftOf (Replace a b s) (Some shift) =
 IsShiftOf _ None = Unit {0}
 IsShiftOf _ (Some shift) = ⊥
 
--- From the line `front` on, `before` lines make place for `after` others of one row each, and the edits replace their rows.
+-- From the line `front` on, `before` lines make place for `after` others of one row each, and the edits replace their
+-- rows.
 pub record IsRowSplice (old new : Lines) (edits : List Edit) (front before after : ℕ) : Type 0 where
   pub have : HaveRows old
   pub leads : LeadsAt old new front (front + before) after

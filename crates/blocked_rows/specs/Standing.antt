@@ -17,7 +17,8 @@ pub record IsBlockOf (source : Source) (lines : List (List (List ℕ))) (side : 
   pub shown : (row : ℕ) → k.row ≡ Some row → row ≡ row_of_kept source lines side k
   pub few : length k.lines ≤ BLOCK_LINES_LIMIT
 
--- The blocks are those of a layer, between the rows of its lines. The rows are few enough for all blocks that there may be.
+-- The blocks are those of a layer, between the rows of its lines. The rows are few enough for all blocks that there may
+-- be.
 pub record ArePlaced (source : Source) (s : BlockState) : Type 0 where
   pub equal : length (shown_lines source) ≡ length s.lines
   pub above : All (IsBlockOf source s.lines Above) s.above

@@ -16,8 +16,8 @@ use edit_patch::Patch;
 use std::alloc::Global;
 use std::marker::Model;
 
-/// Blocks above and below lines, between the rows of these, all of them shown. Contracts see the lines and the blocks of each side
-/// in order, each with the number of text rows before it.
+/// Blocks above and below lines, between the rows of these, all of them shown. Contracts see the lines and the blocks
+/// of each side in order, each with the number of text rows before it.
 pub struct BlockedRows<R: Rows> {
     rows: R,
     blocks: BlockMap<R>,
@@ -58,15 +58,15 @@ impl<R: Rows> BlockedRows<R> {
         ensures counted { steps.old ≤ steps.new }
         ensures steps { TakesAtMost (syncing 0 0) 0 steps.old steps.new }
     {
-        // All rows together are a u32.
+        // For the proof: all rows together are a u32.
         let lines = rows.lines();
         let _count = rows.rows_before(lines);
         let blocks = BlockMap::new(alloc, rows.share()?, steps)?;
         show(alloc, layer, None, rows, &Patch::none(alloc), blocks, steps)
     }
 
-    /// The blocks after a replacement of the text, if there was one, and edits of rows. They move with the text, and each is shown
-    /// at its line of the layer.
+    /// The blocks after a replacement of the text, if there was one, and edits of rows. They move with the text, and
+    /// each is shown at its line of the layer.
     pub fn after<P: Layer>(
         &self,
         alloc: Global,
@@ -86,10 +86,13 @@ impl<R: Rows> BlockedRows<R> {
         show(alloc, layer, shift, rows, edits, blocks, steps)
     }
 
-    /// The blocks with one more: lines that are shown above or below the line of an offset's row. The offset counts bytes. In this
-    /// order `IdInUse` where the id is there, `BadRange` where the offset is past the text's end or inside a character, `BadText`
-    /// where there is no line, more than `BLOCK_LINES_LIMIT`, or one with a line break, and `TooLong` where a line has more than
-    /// `BLOCK_LINE_LIMIT` bytes or `ENTRY_LIMIT` blocks are there.
+    /// The blocks with one more: lines that are shown above or below the line of an offset's row. The offset counts
+    /// bytes. It is refused by the first of these that fits:
+    ///
+    /// - `IdInUse`: the id is there;
+    /// - `BadRange`: the offset is past the text's end or inside a character;
+    /// - `BadText`: there is no line, more than `BLOCK_LINES_LIMIT`, or one with a line break;
+    /// - `TooLong`: a line has more than `BLOCK_LINE_LIMIT` bytes, or `ENTRY_LIMIT` blocks are there.
     pub fn with_block<P: Layer>(
         &self,
         alloc: Global,
@@ -117,7 +120,7 @@ impl<R: Rows> BlockedRows<R> {
         ensures steps { let count = length self.now.above + length self.now.below in
             SearchesSixTimes adding (count + 1) steps.old steps.new }
     {
-        // The layer is lawful.
+        // For the proof: the layer is well formed.
         let _len = layer.buffer_len();
         if let Some(refusal) = self.blocks.refusal_to_add(layer, id, offset, lines, steps) {
             return Err(Fault::Refused(refusal));
@@ -149,7 +152,7 @@ impl<R: Rows> BlockedRows<R> {
         ensures steps { let count = length self.now.above + length self.now.below in
             SearchesSixTimes taking count steps.old steps.new }
     {
-        // The layer is lawful.
+        // For the proof: the layer is well formed.
         let _len = layer.buffer_len();
         if self.blocks.side_of(id, steps).is_none() {
             return Err(Fault::Refused(Refusal::UnknownId));
@@ -177,7 +180,7 @@ impl<R: Rows> BlockedRows<R> {
         ensures counted { steps.old ≤ steps.new }
         ensures steps { SyncsAtMost None [] blocks steps.old steps.new }
     {
-        // The layer is lawful, and each line has a row.
+        // For the proof: the layer is well formed, and each line has a row.
         let _len = layer.buffer_len();
         let _lines = self.rows.lines();
         let rows = self.rows.share()?;
@@ -198,8 +201,8 @@ impl<R: Rows> BlockedRows<R> {
         self.blocks.len()
     }
 
-    /// The offset, id and lines of a block of one side, by its place among those of that side, counted from 0. `None` exactly
-    /// where there is none.
+    /// The offset, id and lines of a block of one side, by its place among those of that side, counted from 0. `None`
+    /// exactly where there is none.
     pub fn block(&self, side: Side, at: u32, steps: &mut Steps) -> Option<(u32, u32, &[Text])>
         ensures block { MatchOption result (length (on_side side self.now) ≤ at) (λ b.
             IsBlockAt (on_side side self.now) at b.0 b.1 b.2.now) }
@@ -209,7 +212,8 @@ impl<R: Rows> BlockedRows<R> {
         self.blocks.get(side, at, steps)
     }
 
-    /// Equal ones, which no later change reaches. It takes no memory: `NoMemory` is one holder too many.
+    /// Equal ones, which no later change reaches. It allocates nothing, and fails with `NoMemory` only where the count
+    /// of holders is full.
     pub fn share(&self) -> Result<BlockedRows<R>, NoMemory>
         ensures { IfOk result (λ shared. shared ≡ self.now) }
     {

@@ -1,5 +1,5 @@
-//! Blocks between the rows of lines, all of them shown: a block map with what it shows. A change gives new ones, and those that it
-//! was made of stay.
+//! Blocks between the rows of lines, all of them shown: a block map with what it shows. A change gives new ones, and
+//! those that it was made of stay.
 #![tactic(auto)]
 
 mod blocked_rows;

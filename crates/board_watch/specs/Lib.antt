@@ -1,1 +1,2 @@
+-- What the crate promises
 pub mod Watching

@@ -18,7 +18,7 @@ pub record IsSeenOf (version : Version) (seen : Seen) : Type 0 where
 abbrev pub IsSeenAmong : List Version → Seen → Type 0
 IsSeenAmong versions seen = (version : Version) × Contains versions version × IsSeenOf version seen
 
--- it was seen of a version of the history: one whose journal is a front of the history's
+-- it was seen of a version of the history: one whose journal is a prefix of the history's
 pub record IsSeenIn (history : History) (seen : Seen) : Type 0 where
   pub version : Version
   pub opening : version.opening ≡ history.opening
@@ -60,7 +60,7 @@ pub record IsWatched (history : History) (seen : List Seen) : Type 0 where
   pub last : seen ≡ before ++ newest ∷ []
   pub newest_of : IsSeenOf history newest
 
--- what was seen is behind the last that was kept, or there is one already that isn't older
+-- what was seen is after the last that was kept, or there is one already that isn't older
 abbrev pub HasKept : List Seen → Seen → List Seen → Bool → Type 0
 HasKept old seen new true =
     (new ≡ old ++ seen ∷ []) × ((before : List Seen) (last : Seen) → old ≡ before ++ last ∷ [] → last.version < seen.version)

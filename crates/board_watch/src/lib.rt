@@ -1,15 +1,15 @@
 //! Watchers of a board: each looks at the versions again and again, in a thread of its own, and keeps what it saw.
 //!
-//! A `Watcher` keeps a `Seen` for each version that is newer than the last one it kept: the version's number, and how many
-//! rows it has. It ends with the last version, where a flag is raised, or where there is no memory to keep one more. `end_all`
-//! lets each learn of the newest version and look once more.
+//! A `Watcher` keeps a `Seen` for each version that is newer than the last one it kept. That is the version's number,
+//! and how many rows it has. It ends with the last version, where a flag is raised, or if it is out of memory.
+//! `end_all` lets each learn of the newest version and look once more.
 //!
-//! Promised of what a watcher saw, at each moment (`specs/Watching.antt`): the numbers rise, each is of a version of the
-//! board's one row, with as many rows as that version's record has, and no call loses any of it. Once the watcher learnt of the
-//! last version and looked again, the last that it saw is that one.
+//! What a watcher saw is promised at each moment (`specs/Watching.antt`). The numbers rise, and no call loses any of
+//! it. Each is of a version of the board's one row, with as many rows as that version's record has. Once the watcher
+//! learnt of the last version and looked again, the last that it saw is that one.
 //!
-//! Nothing is promised of which versions a watcher sees before that: one that looks only then keeps all these promises. Nor
-//! is it promised that a gate is told, or that a watcher ever ends.
+//! Nothing is promised of which versions a watcher sees before that: one that looks only then keeps all these promises.
+//! Nor is it promised that a gate is called, or that a watcher ever ends.
 #![tactic(auto)]
 
 mod seen;

@@ -1,4 +1,4 @@
-//! What a watcher saw.
+//! What a watcher saw: versions, each with its number and how many rows it has.
 
 /// A version that a watcher saw: its number, counted from 0, and how many rows it has.
 #[derive(Clone, Copy, Debug, PartialEq, Eq)]

@@ -61,13 +61,13 @@ impl Watcher {
         }
     }
 
-    /// Looks at the board until the last version is seen or the flag is raised, and passes the gate with each version that
-    /// it keeps, as the reader of this number. It ends also where there is no memory to keep one.
+    /// Looks at the board until the last version is seen or the flag is raised. It passes the gate with each version
+    /// that it keeps, as the reader of this number. It ends also if it is out of memory.
     pub fn watch<R: Wait, G: Gate>(&mut self, rt: &R, gate: &G, number: u32, flag: &AtomicU64)
         ensures { WatchesOn self.old self.new }
     {
         for _ in rt.forever() {
-            // A flag that is raised behind this look leaves one more look at the board.
+            // A flag that is raised after this look leaves one more look at the board.
             let is_raised = flag.load(Ordering::SeqCst) != 0;
             if self.look(gate, number) || is_raised {
                 return;
@@ -76,7 +76,7 @@ impl Watcher {
         }
     }
 
-    /// Looks once, and answers whether nothing is left to be seen, or to keep it in.
+    /// Looks once, and returns whether nothing is left to be seen, or to keep it in.
     fn look<G: Gate>(&mut self, gate: &G, number: u32) -> bool
         ensures { WatchesOn self.old self.new }
     {
@@ -92,7 +92,7 @@ impl Watcher {
         last
     }
 
-    /// Learns of the newest version of its board, looks once more, and gives what it saw.
+    /// Learns of the newest version of its board, looks once more, and returns what it saw.
     pub fn end(self, told: Told) -> Result<Watched, NoMemory>
         requires { told.board ≡ self.known.board }
         ensures gives { IfOk result (Gives self) }
@@ -113,7 +113,7 @@ impl Watcher {
         Ok(Watched { seen })
     }
 
-    /// Gives what it saw so far.
+    /// Returns what it saw so far.
     pub fn give_up(self) -> Watched
         ensures seen { result.seen.items ≡ self.seen }
         ensures rising { AreRising 0 self.seen }
@@ -141,7 +141,7 @@ fn see(reader: &mut Reader) -> (Seen, bool)
     (seen, version.last())
 }
 
-/// Keeps what was seen, where it is of a newer version than the last that was kept. Answers whether it is.
+/// Keeps what was seen, where it is of a newer version than the last that was kept. Returns whether it is.
 fn keep(kept: &mut Vec<Seen>, seen: Seen) -> Result<bool, NoMemory>
     ensures kept { IfOk result (HasKept kept.old.items seen kept.new.items) }
     ensures unchanged { OnErr result (kept.new.items ≡ kept.old.items) }
@@ -168,7 +168,7 @@ pub fn watchers(alloc: Global, readers: Vec<Reader>) -> Result<Vec<Watcher>, NoM
     Ok(team)
 }
 
-/// The number by which a gate is told of the watcher at an index. It is that index, but for the greatest of them, which no
+/// The number by which a gate knows the watcher at an index. It is that index, but for the greatest of them, which no
 /// team has.
 fn number_at(index: usize) -> u32
     ensures { result ≡ min index (2 ^ 32 - 1) }
@@ -197,7 +197,7 @@ pub fn watch_all<R: Threads + Wait + Sync, G: Gate + Sync>(
     );
 }
 
-/// Lets each watcher of a board learn of its newest version and look once more, and gives what they saw.
+/// Lets each watcher of a board learn of its newest version and look once more, and returns what they saw.
 pub fn end_all(
     alloc: Global,
     writer: &mut Writer,
@@ -206,7 +206,7 @@ pub fn end_all(
     // All of them look at the writer's board.
     requires { All (λ w. w.known.board ≡ writer.old.board) team.items }
 
-    // What each watcher saw stays at the front. Where the newest version is the last, each ends with it.
+    // What each watcher saw stays first. Where the newest version is the last, each ends with it.
     ensures count { IfOk result (λ watched. vec_len watched ≡ vec_len team) }
     ensures gives { IfOk result (λ watched. AllZip Gives team.items watched.items) }
     ensures seen { IfOk result (λ watched. ends writer.old.newest.events ≡ true →
@@ -223,7 +223,7 @@ pub fn end_all(
     Ok(watched)
 }
 
-/// Gives what the watchers of a team saw so far, of so many of them as there is memory for.
+/// Returns what the watchers of a team saw so far, of so many of them as there is memory for.
 pub fn give_up_all(alloc: Global, team: Vec<Watcher>) -> Vec<Watched>
     ensures count { vec_len result ≤ vec_len team }
     ensures seen { map (λ w. w.seen.items) result.items

@@ -134,7 +134,7 @@ cuts-on es width h =
     let on : nat_eq width 0 ≡ false = grind (arith, nat_tests) in
     rw on refl
 
--- a line of blanks stands in one row
+-- a line of blanks is in one row
 pub cuts-blank : (es : List Element) (width : ℕ) → lead_of es ≡ length es → cuts_of es width ≡ []
 cuts-blank es width h = elim (cases_lt 0 width) [
   | inl on ↦ cuts-on es width on ∙ row_starts_done es (width - indent_of es width) (next_start_of es width 0) (next_blank es width h)

@@ -1,4 +1,4 @@
--- Where two quiet characters stand side by side, a text may be cut into clusters in two parts.
+-- Where two quiet characters are side by side, a text may be cut into clusters in two parts.
 use Rattle.std.proofs.Common.{◌≡◌, inl, inr, ℕ, ◌<◌, ◌≤◌, ◌+◌, ◌-◌, length, take, drop, slice_index, slice_range, append_assoc, Bool, true, false, not, ◌&&◌, ◌||◌, List, [], ◌∷◌, ◌++◌, map, unwrap_or, Some, nat_lt, encode_utf8_all, append-nil, refl, arith, ap, ap₂, sym, ◌∙◌}
 use Rattle.std.specs.Str.{chars, chars_after, continuation_len, lead_bits, IsUtf8, IsCharBoundary}
 use Rattle.std.proofs.lemmas.Bool.Decides.{nat_tests}
@@ -80,7 +80,7 @@ unfolding ends_in_half_flag
 flag_wall [] a before q = ap (λ r. r && not (ends_in_half_flag before)) (not_regional a q)
 flag_wall (z ∷ zs) a before q = ap (λ t. is_regional (grapheme_cluster_break z) && not t) (flag_wall zs a before q)
 
--- what stands before one of them is not looked at
+-- what is before one of them is not looked at
 wall : (z : ℕ) (zs : List ℕ) (a : ℕ) (before after : List ℕ) → IsQuiet a →
     is_grapheme_break true (z ∷ (zs ++ a ∷ before)) after ≡ is_grapheme_break true (z ∷ zs) after
 unfolding is_grapheme_break

@@ -214,7 +214,7 @@ letters_more text n h lt is i less = elim (cases_lt i n) [
       subst (λ (k : ℕ). (k + 1 < length text) × (is_letter_before (slice_index text k) (slice_index text (k + 1)) ≡ true)) e (lt, is)
 ]
 
--- the first of them, and the byte behind it
+-- the first of them, and the byte after it
 letter_at : (text : List ℕ) (n i : ℕ) → StartsWithLetters text n → i < n →
     (i + 1 < length text) × (is_in_range 33 126 (slice_index text i) ≡ true) × (is_simple (slice_index text (i + 1)) ≡ true)
 letter_at text n i h lt =
@@ -284,7 +284,7 @@ pass_walk tab column n part more text rest all none utf8 starts left view fits =
     let cells : total_cells (placed tab column (part ++ (graphemes true text ++ more))) ≡ total_cells all = ap total_cells view in
     (are, omega (arith, fits, cells, letters_cells all n (placed tab (column + n) (part ++ (graphemes true rest ++ more))) are))
 
--- ---- where a walk stands
+-- ---- where a walk is
 
 pub taken_at : (es : List Element) (at : ℕ) (e : Element) (rest : List Element) → drop at es ≡ e ∷ rest →
     (at < length es) × (element_at es at ≡ e) × (rest ≡ drop (at + 1) es)

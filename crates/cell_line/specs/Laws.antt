@@ -32,7 +32,8 @@ IsGreatest test from to k =
 abbrev pub NonePasses : (ℕ → Bool) → ℕ → ℕ → Type 0
 NonePasses test from to = (j : ℕ) → from < j → j ≤ to → test j ≡ false
 
--- the next row starts at the last place that ends the row well, else at the last up to which all fits, else after one element
+-- the next row starts at the last place that ends the row well. Else it starts at the last up to which all fits, else
+-- after one element
 abbrev pub StartsWhereSaid : List Element → ℕ → ℕ → Type 0
 StartsWhereSaid es room start =
     IsGreatest (ends_well es room start) start (length es) (next_start_of es room start)
@@ -46,6 +47,7 @@ AreRowStarts es room start [] = length es ≤ start
 AreRowStarts es room start (k ∷ ks) =
     (k ≡ start) × (k < length es) × AreRowStarts es room (next_start_of es room k) ks
 
--- the first row has the whole width, each later one the width less the indent, and each begins where the one before it ends
+-- the first row has the whole width, each later one the width less the indent, and each begins where the one before it
+-- ends
 abbrev pub CutsAreRowStarts : List Element → ℕ → Type 0
 CutsAreRowStarts es width = AreRowStarts es (width - indent_of es width) (next_start_of es width 0) (cuts_of es width)

@@ -1,3 +1,4 @@
+-- What the crate promises
 pub mod Elements
 pub mod Wrapping
 pub mod Lines
@@ -6,4 +7,5 @@ pub mod Worked
 pub mod RowTexts
 pub mod Waiting
 pub mod MarkRuns
+-- What its parts say to each other
 pub mod inside

@@ -24,6 +24,6 @@ abbrev pub texts_of_parts : ℕ → List (List Element) → List (List ℕ)
 texts_of_parts indent [] = []
 texts_of_parts indent (part ∷ parts) = shown_elements part ∷ map (later_text indent) parts
 
--- the text of each row of a line that stands wrapped at the width
+-- the text of each row of a line that is wrapped at the width
 abbrev pub row_texts_of : List Element → ℕ → List (List ℕ)
 row_texts_of es width = texts_of_parts (indent_of es width) (parted es 0 (cuts_of es width))

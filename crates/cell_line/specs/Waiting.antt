@@ -12,14 +12,14 @@ has_line run line = nat_le run.first line && nat_lt line (run.first + run.count)
 abbrev pub AreApart : List Run → Type 0
 AreApart runs = AllPairs (λ a b. a.first + a.count ≤ b.first) runs
 
--- of lines with these marks, the line doesn't stand at the width, and no run that is out has it
+-- of lines with these marks, the line isn't wrapped at the width, and no run that is out has it
 abbrev pub waits : List ℕ → ℕ → List Run → ℕ → Bool
 waits marks width out line =
     nat_lt line (length marks)
     && not (slice_index_or marks line 0 == width)
     && not (list_any (λ run. has_line run line) out)
 
--- the first line that waits, with the lines behind it that wait, as many as there are up to the limit
+-- the first line that waits, with the waiting lines after it, as many as there are up to the limit
 pub record IsNext (marks : List ℕ) (width : ℕ) (out : List Run) (run : Run) : Type 0 where
   pub some : 1 ≤ run.count
   pub few : run.count ≤ RUN_LIMIT

@@ -43,11 +43,11 @@ pub(crate) fn cells(cluster: &str, tab: u32, column: u32) -> u32
     }
 }
 
-/// The elements of the display line that the pieces make, at a tab size of 1 to 16 cells.
+/// The elements of the display line that the pieces make, at a tab size of 1 to 16 cells (*Elements*).
 ///
-/// They are the extended grapheme clusters of each piece in turn, so none crosses a piece's edge. A tab that `c` cells
-/// of the line precede goes to the next multiple of the tab size where `c < 256`, and takes one cell from there on;
-/// every other cluster takes the cells that `unicode_width` gives for its text. The cells of the whole line fit u32.
+/// They are the extended grapheme clusters of each piece in turn, so none crosses a piece's edge. A tab after `c` cells
+/// of the line goes to the next multiple of the tab size where `c < 256`. From there on it takes one cell. Every other
+/// cluster takes the cells that `unicode_width` gives for its text. The cells of the whole line fit u32.
 pub fn elements(alloc: Global, pieces: &[Piece], tab: u32) -> Result<Vec<Element>, NoMemory>
     requires size { (1 ≤ tab) × (tab ≤ 16) }
     requires fits { total_cells (elements_of pieces.now tab) < 2 ^ 32 }

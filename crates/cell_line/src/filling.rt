@@ -36,7 +36,8 @@ impl Row {
         }
     }
 
-    /// The row, and where it may end before the element at the place, `parts` being whether it may after the one before.
+    /// The row, and where it may end before the element at the place, `parts` being whether it may after the one
+    /// before.
     #[inline]
     pub(crate) fn asked(self, lead: u32, at: u32, parts: bool, mark: Mark) -> Row
         ensures start { result.start ≡ self.start }

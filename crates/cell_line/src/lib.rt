@@ -1,7 +1,7 @@
 //! The elements of one display line, and where the line is cut so that its rows fit a width.
 //!
 //! An element is an extended grapheme cluster with the cells that it takes on its line. The crate promises that
-//! `elements`, `indent` and `cuts` are exactly the plain definitions of `specs/`, for every line and width; `line_laws`
+//! `elements`, `indent` and `cuts` are exactly the plain definitions of `specs/`, for every line and width. `line_laws`
 //! has what those definitions mean in other words, and bounds on what they give. `Lines` is what the crates above ask
 //! of a list of such lines.
 #![tactic(auto)]

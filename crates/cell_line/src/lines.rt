@@ -21,7 +21,8 @@ pub struct Run {
     pub count: u32,
 }
 
-/// The lines from `first` to `last`, which stand wrapped at `width` cells, as those before and after them don't.
+/// The lines from `first` to `last`, which are wrapped at `width` cells, as those right before and right after them
+/// aren't.
 #[derive(Clone, Copy, Debug, PartialEq, Eq)]
 pub struct MarkRun {
     pub first: u32,
@@ -43,7 +44,7 @@ pub trait Lines: Drop + Send + Sync {
         requires { line < length (elements_by_line self.now) }
         ensures { IfOk result (λ elements. elements.items ≡ line_at (elements_by_line self.now) line) };
 
-    /// Where the line of this number is cut at a width.
+    /// Where the line of this number, counted from 0, is cut at a width in cells (*Cuts*).
     fn cuts(&self, alloc: Global, line: u32, width: u32) -> Result<Cuts, NoMemory>
         requires within { line < length (elements_by_line self.now) }
         requires fits { LineFitsU32 (line_at (elements_by_line self.now) line) }
@@ -55,9 +56,9 @@ pub trait Lines: Drop + Send + Sync {
         Ok(cuts)
     }
 
-    /// The texts of the line's rows at a width, from the row `first` on, as many as there are up to `count`. The cuts are
-    /// those of the line at that width. A tab is as many spaces as it has cells, and each row after the line's first
-    /// begins with the indent's spaces.
+    /// The texts of the line's rows at a width in cells (*Row texts*). They are those from the row `first` on, as many
+    /// as there are up to `count`. The cuts are those of the line at that width. A tab is as many spaces as it has
+    /// cells, and each row after the line's first begins with the indent's spaces.
     fn row_texts(
         &self,
         alloc: Global,
@@ -84,7 +85,8 @@ pub trait Lines: Drop + Send + Sync {
         row_texts_of_walk(alloc, lead, walk, width, cuts.as_slice(), first, count)
     }
 
-    /// An equal list of lines, which no later change of this one reaches. It takes no memory: `NoMemory` is one holder too many.
+    /// An equal list of lines, which no later change of this one reaches. It allocates nothing, and fails with
+    /// `NoMemory` only where the count of holders is full.
     fn share(&self) -> Result<Self, NoMemory>
         ensures { IfOk result (λ shared. elements_by_line shared ≡ elements_by_line self.now) };
 }

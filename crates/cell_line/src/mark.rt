@@ -103,7 +103,7 @@ impl<'a> Walk<'a> {
         }
     }
 
-    /// Passes over letters that are next, up to so many, and answers how many. It may stop before one.
+    /// Passes over letters that are next, up to so many, and returns how many. It may stop before one.
     #[inline]
     pub(crate) fn pass_letters(&mut self, most: u32) -> u32
         ensures within { result ≤ most }

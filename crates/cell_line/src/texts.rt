@@ -36,7 +36,7 @@ fn push_element(text: &mut String, element: &Lent) -> Result<(), NoMemory>
     }
 }
 
-/// The text of a row of at most so many elements, over which the walk passes, behind the indent's spaces.
+/// The text of a row of at most so many elements, over which the walk passes, after the indent's spaces.
 fn row_text(alloc: Global, walk: &mut Walk, indent: u32, most: u32) -> Result<Text, NoMemory>
     ensures text { IfOk result (λ text. text ≡ later_text indent (take most (left_of walk.old))) }
     ensures left { OnOk result (left_of walk.new ≡ drop most (left_of walk.old)) }
@@ -80,8 +80,8 @@ fn row_len(cuts: &[u32], row: usize) -> u32
     }
 }
 
-/// The texts of the rows of the line that is to be walked, and that these blanks lead, from the row `first` on, as many
-/// as there are up to `count`.
+/// The texts of rows of a line that is to be walked and that these blanks lead. They are those from the row `first` on,
+/// as many as there are up to `count`.
 pub(crate) fn row_texts_of_walk(
     alloc: Global,
     lead: Lead,
@@ -123,9 +123,9 @@ pub(crate) fn row_texts_of_walk(
     Ok(texts)
 }
 
-/// The texts of the rows of the line that the pieces make, from the row `first` on, as many as there are up to `count`,
-/// at a tab size of 1 to 16 cells and a width. The cuts are those of the line at that width. It walks the line once, up
-/// to the last of these rows.
+/// The texts of rows of the line that the pieces make, at a tab size of 1 to 16 cells and a width in cells. They are
+/// those from the row `first` on, as many as there are up to `count`. The cuts are those of the line at that width
+/// (*Row texts*). It walks the line once, up to the last of these rows.
 pub fn row_texts_of_pieces(
     alloc: Global,
     pieces: &[Piece],

@@ -158,7 +158,7 @@ fn is_letter_before(byte: u8, next: u8) -> bool
     (33 <= byte && byte <= 126) && is_simple(next)
 }
 
-/// How many letters with a simple byte behind each the text begins with, up to so many.
+/// How many letters, each with a simple byte after it, the text begins with, up to so many.
 #[inline]
 fn letters(bytes: &[u8], most: usize) -> usize
     ensures within { result ≤ most }
@@ -191,8 +191,8 @@ fn next_cluster<'a>(part: &mut Option<Graphemes<'a>>) -> Option<&'a str>
     }
 }
 
-/// Where a line goes on that has `rest` and the pieces from `begun` on left: how many pieces are begun then, and the text.
-/// None exactly where neither has any text.
+/// Where a line goes on that has `rest` and the pieces from `begun` on left: how many pieces are begun then, and the
+/// text. None exactly where neither has any text.
 fn next_text<'a>(pieces: &'a [Piece], begun: usize, rest: &'a str) -> Option<(usize, &'a str)>
     requires { begun ≤ length pieces.now }
     ensures some { IfSome result (λ next. IsNextText pieces.now begun rest.now next.0 next.1.now) }
@@ -296,7 +296,7 @@ impl<'a> PieceWalk<'a> {
         self.next_seldom()
     }
 
-    /// Passes over the letters that are next, each with a simple byte behind it, up to so many, and answers how many.
+    /// Passes over the letters that are next, each with a simple byte after it, up to so many, and returns how many.
     #[inline]
     pub(crate) fn pass_letters(&mut self, most: u32) -> u32
         ensures within { result ≤ most }

@@ -16,8 +16,8 @@ use std::alloc::Global;
 /// The places where a line is cut: the numbers of the elements with which its rows after the first begin.
 pub type Cuts = SmallVec<u32, 4>;
 
-/// The cells by which the line's rows after the first are indented at the width: those of its leading blanks, where
-/// twice these are at most the width and something follows them, and 0 elsewhere.
+/// The cells by which the line's rows after the first are indented at a width in cells. They are those of its leading
+/// blanks, where twice these are at most the width and something follows them, and else 0.
 pub fn indent(elements: &[Element], width: u32) -> u32
     requires fits { total_cells elements.now < 2 ^ 32 }
     requires lawful { IsWidth width }
@@ -26,10 +26,11 @@ pub fn indent(elements: &[Element], width: u32) -> u32
     Lead::of(Walk::Elements(elements)).indent(width)
 }
 
-/// The places where the line is cut, so that its rows fit the width, which is 2 to 10,000 cells. At width 0 there are none.
+/// The places where the line is cut (*Cuts*), so that its rows fit the width, which is 2 to 10,000 cells. At width 0
+/// there are none.
 ///
-/// A row ends at the last place where a row may end and up to which its cells, but for the blanks at its end, are within
-/// the room; else at the last up to which all its cells are; else after one element. The room is the width, and on rows
+/// A row ends at the last opportunity up to which its cells, but for the blanks at its end, are within the room. Else
+/// it ends at the last place up to which all its cells are, else after one element. The room is the width, and on rows
 /// after the first the width less the indent.
 pub fn cuts(alloc: Global, elements: &[Element], width: u32) -> Result<Cuts, NoMemory>
     requires fits { total_cells elements.now < 2 ^ 32 }
@@ -42,8 +43,8 @@ pub fn cuts(alloc: Global, elements: &[Element], width: u32) -> Result<Cuts, NoM
     cuts_of_walks(alloc, lead, first, later, width)
 }
 
-/// The cuts of the line that the pieces make at a tab size of 1 to 16 cells and a width, in two walks along them that
-/// keep no text and no element.
+/// The cuts of the line that the pieces make at a tab size of 1 to 16 cells and a width in cells. It walks along them
+/// twice, and keeps no text and no element.
 pub fn cuts_of_pieces(
     alloc: Global,
     pieces: &[Piece],

@@ -1,4 +1,4 @@
--- Where the lines of a buffer stand.
+-- Where the lines of a buffer are.
 use Rattle.std.proofs.Common.{◌≡◌, ℕ, ◌+◌, ◌-◌, ◌<◌, ◌≤◌, leb, nat_le, ◌⊎◌, zero, suc, Bool, true, false, cond, List, [], ◌∷◌, ◌++◌, length, take, drop, get_or, slice_range, refl, sym, ap, subst, ◌∙◌, inl, inr, arith, length-append, add-one, zero-add}
 use Rattle.std.specs.List.{count_by, sum_by, prefix_len}
 use Rattle.std.specs.Str.{IsUtf8, IsCharBoundary}
@@ -96,7 +96,7 @@ others : (b : ℕ) (ls : List (List ℕ)) (line : ℕ) → 0 < length ls → get
 others b [] line lt = absurd (omega arith)
 others b (l ∷ ls) line lt = refl
 
--- a line of the bytes of which the first stands at the offset: what is before it, the line, and what is behind its feed
+-- a line of bytes of which the first is at the offset: what is before it, the line, and what is after its feed
 pub record LineAt (o : ℕ) (text : List ℕ) (line : ℕ) : Type 0 where
   pub before : List ℕ
   pub bytes : List ℕ
@@ -173,7 +173,7 @@ line_at o (b ∷ bs) line lt = go (λ line lt. line_at (o + 1) bs line lt) (is_f
   go at false e zero lt = in_first o b bs e (at 0 (omega arith))
   go at false e (suc line) lt = behind_first o b bs line e (at (suc line) (omega (arith, feeds-cons b bs, ap {B = ℕ} (λ (c : Bool). cond c 1 0) e)))
 
--- each line of a text, with what is before and behind it
+-- each line of a text, with what is before and after it
 pub buffer_line : (text : List ℕ) (line : ℕ) → line < line_count text → LineAt 0 text line
 buffer_line text line lt = line_at 0 text line (omega (arith, line_count-is text))
 
@@ -190,7 +190,7 @@ long_is : (text : List ℕ) (line : ℕ) (r : LineAt 0 text line) → length r.b
 long_is text line r =
     omega (arith, ap length r.is, length-append text (line_feed ∷ []), length-append r.before (r.bytes ++ (line_feed ∷ r.rest)), length-append r.bytes (line_feed ∷ r.rest))
 
--- a line stands from its start to its end, within the text
+-- a line goes from its start to its end, within the text
 pub line_bounds : (text : List ℕ) (line : ℕ) → line < line_count text →
     (line_start text line ≤ line_end text line) × (line_end text line ≤ length text)
 line_bounds text line lt =

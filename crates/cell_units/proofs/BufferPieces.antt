@@ -17,9 +17,10 @@ use Rattle.cell_units.specs.Laws.{IsCopied}
 use Rattle.cell_units.proofs.Joined.{inside_of, covered_by}
 use Rattle.cell_units.proofs.ShownText.{EndsOpen, Starts, shown_by, starts}
 
--- ---- what stands behind a byte
+-- ---- what comes after a byte
 
--- what stands behind a byte of the buffer, which is the text's, has the next offset; behind a byte of an inlay the same one
+-- what comes after a byte of the buffer, which is the text's, has the next offset; after a byte of an inlay the same
+-- one
 abbrev pub Next : List ℕ → Token → Token → Type 0
 Next text (Byte o b) u = (o < length text) × (get_or text o 0 ≡ b) × (offset_of u ≡ o + 1)
 Next text (InlayByte o id b) u = offset_of u ≡ o

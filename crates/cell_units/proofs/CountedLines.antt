@@ -16,7 +16,8 @@ use Rattle.cell_units.proofs.SortedLists.{IsSorted}
 use Rattle.cell_units.proofs.BufferLines.{feeds, feeds-append}
 use Rattle.cell_units.proofs.RowFeeds.{feeds-free, feeds_take-mono, feeds_take-lt, feeds_take_at, RowEnd, row_end}
 
--- a text with its end in its rows: those before, the start of the first touched row, the range, the rest of the last touched row, those behind
+-- a text with its end in its rows: those before, the start of the first touched row, and the range. Then come the rest
+-- of the last touched row, and those after
 pub record Cut (text before start range ending row rest : List ℕ) : Type 0 where
   pub is : text ≡ before ++ (start ++ (range ++ ending))
   pub whole : ended is_feed true before ≡ true
@@ -160,7 +161,7 @@ module _ (inlays : List Inlay) (folds : List Fold) (text before start range endi
         ∙ empty (show_each (shown inlays folds) (length before) (start ++ (range ++ row))) (show_each (shown inlays folds) (length before + length (start ++ (range ++ row))) (line_feed ∷ []))
         (sym (show_each-append (shown inlays folds) (length before) (start ++ (range ++ row)) (line_feed ∷ [])) ∙ none)
 
--- two records show the same away from a range that is replaced by n bytes, behind it moved
+-- two records show the same away from a range that is replaced by n bytes, moved where it is after it
 pub record SameAway (sh : Token → Token) (a b n : ℕ) (inlays inlays' : List Inlay) (folds folds' : List Fold) : Type 0 where
   pub ordered : a ≤ b
   pub before : (k x : ℕ) → k < a → shown inlays' folds' k x ≡ shown inlays folds k x
@@ -260,8 +261,8 @@ module _ (sh : Token → Token) (inlays inlays' : List Inlay) (folds folds' : Li
       (subst (λ (l : List Token). Counted is_break sh (token_row text) (token_row text') (feeds before) (feeds before + feeds range) (feeds before + feeds new) (A ++ (M ++ B)) l)
       ((λ i. sym same_above i ++ (M' ++ sym moved_below i)) ∙ sym (folded_is inlays' folds' text' before start new ending row rest c')) r)
 
--- Two records that show the same away from an edit: the touched lines are one run before and one
--- after, before it the lines are the same and behind it the same moved.
+-- Two records that show the same away from an edit. The touched lines are one run before and one after; before the run
+-- the lines are the same, and after it the same, moved.
 pub changed : (sh : Token → Token) (inlays inlays' : List Inlay) (folds folds' : List Fold) (text new : List ℕ) (a b : ℕ) → SameAway sh a b (length new) inlays inlays' folds folds' → b ≤ length text → covered folds (length text) ≡ false
     → Counted is_break sh (token_row text) (token_row (replaced_text text a b new))
     (row_of text a) (row_of text b) (row_of (replaced_text text a b new) (a + length new))

@@ -64,7 +64,7 @@ module _ {X : Type 0} (brk : X → Bool) where
   put_at : (b : Bool) (t : X) (r : List (List X)) (l : List X) (ls ms : List (List X)) → r ≡ l ∷ ls → cond b ((t ∷ []) ∷ (r ++ ms)) (onto_line t (r ++ ms)) ≡ cond b ((t ∷ []) ∷ r) (onto_line t r) ++ ms
   put_at b t r l ls ms e = subst (λ (r : List (List X)). cond b ((t ∷ []) ∷ (r ++ ms)) (onto_line t (r ++ ms)) ≡ cond b ((t ∷ []) ∷ r) (onto_line t r) ++ ms) (sym e) (put b t l ls ms)
 
-  -- behind a break the lines begin anew
+  -- after a break the lines begin anew
   pub lines-append : (xs ys : List X) → ended true xs ≡ true → cut_lines brk (xs ++ ys) ≡ cut_lines brk xs ++ cut_lines brk ys
   lines-append [] ys h = refl
   lines-append (t ∷ []) ys h = (λ i. cond (h i) ((t ∷ []) ∷ cut_lines brk ys) (onto_line t (cut_lines brk ys))) ∙ (λ i. cond (sym h i) ((t ∷ []) ∷ []) (onto_line t []) ++ cut_lines brk ys)
@@ -81,7 +81,7 @@ module _ {X : Type 0} (brk : X → Bool) where
   Every-lines P [] a = tt
   Every-lines P (t ∷ ts) a = at_break (Every (Every P)) t (cut_lines brk ts) (λ _. ((a.0, tt), Every-lines P ts a.1)) (λ _. Line-onto P t (cut_lines brk ts) a.0 (Every-lines P ts a.1))
 
-  -- up to the first break and behind it
+  -- up to the first break and after it
   abbrev pub upto : List X → List X
   upto [] = []
   upto (t ∷ ts) = t ∷ cond (brk t) [] (upto ts)

@@ -1,5 +1,5 @@
--- The pieces of a part of a line, by those of the line. With them the pieces of a folded line follow from those of the lines
--- of the layer below.
+-- The pieces of a part of a line, by those of the line. With them the pieces of a folded line follow from those of the
+-- lines of the lower layer.
 use Rattle.std.proofs.Common.{◌≡◌, ℕ, ◌+◌, ◌-◌, ◌<◌, ◌≤◌, ◌⊎◌, suc, Bool, true, false, cond, eqb, List, [], ◌∷◌, ◌++◌, length, take, drop, flat_map, append-nil, refl, sym, ap, ◌∙◌, inl, inr, arith, length-append}
 use Rattle.std.proofs.lemmas.Bool.{cases_lt, false≢true, le-leb, lt-leb, ne_eqb}
 use Rattle.cell_units.specs.declared.piece.Piece.{Piece}
@@ -17,11 +17,11 @@ hidden_alone (Byte o b) s = refl
 hidden_alone (InlayByte o id b) s = refl
 hidden_alone (Hidden o) s = refl
 
--- the piece of a placeholder before what stands at the offset
+-- the piece of a placeholder before what is at the offset
 abbrev hidden_piece : ℕ → ℕ → Piece
 hidden_piece s e = record { kind = Placeholder; text = placeholder; start = s; end = e }
 
--- the pieces before a placeholder, the placeholder, and those behind it
+-- the pieces before a placeholder, the placeholder, and those after it
 pub pieces-around : (xs : List Token) (s : ℕ) (v : Token) (vs : List Token) →
     pieces_of (xs ++ Hidden s ∷ v ∷ vs) ≡ pieces_of (xs ++ Hidden s ∷ []) ++ (hidden_piece s (offset_of v) ∷ pieces_of (v ∷ vs))
 pieces-around [] s v vs = before_other (Hidden s) (offset_of v) (pieces_of (v ∷ vs))
@@ -243,7 +243,7 @@ module _ (text : List ℕ) where
   one_size : (x : Token) → size (x ∷ []) ≡ length (bytes_of x)
   one_size x = ap length (append-nil (bytes_of x))
 
-  -- the pieces of the front of a line are those of the line up to as many bytes
+  -- the pieces of a line's prefix are those of the line up to as many bytes
   pub front-pieces : (xs : List Token) (u : Token) (us : List Token) → Goes text (xs ++ u ∷ us) →
       pieces_of (xs ++ u ∷ []) ≡ front_pieces (size xs) (pieces_of (xs ++ u ∷ us))
   front-pieces [] u us g = sym (front-none (pieces_of (u ∷ us)) (pieces-bytes (u ∷ us)))

@@ -39,7 +39,7 @@ module _ {X : Type 0} (brk : X → Bool) where
   lines_parts Q F (inl h) = lines-append brk Q F h
   lines_parts Q F (inr h) = subst (λ (l : List X). cut_lines brk (Q ++ l) ≡ cut_lines brk Q ++ cut_lines brk l) (sym h) (ap (cut_lines brk) (append-nil Q) ∙ sym (append-nil (cut_lines brk Q)))
 
-  -- the lines before, in and behind the middle
+  -- the lines before, in and after the middle
   pub three : (A M B : List X) (s : Split brk A) (e : Bool) → ended brk true (A ++ M) ≡ e
       → cut_lines brk (A ++ (M ++ B)) ≡ cut_lines brk s.whole ++ (cut_lines brk ((s.rest ++ M) ++ closing e B) ++ cut_lines brk (further e B))
   three A M B s e h =
@@ -173,7 +173,7 @@ module _ {X : Type 0} (brk : X → Bool) (shift : X → X) (same : (x : X) → b
     go true = refl
     go false = refl
 
--- one run of touched lines before and one after; before it the same lines, behind it the same lines moved
+-- one run of touched lines before and one after; before it the same lines, after it the same lines moved
 pub record Counted {X : Type 0} (brk : X → Bool) (shift : X → X) (row row' : X → ℕ) (first last last' : ℕ) (before after : List X) : Type 0 where
   pub front : List (List X)
   pub middle : List (List X)

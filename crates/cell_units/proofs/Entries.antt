@@ -144,6 +144,6 @@ module _ {X : Type 0} (le : X → X → Bool) (total : (x y : X) → le x y ≡ 
     go first rest zero (suc j) d l m = first j d (omega (arith, m))
     go first rest (suc i) (suc j) d l m = rest i j d (omega (arith, l)) (omega (arith, m))
 
-  -- each entry comes at or before those behind it, and no two have one id
+  -- each entry comes at or before those after it, and no two have one id
   pub entries-pairs : (P : X → Type 0) (xs : List X) → AreEntries le id_of P xs → AllPairs (λ x y. (le x y ≡ true) × (id_of x ≢ id_of y)) xs
   entries-pairs P xs is i j d l m = (pairs xs (sorted_entries xs is.in_order) i j d l m, apart xs is.distinct i j d l m)

@@ -49,7 +49,7 @@ module _ (text : List ℕ) (inlays : List Inlay) (folds : List Fold) where
       ap (λ (i : Bool). size (cond i (folded_before text inlays folds o) (folded_before text inlays folds o ++ inlays_at inlays o))) out
       ∙ size-append (folded_before text inlays folds o) (inlays_at inlays o)
 
-  -- from one open offset to another that no fold separates it from, there are as many bytes as in the layer below
+  -- from one open offset to another that no fold separates it from, there are as many bytes as in the lower layer
   pub places-apart : (o p : ℕ) → o ≤ p → p ≤ length text → inside folds o ≡ false → inside folds p ≡ false →
       ((k : ℕ) → o ≤ k → k < p → covered folds k ≡ false) →
       place_of above p Left + place_of below o Left ≡ place_of above o Left + place_of below p Left
@@ -71,7 +71,7 @@ module _ (text : List ℕ) (inlays : List Inlay) (folds : List Fold) where
       ∙ size-append (folded_before text inlays [] o) (show_each (shown inlays []) o (part text o m)) in
       omega (arith, high, deep, open_left o out, open_left p out')
 
-  -- a joined fold's end stands behind its placeholder, which stands behind the inlays at its start
+  -- a joined fold's end lies after its placeholder, which lies after the inlays at its start
   pub place-behind : (s e : ℕ) → IsJoined folds s e → s ≤ e → e ≤ length text → place_of above e Left ≡ place_of above s Right + 3
   place-behind s e j le within =
       let is = IsJoined-shows folds s e j in
@@ -86,7 +86,7 @@ module _ (text : List ℕ) (inlays : List Inlay) (folds : List Fold) where
       ∙ ap (λ (l : List Token). size (folded_before text inlays folds s) + size l) hidden in
       omega (arith, high, size-append (inlays_at inlays s) (Hidden s ∷ []), open_left e is.3, open_right s is.1)
 
-  -- the inlays at an open offset stand between its places
+  -- the inlays at an open offset lie between its places
   pub places-of_inlays : (o : ℕ) → inside folds o ≡ false → place_of above o Right ≡ place_of above o Left + size (inlays_at inlays o)
   places-of_inlays o out = omega (arith, open_left o out, open_right o out)
 
@@ -107,7 +107,7 @@ module _ (text : List ℕ) (inlays : List Inlay) (folds : List Fold) where
             (λ i. shown-start folds inlays s b (is.0, is.1) i ++ inside-shows_none folds inlays (s + 1) bs (λ k x y. is.2 k (omega (arith, x)) (omega (arith, y, le))) i)
             ∙ append-nil (inlays_at inlays s ++ Hidden s ∷ [])
 
-  -- an offset strictly inside a joined fold stands at its placeholder's start (Left) and end (Right)
+  -- an offset strictly inside a joined fold is at its placeholder's start (Left) and end (Right)
   pub places-within : (s e o : ℕ) → IsJoined folds s e → s < o → o < e → e ≤ length text →
       (place_of above o Left ≡ place_of above s Right) × (place_of above o Right ≡ place_of above s Right + 3)
   places-within s e o j from to within =
@@ -142,7 +142,7 @@ module _ (text : List ℕ) (inlays : List Inlay) (folds : List Fold) where
       ap (λ (i : Bool). count_by is_break (cond i (folded_before text inlays folds o) (folded_before text inlays folds o ++ inlays_at inlays o))) out
       ∙ breaks-append (folded_before text inlays folds o) (inlays_at inlays o)
 
-  -- between folds there are as many lines as in the layer below
+  -- between folds there are as many lines as in the lower layer
   pub lines-apart : (o p : ℕ) → o ≤ p → p ≤ length text → inside folds o ≡ false → inside folds p ≡ false →
       ((k : ℕ) → o ≤ k → k < p → covered folds k ≡ false) →
       line_of text inlays folds p Left + line_of text inlays [] o Left ≡ line_of text inlays folds o Left + line_of text inlays [] p Left

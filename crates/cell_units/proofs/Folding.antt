@@ -1,5 +1,5 @@
--- Folds over a layer: each token of the layer below is kept, hidden or stands as a placeholder. And inlays in a text: each
--- byte has the inlays at its offset before it.
+-- Folds over a layer: each token of the lower layer is kept, is hidden or becomes a placeholder. And inlays in a text:
+-- each byte has the inlays at its offset before it.
 use Rattle.std.proofs.Common.{◌≡◌, ℕ, ◌+◌, ◌-◌, length, Bool, true, false, cond, eqb, List, [], ◌∷◌, ◌++◌, map, filter, take, flat_map, refl, sym, ap, ◌∙◌}
 use Rattle.std.proofs.lemmas.Bool.{eqb-true}
 use Rattle.std.proofs.lemmas.List.Concat.{flat_map-append}
@@ -69,7 +69,7 @@ module _ (folds : List Fold) where
     pub folded_before-folded : (text : List ℕ) (o : ℕ) → folded_before text inlays folds o ≡ fold_each (folded_before text inlays [] o)
     folded_before-folded text o = each-folded 0 (take o text)
 
-    -- what stands before an open position is what stood before it, each token replaced
+    -- what is before an open position is what was before it, each token replaced
     pub folded_to-folded : (text : List ℕ) (o : ℕ) (bias : Bias) → inside folds o ≡ false →
         folded_to text inlays folds o bias ≡ fold_each (folded_to text inlays [] o bias)
     folded_to-folded text o Left out =

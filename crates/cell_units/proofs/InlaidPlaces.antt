@@ -87,7 +87,7 @@ module _ (text : List ℕ) (inlays : List Inlay) where
       ∙ (λ i. show_each g 0 (take o text) ++ append-nil (g (at i) b) i) in
       omega (arith, ap size more, size-append (show_each g 0 (take o text)) (inlays_at inlays o ++ Byte o b ∷ []), size-append (inlays_at inlays o) (Byte o b ∷ []))
 
-  -- the left place is behind the inlays at lesser offsets
+  -- the left place is after the inlays at lesser offsets
   pub left-is : (o : ℕ) → o ≤ length text → place_of (inlay_source text inlays) o Left ≡ o + inlaid_bytes (λ i. ltb i.offset o) inlays
   left-is zero le = omega (arith, none-below inlays)
   left-is (suc k) le =
@@ -99,7 +99,7 @@ module _ (text : List ℕ) (inlays : List Inlay) where
       let all : size (show_each g 0 (take (k + 1) text)) ≡ k + 1 + inlaid_bytes (λ i. ltb i.offset (k + 1)) inlays = omega (arith, more, rest, here, split) in
       subst (λ (o : ℕ). size (show_each g 0 (take o text)) ≡ o + inlaid_bytes (λ i. ltb i.offset o) inlays) next all
 
-  -- the right place is behind those at it too
+  -- the right place is after those at it too
   pub right-is : (o : ℕ) → o ≤ length text → place_of (inlay_source text inlays) o Right ≡ o + inlaid_bytes (λ i. leb i.offset o) inlays
   right-is o le =
       omega (

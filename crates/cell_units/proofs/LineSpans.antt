@@ -1,4 +1,4 @@
--- The line of a place: its number, and that its span has the row of the offset that stands there.
+-- The line of a place: its number, and that its span has the row of the offset that is there.
 use Rattle.std.proofs.Common.{◌≡◌, ℕ, ◌+◌, ◌-◌, ◌<◌, ◌≤◌, suc, zero, Bool, true, false, cond, List, [], ◌∷◌, ◌++◌, length, map, take, drop, get_or, flat_map, filter, eqb, refl, sym, ap, ◌∙◌, subst, inl, inr, arith, append-nil, append_assoc}
 use Rattle.std.specs.List.{count_by}
 use Rattle.std.proofs.lemmas.Bool.{cases_lt, false≢true, eqb-true}
@@ -226,7 +226,7 @@ module _ (s : Source) (w : EndsOpen s) where
       (Every-map (IsAt n) (λ t. o ≤ offset_of t) (λ t h. omega (arith, h, le)) (inlays_at s.inlays n) (inlays-at s.inlays n))
       (le, tt))
 
-  -- what stands behind, up to the break at the text's end
+  -- what comes after, up to the break at the text's end
   behind-ends : (xs : List Token) (o : ℕ) → LastIs (λ t. is_break t ≡ true) (xs ++ behind o)
   behind-ends xs o =
       subst (LastIs (λ t. is_break t ≡ true)) (append_assoc xs (show_each g o (drop o s.text) ++ inlays_at s.inlays n) (close ∷ []) ∙ ap (λ (l : List Token). xs ++ l) (append_assoc (show_each g o (drop o s.text)) (inlays_at s.inlays n) (close ∷ [])))
@@ -308,7 +308,7 @@ module _ (s : Source) (w : EndsOpen s) where
 
   -- ---- where none does
 
-  -- the inlays at an offset and its own token, with what stands behind them
+  -- the inlays at an offset and its own token, with what comes after them
   record IsOpenAt (o : ℕ) : Type 0 where
     own : Token
     rest : List Token
@@ -412,7 +412,7 @@ module _ (s : Source) (w : EndsOpen s) where
         end-ge o (t ∷ []) h = row_of-le s.text o (offset_of t) h
         end-ge o (t ∷ u ∷ us) h = end-ge o (u ∷ us) h
 
-  -- before a place stand the bytes before its position
+  -- before a place lie the bytes before its position
   pub bytes-before : (o : ℕ) (bias : Bias) → o ≤ n → take (place_of s o bias) (shown_text s) ≡ tokens_bytes (folded_to s.text s.inlays s.folds o bias)
   bytes-before o bias le =
       let P = folded_to s.text s.inlays s.folds o bias in

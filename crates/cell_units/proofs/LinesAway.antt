@@ -1,4 +1,5 @@
--- The display lines of rows away from what an operation touches: before it they are the same, and behind it as far from the end.
+-- The display lines of rows away from what an operation touches: before it they are the same, and after it as far from
+-- the end.
 use Rattle.std.proofs.Common.{◌≡◌, ℕ, ◌+◌, ◌-◌, ◌<◌, ◌≤◌, Bool, false, true, cond, eqb, List, [], ◌∷◌, ◌++◌, length, take, drop, map, refl, sym, ap, ◌∙◌, arith, append_assoc, length-append}
 use Rattle.std.specs.List.{count_by}
 use Rattle.std.proofs.lemmas.List.{take-append-drop, length-drop, length-map, length-take-le}
@@ -31,7 +32,7 @@ module _ (inlays : List Inlay) (folds : List Fold) (text : List ℕ) where
       lines-count is_break (folded text inlays folds) (ended-each inlays folds line_feed text ∙ ap (λ (d : Bool). cond d false true) free)
       ∙ length-filter is_break (folded text inlays folds)
 
-  -- what is shown is what stands before an offset, and what stands from it on
+  -- what is shown is what is before an offset, and what is from it on
   from-offset : (o : ℕ) → o ≤ length text →
       count_by is_break (folded text inlays folds)
       ≡ count_by is_break (folded_before text inlays folds o) + count_by is_break (show_each (shown inlays folds) o (drop o text ++ line_feed ∷ []))
@@ -101,7 +102,7 @@ module _ (sh : Token → Token) (inlays inlays' : List Inlay) (folds folds' : Li
         ap {B = ℕ} (λ (d : Bool). cond d 0 1) (same-hidden e lt),
       )
 
-  -- ---- behind the range
+  -- ---- after the range
 
   count-moved : (ts : List Token) → count_by is_break (map sh ts) ≡ count_by is_break ts
   count-moved [] = refl

@@ -8,7 +8,7 @@ use Rattle.cell_units.specs.declared.place.Bias.TheVariants.{Right}
 use Rattle.cell_units.specs.Anchor.{is_left, move}
 use Rattle.cell_units.specs.Inlaid.{Token, Byte, InlayByte, Hidden}
 
--- a token behind the range
+-- a token after the range
 abbrev pub move_token : ℕ → ℕ → ℕ → Token → Token
 move_token a b n (Byte o c) = Byte (move o Right a b n) c
 move_token a b n (InlayByte o i c) = InlayByte (move o Right a b n) i c
@@ -65,7 +65,7 @@ same_eq x y o p f g = go (cases_eq x o) where
   go (inr l) = ne_eqb x o l ∙ sym (ne_eqb y p (λ m. l (g m)))
 
 module _ (p : ℕ) (bias : Bias) (a b n : ℕ) (ab : a ≤ b) where
-  -- before the range each order stays, behind it too
+  -- before the range each order stays, after it too
   pub before_lt : (o : ℕ) → o < a → ltb (move p bias a b n) o ≡ ltb p o
   before_lt o h = go (place p bias a b n ab) where
     go : Place p bias a b n → ltb (move p bias a b n) o ≡ ltb p o

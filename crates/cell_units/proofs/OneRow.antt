@@ -15,7 +15,7 @@ use Rattle.cell_units.proofs.LineSpans.{IsAt, inlays-at}
 use Rattle.cell_units.proofs.ShownText.{Starts, starts}
 
 module _ (text : List ℕ) where
-  -- what stands behind a token that is no break is in its row
+  -- what comes after a token that is no break is in its row
   abbrev SameRow : Token → Token → Type 0
   SameRow t u = is_break t ≡ false → row_of text (offset_of t) ≡ row_of text (offset_of u)
 

@@ -15,7 +15,7 @@ some_before c t end [] = record { head = _; rest = []; is = refl }
 some_before true t end (p ∷ ps) = record { head = _; rest = ps; is = refl }
 some_before false t end (p ∷ ps) = record { head = _; rest = p ∷ ps; is = refl }
 
--- a piece before pieces, with more behind
+-- a piece before pieces, with more after them
 pub before_both : (c : Bool) (t : Token) (end : ℕ) (ps qs : List Piece) → Some ps → piece_before c t end (ps ++ qs) ≡ piece_before c t end ps ++ qs
 before_both c t end ps qs s =
     ap (λ (k : List Piece). piece_before c t end (k ++ qs)) s.is

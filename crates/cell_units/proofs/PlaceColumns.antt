@@ -1,4 +1,4 @@
--- The column of a place is how many bytes of its display line stand before the position.
+-- The column of a place is how many bytes of its display line are before the position.
 use Rattle.std.proofs.Common.{◌≡◌, ℕ, ◌+◌, ◌-◌, ◌≤◌, suc, zero, not, Bool, true, false, cond, List, [], ◌∷◌, ◌++◌, length, take, drop, get_or, refl, sym, ap, ◌∙◌, subst, arith, append_assoc, length-append}
 use Rattle.std.specs.List.{suffix_len, after_last, prefix_len}
 use Rattle.std.proofs.lemmas.List.{drop-append-le, drop_all, length_push, reverse-append, take_all, take_more}
@@ -32,7 +32,7 @@ after-push xs t = go (is_break t) (suffix-push (λ t. not (is_break t)) xs t) wh
       let same : length (xs ++ t ∷ []) - unbroken (xs ++ t ∷ []) ≡ length xs - unbroken xs = omega (arith, e, length_push xs t) in
       ap (λ (n : ℕ). drop n (xs ++ t ∷ [])) same ∙ drop-append-le (length xs - unbroken xs) xs (t ∷ []) (omega arith)
 
--- behind the last break stand as many bytes as behind the last feed
+-- there are as many bytes after the last break as after the last feed
 abbrev Agrees : List Token → Type 0
 Agrees ts = feedless (tokens_bytes ts) ≡ length (tokens_bytes (after_last is_break ts))
 

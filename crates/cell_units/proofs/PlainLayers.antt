@@ -28,7 +28,7 @@ bytes_shown : (o : ℕ) (bs : List ℕ) → flat_map bytes_of (show_each (shown 
 bytes_shown o [] = refl
 bytes_shown o (b ∷ bs) = ap (λ (l : List ℕ). b ∷ l) (bytes_shown (o + 1) bs)
 
--- before each position stand the bytes before its offset
+-- before each position are the bytes before its offset
 bytes_before : (text : List ℕ) (o : ℕ) → flat_map bytes_of (show_each (shown [] []) 0 (take o text) ++ []) ≡ take o text
 bytes_before text o =
     ap (flat_map bytes_of) (append-nil (show_each (shown [] []) 0 (take o text))) ∙ bytes_shown 0 (take o text)

@@ -45,7 +45,7 @@ take_lines-append (x ∷ xs) ys zs = go (is_feed x) refl (take_lines-append xs y
       ∙ take_both (count_by is_feed xs) x (buffer_lines (xs ++ ys)) (buffer_lines (xs ++ zs)) same
       ∙ ap (λ (k : ℕ). take k (onto_line x (buffer_lines (xs ++ zs)))) (sym (feeds-other x xs e))
 
--- behind the line in which they are joined the lines are those of the second of them
+-- after the line in which they are joined the lines are those of the second of them
 drop_lines-append : (xs ys : List ℕ) → drop (count_by is_feed xs + 1) (buffer_lines (xs ++ ys)) ≡ drop 1 (buffer_lines ys)
 drop_lines-append [] ys = refl
 drop_lines-append (x ∷ xs) ys = go (is_feed x) refl (drop_lines-append xs ys) where
@@ -66,7 +66,7 @@ lines_above-replaced text a b s =
     take_lines-append (take a text) (s ++ drop b text) (drop a text)
     ∙ ap (λ (t : List ℕ). take (row_of text a) (buffer_lines t)) (take-append-drop a text)
 
--- and those below the row of its end
+-- and those after the row of its end
 pub lines_below-replaced : (text : List ℕ) (a b : ℕ) (s : List ℕ) →
     drop (row_of text a + (count_by is_feed s + 1)) (buffer_lines (replaced_text text a b s)) ≡ drop (row_of text b + 1) (buffer_lines text)
 lines_below-replaced text a b s =

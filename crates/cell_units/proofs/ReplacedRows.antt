@@ -8,7 +8,7 @@ use Rattle.cell_units.specs.Record.{line_count}
 use Rattle.cell_units.specs.Operation.{replaced_text}
 use Rattle.cell_units.proofs.BufferLines.{feeds-append, line_count-is}
 
--- the lines up to an offset's and those behind it
+-- the lines up to an offset's and those after it
 pub line_count_at : (text : List ℕ) (o : ℕ) → line_count text ≡ row_of text o + count_by is_feed (drop o text) + 1
 line_count_at text o =
     line_count-is text

@@ -8,7 +8,7 @@ use Rattle.std.proofs.lemmas.List.Elements.{All-from_get_or}
 use Rattle.cell_units.specs.Laws.{HasNoReturn}
 use Rattle.cell_units.proofs.TextLaws.{fed}
 
--- a front without carriage returns is clean
+-- a prefix without carriage returns is clean
 pub clean-front : (front rest : List ℕ) → HasNoReturn front → clean (front ++ rest) ≡ front ++ clean rest
 clean-front [] rest none = refl
 clean-front (b ∷ bs) rest none =

@@ -15,7 +15,7 @@ feeds-free (x ∷ xs) h = omega (arith, feeds-cons x xs, ap {B = ℕ} (λ (c : B
 pub feeds_take-mono : (o p : ℕ) (xs : List ℕ) → o ≤ p → feeds (take o xs) ≤ feeds (take p xs)
 feeds_take-mono o p xs h = row_of-le xs o p h
 
--- a row that ends with a feed has more rows behind it than before its end
+-- a row that ends with a feed has more rows after it than before its end
 pub feeds_take-lt : (o : ℕ) (e : Bool) (xs : List ℕ) → ended is_feed e xs ≡ true → o < length xs → feeds (take o xs) < feeds xs
 feeds_take-lt o e [] h l = absurd (omega arith)
 feeds_take-lt zero e (x ∷ []) h l = omega (arith, feeds-cons x [], ap {B = ℕ} (λ (c : Bool). cond c 1 0) h)

@@ -82,7 +82,7 @@ row_end-within text o le = omega (arith, prefix_len-le-length goes (drop o text)
 
 -- ---- a range is replaced
 
--- up to the first feed of a list, whatever stands behind the list
+-- up to the first feed of a list, whatever comes after the list
 to_feed : (xs ys : List ℕ) → 0 < feeds xs → (prefix_len goes (xs ++ ys) ≡ prefix_len goes xs) × (prefix_len goes xs < length xs)
 to_feed [] ys some = absurd (omega arith)
 to_feed (x ∷ xs) ys some = go (is_feed x) (feeds-cons x xs) (to_feed xs ys) where
@@ -91,7 +91,7 @@ to_feed (x ∷ xs) ys some = go (is_feed x) (feeds-cons x xs) (to_feed xs ys) wh
   go true e rest = (refl, omega arith)
   go false e rest = let r = rest (omega (arith, e, some)) in (ap (λ (n : ℕ). 1 + n) r.0, omega (arith, r.1))
 
--- behind the last feed of a list, whatever stands before the list
+-- after the last feed of a list, whatever comes before the list
 behind_feed : (xs : List ℕ) → 0 < feeds xs → (rest : List ℕ) × (length rest < length xs) × ((ys : List ℕ) → suffix_len goes (ys ++ xs) ≡ length rest)
 behind_feed xs some = go (split is_feed xs) where
   go : Split is_feed xs → (rest : List ℕ) × (length rest < length xs) × ((ys : List ℕ) → suffix_len goes (ys ++ xs) ≡ length rest)
@@ -149,7 +149,7 @@ module _ (text text' : List ℕ) (a b n : ℕ) (s : Spliced text text' a b n) wh
       let short : prefix_len goes front < length front = (to_feed front [] some).1 in
       (omega (arith, there, here), omega (arith, here, short, long', l))
 
-  -- ---- a row behind it
+  -- ---- a row after it
 
   pub behind-range : (o : ℕ) → row_of text b < row_of text o → b < o
   behind-range o lt = go (cases_lt b o) where

@@ -101,7 +101,8 @@ module _ (r : Record) (is : HasLawfulEntries r) where
         length-map (display_lines r.text r.inlays r.folds) pieces_of,
       )
 
-  -- where it is in front of the touched ones, its row is before those that are touched, and behind them it is behind those
+  -- where it is before the touched ones, its row is before those that are touched. Where it is after them, its row is
+  -- after those
   module _ (rows : RowRange) (front middle : ℕ) (apart : LieApart rows r front middle) (p : ℕ) (bias : Bias) (le : p ≤ length r.text) where
     abbrev line : ℕ
     line = line_of r.text r.inlays r.folds p bias

@@ -14,11 +14,11 @@ size-take-le n xs = omega (arith, size-append (take n xs) (drop n xs), ap size (
 size-nil : (xs : List Token) → size (xs ++ []) ≡ size xs
 size-nil xs = ap size (append-nil xs)
 
--- what stands before the last token
+-- what is before the last token
 size-front : (xs : List Token) (x : Token) → size (take (length (xs ++ x ∷ []) - 1) (xs ++ x ∷ [])) ≡ size xs
 size-front xs x = ap size (take_at xs (x ∷ []) (length (xs ++ x ∷ []) - 1) (omega (arith, length_push xs x)))
 
--- the places of an offset, from what stands before it, whether a fold reaches over it, and the inlays at it
+-- the places of an offset, from what is before it, whether a fold reaches over it, and the inlays at it
 abbrev left : Bool → List Token → ℕ
 left i before = size (cond i (take (length before - 1) before) before)
 

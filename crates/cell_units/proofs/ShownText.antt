@@ -109,7 +109,7 @@ shown_by inlays folds o b i c e f =
 abbrev pub EndsOpen : Source → Type 0
 EndsOpen s = (inside s.folds (length s.text) ≡ false) × (covered s.folds (length s.text) ≡ false)
 
--- all that is shown is what stands before the text's end and behind the inlays there, and the break at its end
+-- all that is shown is what is before the text's end and after the inlays there, and the break at its end
 pub folded_is : (s : Source) → EndsOpen s →
     folded s.text s.inlays s.folds ≡ folded_to s.text s.inlays s.folds (length s.text) Right ++ Byte (length s.text) line_feed ∷ []
 folded_is s (i, c) =

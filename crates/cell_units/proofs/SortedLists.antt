@@ -137,7 +137,7 @@ module _ {X : Type 0} (le : X → X → Bool) where
         go true h r = (h, r)
         go false h r = r
 
-      -- a class whose order the move keeps stands in the moved and sorted list as it stood
+      -- a class whose order the move keeps is in the moved and sorted list as it was
       pub filter-moved_sort : (xs : List X) → IsSorted xs → filter p' (sort_by le (map mv xs)) ≡ map mv (filter p xs)
       filter-moved_sort xs a = filter-sort p' (map mv xs) ∙ ap (sort_by le) (filter-map xs) ∙ sort-sorted (map mv (filter p xs)) (moved_sorted (filter p xs) (passes xs) (IsSorted-filter p xs a))
 

@@ -9,7 +9,7 @@ use Rattle.cell_units.specs.Record.{line_count}
 use Rattle.cell_units.specs.BufferLines.{line_starts, line_start}
 use Rattle.cell_units.proofs.BufferLines.{length-line_starts, line_bounds, line_end_next, row_of_starts}
 
--- a line starts behind those before it
+-- a line starts after those before it
 pub line_start-le : (text : List ℕ) (i j : ℕ) → i ≤ j → j < line_count text → line_start text i ≤ line_start text j
 line_start-le text zero zero le lt = omega arith
 line_start-le text (suc i) zero le lt = absurd (omega arith)

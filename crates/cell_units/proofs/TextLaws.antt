@@ -8,7 +8,7 @@ use Rattle.std.proofs.lemmas.List.Elements.{All-map}
 use Rattle.cell_units.specs.Text.{IsBoundary, begins_with_feed, carriage_return, clean, goes_on, is_boundary, line_feed, without_returns_before_feeds}
 use Rattle.cell_units.specs.Laws.{HasNoReturn, TellsBoundaries}
 
--- what stands for a byte in a clean text
+-- what a byte becomes in a clean text
 abbrev pub fed : ℕ → ℕ
 fed b = if b == carriage_return then line_feed else b
 

@@ -13,7 +13,7 @@ use Rattle.cell_units.specs.Pieces.{pieces_of, piece_before, folded_lines}
 use Rattle.cell_units.specs.BufferLines.{buffer_lines}
 use Rattle.cell_units.proofs.BufferLines.{feeds-cons, feeds-append, length-buffer_lines}
 
--- the lines that bytes show of which the first stands at the offset
+-- the lines that bytes show of which the first is at the offset
 abbrev lines_from : ℕ → List ℕ → List (List Token)
 lines_from o bs = cut_lines is_break (show_each (shown [] []) o (bs ++ line_feed ∷ []))
 
@@ -47,7 +47,7 @@ one_more o b [] = refl
 one_more o b (c ∷ cs) =
     ap {A = ℕ} {B = List Piece} (λ (end : ℕ). record { kind = Buffer; text = b ∷ c ∷ cs; start = o; end = end } ∷ []) (omega arith)
 
--- one more byte at the front of the first line
+-- one more byte at the start of the first line
 onto_pieces : (o b c : ℕ) (us : List Token) (ls : List (List Token)) (ms : List (List ℕ)) →
     map pieces_of ((Byte (o + 1) c ∷ us) ∷ ls) ≡ pieces_from (o + 1) ms →
     map pieces_of (onto_line (Byte o b) ((Byte (o + 1) c ∷ us) ∷ ls)) ≡ pieces_from o (onto_line b ms)
@@ -80,12 +80,12 @@ unfolded_lines text = pieces_are 0 text
 feeds-one : (b : ℕ) → count_by is_feed (b ∷ []) ≡ cond (is_feed b) 1 0
 feeds-one b = omega (arith, feeds-cons b [])
 
--- the k-th of the lines stands in the row that is k behind the first
+-- the k-th of the lines is in the row that is k after the first
 abbrev AreSpans : List ℕ → ℕ → List (List Token) → Type 0
 AreSpans text row [] = Unit {0}
 AreSpans text row (l ∷ ls) = (span_start text l ≡ row) × (span_end text l ≡ row) × AreSpans text (row + 1) ls
 
--- the rows of the bytes behind some others
+-- the rows of the bytes after some others
 spans : (before bs : List ℕ) → AreSpans (before ++ bs) (count_by is_feed before) (lines_from (length before) bs)
 spans before [] =
     let whole : row_of (before ++ []) (length before) ≡ count_by is_feed before = ap (count_by is_feed) (take_at before [] (length before) refl) in

@@ -76,7 +76,8 @@ module _ (text : List ℕ) (rows : RowRange) where
 
 -- ---- two records
 
--- there is a touched line, and the lines in front of them end before the rows, and those behind them start behind these
+-- there is a touched line, the lines before the touched ones end before the rows, and those after them start after
+-- these
 pub record LieApart (rows : RowRange) (r : Record) (front middle : ℕ) : Type 0 where
   pub some : 0 < middle
   pub in_front : Every (λ l. span_end r.text l < rows.first) (take front (display_lines r.text r.inlays r.folds))

@@ -7,7 +7,7 @@ abbrev pub is_left : Bias → Bool
 is_left Left = true
 is_left Right = false
 
--- where the anchor `p` stands after `n` bytes took the place of `[a, b)`
+-- where the anchor `p` is after `n` bytes took the place of `[a, b)`
 abbrev pub move : ℕ → Bias → ℕ → ℕ → ℕ → ℕ
 move p bias a b n =
     if nat_lt p a then p

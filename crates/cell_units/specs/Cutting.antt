@@ -1,4 +1,4 @@
--- Cutting a list behind each break.
+-- Cutting a list after each break.
 use Rattle.std.specs.Prelude.{Bool, if◌then◌else◌, List, [], ◌∷◌}
 
 -- an element before the first line

@@ -8,7 +8,7 @@ use Rattle.cell_units.specs.Cutting.{cut_lines}
 use Rattle.cell_units.specs.Record.{Inlay, Fold}
 use Rattle.cell_units.specs.Inlaid.{Token, Byte, Hidden, offset_of, is_break, bytes_of, inlays_at, show_each}
 
--- a fold starts before the offset and ends behind it. That is: the offset is strictly inside a joined fold
+-- a fold starts before the offset and ends after it. That is: the offset is strictly inside a joined fold
 abbrev pub inside : List Fold → ℕ → Bool
 inside folds o = list_any (λ f. nat_lt f.start o && nat_lt o f.end) folds
 
@@ -16,7 +16,7 @@ inside folds o = list_any (λ f. nat_lt f.start o && nat_lt o f.end) folds
 abbrev pub covered : List Fold → ℕ → Bool
 covered folds o = list_any (λ f. nat_le f.start o && nat_lt o f.end) folds
 
--- an offset strictly inside a joined fold shows nothing; any other shows its inlays, and then its byte or, where a
+-- an offset strictly inside a joined fold shows nothing. Any other shows its inlays, and then its byte or, where a
 -- joined fold starts, the placeholder
 abbrev pub shown : List Inlay → List Fold → ℕ → ℕ → List Token
 shown inlays folds o b =
@@ -35,7 +35,7 @@ display_lines text inlays folds = cut_lines is_break (folded text inlays folds)
 abbrev pub folded_before : List ℕ → List Inlay → List Fold → ℕ → List Token
 folded_before text inlays folds o = show_each (shown inlays folds) 0 (take o text)
 
--- the folded text before a position: strictly inside a joined fold Left is before its placeholder and Right behind it
+-- the folded text before a position: strictly inside a joined fold Left is before its placeholder and Right after it
 abbrev pub folded_to : List ℕ → List Inlay → List Fold → ℕ → Bias → List Token
 folded_to text inlays folds o Left =
     let before = folded_before text inlays folds o in
@@ -52,7 +52,7 @@ folded_place text inlays folds o bias = length (flat_map bytes_of (folded_to tex
 abbrev pub line_of : List ℕ → List Inlay → List Fold → ℕ → Bias → ℕ
 line_of text inlays folds o bias = count_by is_break (folded_to text inlays folds o bias)
 
--- how many bytes of its display line stand before a position
+-- how many bytes of its display line are before a position
 abbrev pub place_in_line : List ℕ → List Inlay → List Fold → ℕ → Bias → ℕ
 place_in_line text inlays folds o bias =
     length (flat_map bytes_of (after_last is_break (folded_to text inlays folds o bias)))

@@ -5,8 +5,8 @@ use Rattle.cell_units.specs.declared.place.Bias.TheVariants.{Left, Right}
 use Rattle.cell_units.specs.Text.{line_feed, is_feed, clean}
 use Rattle.cell_units.specs.Record.{Inlay}
 
--- a part of what is displayed, with the offset of the buffer that it comes from: a byte of the buffer, a byte of an
--- inlay's text, or the placeholder of the joined fold that starts there
+-- a part of what is displayed, with the offset of the buffer that it comes from. It is a byte of the buffer, a byte of
+-- an inlay's text, or the placeholder of the joined fold that starts there
 pub data Token : Type 0 where
   Byte : (offset byte : ℕ) → Token
   InlayByte : (offset id byte : ℕ) → Token
@@ -39,7 +39,7 @@ inlay_bytes i = map (λ b. InlayByte i.offset i.id b) (clean i.text)
 abbrev pub inlays_at : List Inlay → ℕ → List Token
 inlays_at inlays o = flat_map inlay_bytes (filter (λ i. i.offset == o) inlays)
 
--- what the bytes show of which the first stands at the offset
+-- what the bytes show of which the first is at the offset
 abbrev pub show_each : (ℕ → ℕ → List Token) → ℕ → List ℕ → List Token
 show_each shown o [] = []
 show_each shown o (b ∷ bs) = shown o b ++ show_each shown (o + 1) bs
@@ -52,7 +52,7 @@ shown_inlaid inlays o b = inlays_at inlays o ++ Byte o b ∷ []
 abbrev pub inlaid : List ℕ → List Inlay → List Token
 inlaid text inlays = show_each (shown_inlaid inlays) 0 (text ++ line_feed ∷ [])
 
--- the inlaid text before a position: Left before all inlays at the offset, Right behind them
+-- the inlaid text before a position: Left before all inlays at the offset, Right after them
 abbrev pub inlaid_before : List ℕ → List Inlay → ℕ → Bias → List Token
 inlaid_before text inlays o Left = show_each (shown_inlaid inlays) 0 (take o text)
 inlaid_before text inlays o Right = show_each (shown_inlaid inlays) 0 (take o text) ++ inlays_at inlays o

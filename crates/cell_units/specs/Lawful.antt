@@ -31,7 +31,7 @@ pub record HasRoom {X : Type 0} (id_of : X → ℕ) (id : ℕ) (xs : List X) : T
   pub fresh : count_id id_of id xs ≡ 0
   pub room : length xs < ENTRY_LIMIT
 
--- an inlay stands at a boundary, and its text is some and not too long
+-- an inlay is at a boundary, and its text isn't empty and not too long
 pub record IsInlayOf (text : List ℕ) (inlay : Inlay) : Type 0 where
   pub boundary : IsBoundary text inlay.offset
   pub utf8 : IsUtf8 inlay.text
@@ -55,7 +55,7 @@ pub record AreBlockLines (lines : List (List ℕ)) : Type 0 where
   pub few : length lines ≤ BLOCK_LINES_LIMIT
   pub each : All IsBlockLine lines
 
--- a block is added at the first byte of a row. What is replaced behind that byte may leave it within a row
+-- a block is added at the first byte of a row. What is replaced after that byte may leave it within a row
 pub record IsBlockOf (text : List ℕ) (block : Block) : Type 0 where
   pub boundary : IsBoundary text block.offset
   pub lines : AreBlockLines block.lines

@@ -13,7 +13,7 @@ use Rattle.cell_units.specs.Text.{IsBoundary, carriage_return, clean, is_boundar
 abbrev pub HasNoReturn : List ℕ → Type 0
 HasNoReturn bytes = All (λ b. b ≢ carriage_return) bytes
 
--- of a UTF-8 text the test tells the boundaries
+-- of a UTF-8 text the test finds the boundaries
 abbrev pub TellsBoundaries : List ℕ → Type 0
 TellsBoundaries text = (o : ℕ) → IsTrue (is_boundary text o) ↔ IsBoundary text o
 
@@ -31,7 +31,7 @@ abbrev pub IsCopied : List ℕ → Piece → Type 0
 IsCopied text piece =
     piece.kind ≡ Buffer → (piece.start ≤ piece.end) × (piece.end ≤ length text) × (piece.text ≡ slice_range text piece.start piece.end)
 
--- no line feed stands in a piece
+-- no line feed is in a piece
 abbrev pub HasNoFeed : Piece → Type 0
 HasNoFeed piece = All (λ b. is_feed b ≡ false) piece.text
 

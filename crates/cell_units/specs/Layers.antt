@@ -1,5 +1,5 @@
--- What a layer shows. A layer is seen as its source: a text, the inlays in it and the folds over it, as a record has them.
--- All else follows from these: its lines, its text and the places of offsets are those of the folded text.
+-- What a layer shows. A layer is seen as its source: a text, the inlays in it and the folds over it, as a record has
+-- them. All else follows from these: its lines, its text and the places of offsets are those of the folded text.
 use Rattle.std.specs.Prelude.{ℕ, ◌≡◌, ◌-◌, ◌≤◌, false, List, [], length, flat_map, slice_index_or, Option, Some, None}
 use Rattle.cell_units.specs.declared.place.Bias.{Bias}
 use Rattle.cell_units.specs.declared.place.Bias.TheVariants.{Left, Right}
@@ -48,7 +48,7 @@ span_of source line = (span_start source.text (line_tokens source line), span_en
 
 -- ---- places
 
--- the place of an offset: how many bytes of the layer's text stand before it
+-- the place of an offset: how many bytes of the layer's text are before it
 abbrev pub place_of : Source → ℕ → Bias → ℕ
 place_of source o bias = folded_place source.text source.inlays source.folds o bias
 

@@ -1,4 +1,4 @@
--- what texts, records and operations are, and what is shown of them
+-- What the crate promises: what texts, records and operations are, and what is shown of them
 pub mod Text
 pub mod BufferLines
 pub mod Points
@@ -16,7 +16,7 @@ pub mod Lawful
 pub mod Rows
 pub mod Refusal
 pub mod Steps
--- what follows from these, and known cases of them
+-- and what follows from these, and known cases of them
 pub mod Joined
 pub mod Folding
 pub mod LineCounts

@@ -29,8 +29,8 @@ line_of_row_start r o = line_of r.text r.inlays r.folds (row_start r.text o) Lef
 abbrev pub line_of_row_end : Record → ℕ → ℕ
 line_of_row_end r o = line_of r.text r.inlays r.folds (row_end r.text o) Right
 
--- the lines that touch the rows from that of an offset to that of another are those from the line of the first row's start
--- to the line of the last row's end
+-- the lines that touch the rows from that of one offset to that of another. They go from the line of the first row's
+-- start to the line of the last row's end
 abbrev pub RowsAreOneRun : Record → ℕ → ℕ → Type 0
 RowsAreOneRun r a b =
     let first = line_of_row_start r a in
@@ -39,7 +39,7 @@ RowsAreOneRun r a b =
     × (last < length (lines_of r))
     × (touched_lines (row_range r.text a b) r ≡ one_run first (last + 1 - first) (length (lines_of r) - (last + 1)))
 
--- one run of lines is touched before and one after, with as many lines in front of it and behind it
+-- one run of lines is touched before and one after, with as many lines before it and after it
 pub record TouchesOneRun (touched : Touched) (r r' : Record) : Type 0 where
   pub front : ℕ
   pub before : ℕ
@@ -65,8 +65,8 @@ abbrev pub operated_offset : Operation → ℕ → ℕ
 operated_offset (Replace a b s) o = move o Right a b (length (clean s))
 operated_offset _ o = o
 
--- a row lies before all that are touched, or behind them. Where no line is touched each row does both, and where each line is,
--- no row does either
+-- a row lies before all that are touched, or after them. Where no line is touched each row does both, and where each
+-- line is, no row does either
 abbrev pub LiesBefore : Touched → ℕ → Type 0
 LiesBefore NoLine row = Unit {0}
 LiesBefore EachLine row = ⊥
@@ -87,13 +87,13 @@ pub record HasSameLinesFromEnd (r r' : Record) (o o' : ℕ) : Type 0 where
   pub start : line_of_row_start r' o' + length (lines_of r) ≡ line_of_row_start r o + length (lines_of r')
   pub end : line_of_row_end r' o' + length (lines_of r) ≡ line_of_row_end r o + length (lines_of r')
 
--- a row before the touched ones stays in its display lines, and one behind them as far from the last line
+-- a row before the touched ones stays in its display lines, and one after them as far from the last line
 pub record KeepsRows (touched : Touched) (moved : ℕ → ℕ) (r r' : Record) : Type 0 where
   pub before : (o : ℕ) → LiesBefore touched (row_of r.text o) → HasSameLines r r' o (moved o)
   pub behind : (o : ℕ) → o ≤ length r.text → LiesBehind touched (row_of r.text o) → HasSameLinesFromEnd r r' o (moved o)
 
--- where `after` lines took the place of `before` others that stood behind `front`, a line of those in front is the one of its
--- number, and a line behind them is the one as far behind
+-- where `after` lines took the place of `before` others that came after the first `front` lines. A line before them
+-- keeps its number, and a line after them is as far from the end as it was
 pub record IsLineThen (front before after line line' : ℕ) : Type 0 where
   pub in_front : line < front → line' ≡ line
   pub behind : front + before ≤ line → line' + before ≡ line + after

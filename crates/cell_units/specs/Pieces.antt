@@ -19,7 +19,8 @@ is_one_piece (Byte o b) (Byte p c) = true
 is_one_piece (InlayByte o id b) (InlayByte p id' c) = id == id'
 is_one_piece _ _ = false
 
--- a token with what stands behind it at the offset `end`, before the pieces of the rest: part of the first of them, or a piece of its own
+-- a token, and what comes after it at the offset `end`, before the pieces of the rest. It is part of the first of them,
+-- or a piece of its own
 abbrev pub piece_before : Bool → Token → ℕ → List Piece → List Piece
 piece_before is_one t end [] =
     record { kind = kind_of t; text = bytes_of t; start = offset_of t; end = end } ∷ []
@@ -28,7 +29,7 @@ piece_before is_one t end (p ∷ ps) =
     then (record { kind = p.kind; text = bytes_of t ++ p.text; start = offset_of t; end = p.end } ∷ ps)
     else (record { kind = kind_of t; text = bytes_of t; start = offset_of t; end = end } ∷ p ∷ ps)
 
--- a piece reaches from its first token's offset to that of the token behind it; the line's break is no part of one
+-- a piece reaches from its first token's offset to that of the token after it; the line's break is no part of one
 abbrev pub pieces_of : List Token → List Piece
 pieces_of [] = []
 pieces_of (t ∷ []) = []
@@ -50,11 +51,13 @@ AreNeighbours Related (x ∷ y ∷ ys) = Related x y × AreNeighbours Related (y
 abbrev pub IsRun : List Token → Type 0
 IsRun run = (0 < length run) × AreNeighbours (λ t u. is_one_piece t u ≡ true) run
 
--- the last token of a run and the first of the next aren't of one piece: not both of the buffer, nor both of one inlay
+-- the last token of a run and the first of the next aren't of one piece. They aren't both of the buffer, nor both of
+-- one inlay
 abbrev pub IsSeam : List Token → List Token → Type 0
 IsSeam run next = (t u : Token) → last_or None run ≡ Some t → slice_get next 0 ≡ Some u → is_one_piece t u ≡ false
 
--- the pieces are those of the tokens: these are cut into runs as long as can be, and a piece has its run's kind and bytes
+-- the pieces are those of the tokens: these are cut into runs as long as possible, and a piece has its run's kind and
+-- bytes
 pub record ArePiecesOf (tokens : List Token) (pieces : List Piece) : Type 0 where
   pub runs : List (List Token)
   pub tokens_are : flat_map (λ run. run) runs ≡ tokens

@@ -12,7 +12,8 @@ abbrev pub near_boundary : List ℕ → ℕ → Bias → ℕ
 near_boundary text o Left = character_start text o
 near_boundary text o Right = character_end text o
 
--- past the last row it is the text's end, past a row's end that end, and else as far in the row as the column says
+-- past the last row it is the text's end, and past a row's end that end. Else it is as far in the row as the column
+-- says
 abbrev pub offset_at : List ℕ → Point → Bias → ℕ
 offset_at text p bias =
     let o = line_start text p.row + p.column in
@@ -28,7 +29,7 @@ pub record IsLastBoundary (text : List ℕ) (o r : ℕ) : Type 0 where
   pub order : r ≤ o
   pub nearest : (i : ℕ) → r < i → i ≤ o → ¬ IsBoundary text i
 
--- the first boundary at the offset or behind it
+-- the first boundary at the offset or after it
 pub record IsFirstBoundary (text : List ℕ) (o r : ℕ) : Type 0 where
   pub boundary : IsBoundary text r
   pub order : o ≤ r

@@ -23,7 +23,7 @@ pub record Block : Type 0 where
   pub side : Side
   pub lines : List (List ℕ)
 
--- what is kept of a display line: its stamp, and the width at which it stands wrapped, or 0
+-- what is kept of a display line: its stamp, and the width at which it is wrapped, or 0
 pub record Mark : Type 0 where
   pub stamp : ℕ
   pub width : ℕ

@@ -10,7 +10,7 @@ line_rows lines line = slice_index_or lines line []
 abbrev pub all_rows : List (List (List ℕ)) → List (List ℕ)
 all_rows lines = flat_map (λ rows. rows) lines
 
--- how many rows stand before a line
+-- how many rows are before a line
 abbrev pub rows_before : List (List (List ℕ)) → ℕ → ℕ
 rows_before lines line = length (all_rows (take line lines))
 

@@ -16,7 +16,7 @@ abbrev pub begins_with_feed : List ℕ → Bool
 begins_with_feed [] = false
 begins_with_feed (b ∷ _) = is_feed b
 
--- the bytes without each CR that stands before an LF
+-- the bytes without each CR that is before an LF
 abbrev pub without_returns_before_feeds : List ℕ → List ℕ
 without_returns_before_feeds [] = []
 without_returns_before_feeds (b ∷ rest) =
@@ -35,7 +35,7 @@ IsText text = IsUtf8 text × All (λ b. b ≢ carriage_return) text
 abbrev pub IsBoundary : List ℕ → ℕ → Type 0
 IsBoundary text o = (o ≤ length text) × IsUtf8 (take o text)
 
--- a byte within a character, behind its first
+-- a byte within a character, after its first
 abbrev pub goes_on : ℕ → Bool
 goes_on b = nat_le 128 b && nat_lt b 192
 
@@ -44,7 +44,7 @@ abbrev pub is_boundary : List ℕ → ℕ → Bool
 is_boundary text o =
     (o == length text) || (nat_lt o (length text) && not (goes_on (slice_index text o)))
 
--- the buffer row of an offset: how many LF stand before it
+-- the buffer row of an offset: how many LF are before it
 abbrev pub row_of : List ℕ → ℕ → ℕ
 row_of text o = count_by is_feed (take o text)
 

@@ -34,7 +34,8 @@ abbrev pub rows_of_fold : List ℕ → Option Fold → Touched
 rows_of_fold text None = NoLine
 rows_of_fold text (Some f) = rows_of text f.start f.end
 
--- what the operation touches of the record that it finds. After a replacement the rows end at that of the place behind the new bytes
+-- what the operation touches of the record that it finds. After a replacement the rows end at the row of the place
+-- after the new bytes
 abbrev pub touched : Operation → Record → Touched
 touched (Replace a b s) r =
     Rows (row_range r.text a b) (row_range (replaced_text r.text a b (clean s)) a (a + length (clean s)))
@@ -55,7 +56,7 @@ is_touched text rows line = nat_le (span_start text line) rows.last && nat_le ro
 abbrev pub touched_lines : RowRange → Record → List Bool
 touched_lines rows r = map (is_touched r.text rows) (display_lines r.text r.inlays r.folds)
 
--- of each display line of the record, the same answer
+-- of each display line of the record, the same value
 abbrev pub all_lines : Bool → Record → List Bool
 all_lines answer r = map (λ line. answer) (display_lines r.text r.inlays r.folds)
 

@@ -30,7 +30,7 @@ abbrev pub settled_marks : List ℕ → List records.Inlay → List Fold → ℕ
 settled_marks text inlays folds width =
     map (λ n. mark n width) (range_with_len 0 (length (display_lines text inlays folds)))
 
--- the record of these lists, each sorted, at tab size 4, each line of which stands wrapped at the width
+-- the record of these lists, each sorted, at tab size 4, with each line wrapped at the width
 abbrev pub settled : List ℕ → List records.Inlay → List Fold → List Block → ℕ → Record
 settled text inlays folds blocks width =
     record {

@@ -5,7 +5,7 @@ ghost use Rattle.cell_units.specs.Text.{clean, line_feed};
 use crate::fault::NoMemory;
 use std::alloc::Global;
 
-/// The text before the first carriage return, and that behind it and a line feed right behind it.
+/// The text before the first carriage return, and that after it and a line feed right after it.
 fn split_at_return(text: &str) -> Option<(&str, &str)>
     ensures { MatchOption result (clean text.now ≡ text.now)
         (λ p. (clean text.now ≡ p.0.now ++ line_feed ∷ clean p.1.now) × (length p.1.now < length text.now)) }
@@ -17,7 +17,7 @@ fn split_at_return(text: &str) -> Option<(&str, &str)>
     }
 }
 
-/// Appends the piece with each CR LF, and then each lone CR, turned into LF.
+/// Appends the piece with each CR LF, and then each lone CR, turned into LF (*Text*).
 pub fn push_clean(text: &mut String, piece: &str) -> Result<(), NoMemory>
     ensures { OnOk result (string_bytes text.new ≡ string_bytes text.old ++ clean piece.now) }
 {

@@ -1,4 +1,4 @@
-//! Refusals, and want of memory.
+//! Why a call fails: refusals, bytes that are no text, and out of memory.
 ghost use Rattle.std.specs.Prelude.{◌≡◌};
 ghost use Rattle.cell_units.specs.Refusal.{number_of};
 
@@ -62,7 +62,9 @@ impl Refusal {
 /// Why a call changed nothing.
 #[derive(Clone, Copy, Debug, PartialEq, Eq)]
 pub enum Fault {
+    /// A refusal.
     Refused(Refusal),
+    /// Out of memory.
     NoMemory,
 }
 
@@ -84,6 +86,7 @@ pub enum TextFault {
     NotUtf8 { at: u64 },
     /// There are more bytes than `TEXT_LIMIT`.
     TooLong,
+    /// Out of memory.
     NoMemory,
 }
 

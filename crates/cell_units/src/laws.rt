@@ -30,15 +30,16 @@ pub fn text_laws()
     ensures points { (text : List ℕ) (point : Point) (bias : Bias) → IsUtf8 text → IsAtPoint text point bias (offset_at text point bias) }
 {}
 
-/// Laws of every display line: its pieces are its longest runs of the buffer, of one inlay or of one placeholder. None is
-/// empty, and together they are the line's bytes. It does nothing.
+/// Laws of every display line: its pieces are its longest runs of the buffer, of one inlay or of one placeholder. None
+/// is empty, and together they are the line's bytes. It does nothing.
 pub fn piece_laws()
     ensures runs { (line : List Token) → ArePiecesOf (before_break line) (pieces_of line) }
     ensures some { (line : List Token) → All (λ piece. 0 < length piece.text) (pieces_of line) }
     ensures bytes { (line : List Token) → flat_map (λ piece. piece.text) (pieces_of line) ≡ flat_map bytes_of (before_break line) }
 {}
 
-/// Laws of every list of folds: placeholders are the joined folds, and the rest is shown as without folds. It does nothing.
+/// Laws of every list of folds: placeholders are the joined folds, and the rest is shown as without folds. It does
+/// nothing.
 pub fn fold_laws()
     ensures joined_is_shown { (folds : List Fold) (start end : ℕ) → IsJoined folds start end → ShowsOnePlaceholder folds start end }
     ensures shown_is_joined { (folds : List Fold) (offset : ℕ) → ShowsPlaceholder folds offset → (end : ℕ) × IsJoined folds offset end }
@@ -46,8 +47,9 @@ pub fn fold_laws()
     ensures rest_is_inlaid { (inlays : List Inlay) (folds : List Fold) (offset : ℕ) → covered folds offset ≡ false → ShowsAsInlaid inlays folds offset }
 {}
 
-/// Laws of every layer: its text is its lines, which have no feeds inside, a piece of the buffer is the buffer's, and places
-/// don't fall. A text by itself is a layer: it shows itself, and each offset stands at its own place. It does nothing.
+/// Laws of every layer. Its text is its lines, which have no feeds inside. A piece of the buffer is the buffer's, and
+/// places don't fall. A text by itself is a layer: it shows itself, and each offset is at its own place. It does
+/// nothing.
 pub fn layer_laws()
     ensures lines { (source : Source) → IsWellFormed source → length (shown_lines source) ≡ count_by is_feed (shown_text source) + 1 }
     ensures no_feeds { (source : Source) → IsWellFormed source → All (λ pieces. All HasNoFeed pieces) (shown_lines source) }
@@ -65,7 +67,7 @@ pub fn layer_laws()
     ensures own_place { (text : List ℕ) (offset : ℕ) (bias : Bias) → offset ≤ length text → place_of (plain_source text) offset bias ≡ offset }
 {}
 
-/// Inlays in a text: each token has the inlays at its offset before it, an offset stands behind the inlays before it, and a
+/// Inlays in a text: each token has the inlays at its offset before it. An offset is after the inlays before it, and a
 /// line is in one row. It does nothing.
 pub fn inlay_laws()
     ensures tokens { (text : List ℕ) (inlays : List Inlay) → folded text inlays [] ≡ flat_map (inlaid_token inlays) (folded text [] []) }
@@ -77,8 +79,8 @@ pub fn inlay_laws()
     ensures one_row { (text : List ℕ) (inlays : List Inlay) → All (IsInOneRow text) (display_lines text inlays []) }
 {}
 
-/// Folds over a layer: each token is kept, hidden or stands as a placeholder; between folds places stay as far apart, and a
-/// joined fold stands in the three bytes of its placeholder. It does nothing.
+/// Folds over a layer: each token is kept, is hidden or becomes a placeholder. Between folds places stay as far apart,
+/// and a joined fold shows the three bytes of its placeholder. It does nothing.
 pub fn folding_laws()
     ensures tokens { (text : List ℕ) (inlays : List Inlay) (folds : List Fold) →
         folded text inlays folds ≡ flat_map (folded_token folds) (folded text inlays []) }
@@ -90,7 +92,8 @@ pub fn folding_laws()
         (place_of source o Left ≡ place_of source start Right) × (place_of source o Right ≡ place_of source start Right + 3) }
 {}
 
-/// Laws of the entries of every record: each comes at or before those behind it, and no two have one id. It does nothing.
+/// Laws of the entries of every record: each comes at or before those after it, and no two have one id. It does
+/// nothing.
 pub fn entry_laws()
     ensures inlays { (text : List ℕ) (inlays : List Inlay) → AreInlays text inlays →
         AllPairs (λ (i j : Inlay). IsTrue (inlay_le i j) × (i.id ≢ j.id)) inlays }
@@ -100,9 +103,9 @@ pub fn entry_laws()
         AllPairs (λ (k l : Block). IsTrue (block_le k l) × (k.id ≢ l.id)) blocks }
 {}
 
-/// What every operation that is allowed leaves of a record with lawful entries: such a record, of whose display lines one run
-/// is touched before and one after, and the others are the same, moved. A buffer row that isn't touched stays in its lines, as
-/// they are moved. It does nothing.
+/// What every allowed operation leaves of a record with lawful entries. It is such a record, of whose display lines one
+/// run is touched before and one after. The others are the same, moved. A buffer row that isn't touched stays in its
+/// lines, as they are moved. It does nothing.
 pub fn operation_laws()
     ensures opened { (text : List ℕ) → IsText text → IsLawful (opened text) }
     ensures lawful { (operation : Operation) (r : Record) → HasLawfulEntries r → IsAllowed operation r →

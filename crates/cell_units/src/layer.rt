@@ -11,14 +11,14 @@ use crate::piece::Piece;
 use crate::place::{Bias, Point};
 use std::alloc::Global;
 
-/// A buffer's text with inlays in it and folds over it, shown as display lines. Offsets count the buffer's bytes. The
-/// layer's text is what is shown, and places count the bytes of that text.
+/// A buffer's text with inlays in it and folds over it, shown as display lines (*Layers*). Offsets count the buffer's
+/// bytes. The layer's text is what is shown, and places count the bytes of that text.
 pub trait Layer: Drop + Send + Sync {
     // What is shown. Layers are equal where it is the same.
     ghost source: { Self → Source };
 
-    /// An equal layer, which no later change of this one or of what made it reaches. It takes no memory: `NoMemory` is
-    /// one holder too many.
+    /// An equal layer, which no later change of this one or of what made it reaches. It allocates nothing, and fails
+    /// with `NoMemory` only where the count of holders is full.
     fn share(&self) -> Result<Self, NoMemory>
         ensures { IfOk result (λ shared. source shared ≡ source self.now) };
 
@@ -39,22 +39,22 @@ pub trait Layer: Drop + Send + Sync {
     fn lines(&self) -> u32
         ensures { result ≡ length (shown_lines (source self.now)) };
 
-    /// The place of a boundary: of its two places the left or the right one.
+    /// The place in bytes of a boundary, which is an offset in bytes: of its two places the left or the right one.
     fn place(&self, offset: u32, bias: Bias) -> u32
         requires { IsBoundary (source self.now).text offset }
         ensures { result ≡ place_of (source self.now) offset bias };
 
-    /// The display line of a place, and its column there in bytes.
+    /// The display line of a place, counted from 0, and its column there in bytes.
     fn point(&self, place: u32) -> Point
         requires { place ≤ length (shown_text (source self.now)) }
         ensures { result ≡ point_of (shown_text (source self.now)) place };
 
-    /// The least offset (Left) or the greatest (Right) that has this place and isn't strictly inside a joined fold; `None`
-    /// exactly where there is none.
+    /// The least offset in bytes (Left) or the greatest (Right) that has this place and isn't strictly inside a joined
+    /// fold. `None` exactly where there is none.
     fn back(&self, place: u32, bias: Bias) -> Option<u32>
         ensures { IsBack (source self.now) place bias result };
 
-    /// The place at which a display line begins.
+    /// The place in bytes at which a display line begins, which is counted from 0.
     fn line_start(&self, line: u32) -> u32
         requires { line < length (shown_lines (source self.now)) }
         ensures { result ≡ line_start (shown_text (source self.now)) line };
@@ -64,7 +64,7 @@ pub trait Layer: Drop + Send + Sync {
         requires { line < length (shown_lines (source self.now)) }
         ensures { IfOk result (λ pieces. slice_get (shown_lines (source self.now)) line ≡ Some pieces.items) };
 
-    /// The first and the last buffer row of a display line.
+    /// The first and the last buffer row of a display line. Lines and rows are counted from 0.
     fn span(&self, line: u32) -> (u32, u32)
         requires { line < length (shown_lines (source self.now)) }
         ensures { result ≡ span_of (source self.now) line };

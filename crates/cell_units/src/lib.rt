@@ -1,9 +1,10 @@
-//! The units of the display map: texts, places, pieces of a display line, refusals and a counter of steps.
+//! The definitions that all crates share: of texts, places, pieces of a display line, records, refusals and steps.
 //!
-//! The crate promises little code and much meaning: `specs/` has the definitions of a text, of a record and when it is
-//! lawful, of the operations on it, of the folded text and its display lines, and of layers and rows, which every crate
-//! above cites. `laws` has what they mean in other words, and `worked` has texts and operations of which the outcome is
-//! known.
+//! The crate promises little code and much meaning, which every crate above cites. `specs/` has the definitions of a
+//! text, of a record and when it is lawful, and of the operations on it. It has those of the folded text and its
+//! display lines, and of layers and rows. `laws` has what they mean in other words, and `worked` has texts and
+//! operations of which the outcome is known. What docstrings of any crate name in italics, as *Rows*, is a heading of
+//! `docs/DEFINITIONS.md`.
 #![tactic(auto)]
 
 pub mod cleaning;

@@ -4,8 +4,8 @@ ghost use Rattle.std.specs.Prelude.{◌≡◌};
 /// The most bytes in a text.
 pub const TEXT_LIMIT: usize = 33_554_432;
 
-/// The most bytes in a text that is kept or laid out. It is twice the limit of a text: within a batch of replacements, of
-/// which the text after all of it is judged, one may be longer.
+/// The most bytes in a text that is kept or laid out, which is twice the limit of a text. Within a batch of
+/// replacements one text may be longer, since the text after all of it is judged.
 pub const LAID_LIMIT: usize = 67_108_864;
 
 /// The most inlays, the most folds and the most blocks in a record.

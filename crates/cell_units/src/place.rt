@@ -22,7 +22,7 @@ pub struct Spot {
     pub col: u32,
 }
 
-/// On which side of its line a block stands.
+/// On which side of its line a block is.
 #[derive(Clone, Copy, Debug, PartialEq, Eq)]
 pub enum Side {
     Above,
@@ -52,7 +52,7 @@ pub struct Shift {
 impl Shift {
     ghost use Rattle.std.specs.Prelude.{◌≡◌};
 
-    /// The replacement of what stands from `start` to `end`.
+    /// The replacement of what lies from `start` to `end` by `count` others.
     pub fn new(start: u32, end: u32, count: u32) -> Shift
         requires { start ≤ end }
         ensures start { result.start ≡ start }

@@ -11,8 +11,8 @@ pub trait Rows: Drop + Send + Sync {
     // Of each line the texts of its rows. Rows are equal where these are.
     ghost shown: { Self → List (List (List ℕ)) };
 
-    /// Equal rows, which no later change of these or of what made them reaches. It takes no memory: `NoMemory` is one
-    /// holder too many.
+    /// Equal rows, which no later change of these or of what made them reaches. It allocates nothing, and fails with
+    /// `NoMemory` only where the count of holders is full.
     fn share(&self) -> Result<Self, NoMemory>
         ensures { IfOk result (λ shared. shown shared ≡ shown self.now) };
 

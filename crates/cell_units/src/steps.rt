@@ -4,7 +4,10 @@ ghost use Rattle.cell_units.specs.Steps.{ticked};
 
 use std::marker::Model;
 
-/// How many steps were made. At the greatest u64 it counts no further.
+/// How many steps were made. A step is a tree node that is opened or made. At the greatest u64 it counts no further.
+///
+/// The calls of a display and of a script take it and pass it on, but count nothing yet. They will count once a display
+/// is made of the maps, whose trees count each node.
 #[derive(Debug, Drop)]
 pub struct Steps {
     count: u64,

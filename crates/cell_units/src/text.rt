@@ -39,7 +39,8 @@ impl Text {
     }
 }
 
-/// The bytes as text. `TooLong` where there are more than `TEXT_LIMIT`, and else `NotUtf8` where they aren't UTF-8.
+/// The bytes as text. `TooLong` where there are more than `TEXT_LIMIT`, which is 33,554,432. Else `NotUtf8` where they
+/// aren't UTF-8, with the length in bytes of the longest prefix that is. It allocates nothing.
 pub fn read_text(bytes: &[u8]) -> Result<&str, TextFault>
     ensures { MatchResult result (λ text. (text.now ≡ bytes.now) × IsAccepted bytes.now) (IsTextRefused bytes.now) }
 {

@@ -170,7 +170,7 @@ pub fn worked_lines()
     ensures inlay_only_break { line_texts (folded_record (codes "ab") (inlay 1 Right 1 (codes "\n") ∷ []) []) ≡ codes "a" ∷ codes "b" ∷ [] }
 {}
 
-/// What a layer shows whose fold hides an inlay, and the layer below it. It does nothing.
+/// What a layer shows whose fold hides an inlay, and its lower layer. It does nothing.
 pub fn worked_layers()
     ensures text { shown_text hidden_inlay ≡ codes "a" ++ placeholder ++ codes "d\nef" }
     ensures text_below { shown_text (unfolded hidden_inlay) ≡ codes "ab\nx\nycd\nef" }

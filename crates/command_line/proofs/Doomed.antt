@@ -83,7 +83,7 @@ mute_two workers a b xs ys zs = said_two WORKERS_DEFAULT (number WORKERS_LEAST W
 mute_two watch a b xs ys zs = said_two WATCHERS_DEFAULT (number 0 WATCHERS_MOST) a b xs ys zs
 mute_two make a b xs ys zs = said_two None (λ v. option_map (λ seed. Some seed) (number 0 SEED_MOST v)) a b xs ys zs
 
--- an option that stands twice
+-- an option that is there twice
 pub no_plan_two : (k : Key) (a b : Word) (before between after : List Token) → plan_of_tokens (before ++ given k a ∷ (between ++ given k b ∷ after)) ≡ None
 no_plan_two k a b before between after = mute_plan k (before ++ given k a ∷ (between ++ given k b ∷ after))
     (subst (Mute k) (sym (values_with k a before (between ++ given k b ∷ after) ∙ ap (λ xs. values k before ++ a ∷ xs) (values_with k b between after)))

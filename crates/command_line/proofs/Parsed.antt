@@ -67,7 +67,7 @@ among : (k : ErrorKind) (kinds : Kinds) → IsAmong k kinds → Fails kinds
 among k [] h = absurd h
 among k (x ∷ xs) h = λ e. cc
 
--- an error that is no want of memory comes only of words that have no reading
+-- an error other than out of memory comes only of words that have no reading
 pub error_refused : (ws : List Word) (e : Error) → list_any is_dashes ws ≡ false → HasKind (fault_of words_app ws) e → (kind_of e ≡ OutOfMemory → ⊥) → reading ws ≡ None
 error_refused ws e fine has other = elim has [
   | inl out ↦ absurd (other out)

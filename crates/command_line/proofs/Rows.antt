@@ -1,4 +1,4 @@
--- The rows of a walk, as what stands at each slot.
+-- The rows of a walk, as what is at each slot.
 use Rattle.std.proofs.Common.{◌≡◌, ◌∙◌, ◌||◌, Bool, cond, true, false, refl, sym, ap, subst, true≢false, List, [], ◌∷◌, ◌++◌, Option, Some, None, append-nil, option_map, is_some}
 use Rattle.std.specs.List.{find}
 use Rattle.std.specs.Option.{option_and_then}
@@ -47,7 +47,7 @@ used_new s v rows e =
     ap (λ xs. at_row (id_of s) (more_values CommandLine (v ∷ [])) (row s v ∷ []) xs) (at_row_new (id_of s) (λ r. []) [] rows e ∙ append-nil rows)
     ∙ at_row_new (id_of s) (more_values CommandLine (v ∷ [])) (row s v ∷ []) rows e
 
--- ---- what stands at each slot
+-- ---- what is at each slot
 
 pub same_slot : (s t : Slot) → bytes_eq (id_of s) (id_of t) ≡ true → s ≡ t
 same_slot (at_option workers) (at_option workers) e = refl
@@ -82,7 +82,7 @@ Standing = Slot → Option Word
 abbrev pub put : Slot → Word → Standing → Standing
 put s v g t = cond (bytes_eq (id_of s) (id_of t)) (Some v) (g t)
 
--- the rows hold just what stands
+-- the rows hold just what is there
 abbrev pub HasRows : List Row → Standing → Type 0
 HasRows rows g = (s : Slot) → find (λ r. bytes_eq r.id (id_of s)) rows ≡ option_map (row s) (g s)
 

@@ -13,7 +13,7 @@ use Rattle.command_line.proofs.Rules.{Slot, at_option, at_script, at_text, by_id
 use Rattle.command_line.proofs.Spelling as spelling
 use Rattle.command_line.proofs.Spelling.{IsHyphened, Spelled, spelled}
 
--- ---- where the walk stands
+-- ---- where the walk is
 
 -- how many positionals were met
 pub data Place : Type 0 where

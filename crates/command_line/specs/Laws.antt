@@ -40,7 +40,7 @@ abbrev pub with_letter : ℕ → List Word → List Word
 with_letter b [] = (b ∷ []) ∷ []
 with_letter b (word ∷ words) = (b ∷ word) ∷ words
 
--- the words of a line, which stand apart by one space each
+-- the words of a line, with one space between neighbours
 abbrev pub spaced : List ℕ → List Word
 spaced [] = [] ∷ []
 spaced (b ∷ bs) = if b == 32 then [] ∷ spaced bs else with_letter b (spaced bs)

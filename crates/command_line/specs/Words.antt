@@ -88,7 +88,7 @@ number least most value =
     if is_decimal value && nat_le least (digits_value 10 value) && nat_le (digits_value 10 value) most
     then Some (digits_value 10 value) else None
 
--- what an option with these values says, if it stands at most once and its value can be read
+-- what an option with these values says, if it is there at most once and its value can be read
 abbrev pub said : {X : Type 0} → X → (Word → Option X) → List Word → Option X
 said missing read [] = Some missing
 said missing read (value ∷ []) = read value

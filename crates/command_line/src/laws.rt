@@ -9,8 +9,8 @@ ghost use Rattle.command_line.specs.Words.{is_name, number, plan_of_tokens, read
 ghost use Rattle.command_line.specs.Laws.{attached, of_names, of_seed, option_name, spaced};
 ghost use Rattle.command_line.specs.Laws.{written_names, written_seed};
 
-/// What is said of every list of words or tokens: where an option stands among the others makes no difference, nor
-/// does whether its value stands in its own word; an option that stands twice has no plan. It does nothing.
+/// What holds of every list of words or tokens. Where an option is among the others makes no difference, nor does
+/// whether its value is in its own word. An option that is there twice has no plan. It does nothing.
 pub fn order_laws()
     ensures any_place { (before after : List Token) (key : Key) (value : Word) (token : Token)
         → plan_of_tokens (before ++ given key value ∷ token ∷ after)

@@ -1,4 +1,4 @@
-//! What the words ask for, by the values that stand in them.
+//! What the words ask for, by the values that are in them.
 ghost use Rattle.std.specs.Prelude.{◌≡◌, [], IfOk, option_map};
 ghost use Rattle.std.specs.List.{cons_option, list_all};
 ghost use Rattle.std.specs.Char.{is_ascii_digit};
@@ -82,7 +82,7 @@ fn is_name(word: &str) -> bool
     }
 }
 
-/// The plan of the matches, if their values are in their ranges and just the positionals stand that are wanted.
+/// The plan of the matches, if their values are in their ranges and just the positionals are there that are wanted.
 pub(crate) fn plan_in(alloc: Global, matches: &ArgMatches<'_>) -> Result<Option<Plan>, NoMemory>
     ensures { IfOk result (λ plan. plan ≡ plan_of_found (found_of matches.now)) }
 {

@@ -1,4 +1,4 @@
-//! The reading of the words.
+//! The reading of the words: the plan that they ask for, or none.
 ghost use Rattle.std.specs.Prelude.{◌≡◌, IfOk, IfSome, string_bytes};
 ghost use Rattle.std.specs.List.{list_any};
 ghost use Rattle.command_line.specs.Words.{IsWithinLimits, is_dashes, plan_of};

@@ -79,7 +79,7 @@ fold-batch-backwards {X} step x (s ∷ splices) =
     fold-batch step x s splices
     ∙ ap (λ (y : X). cond (is_operation s) (step y (replacement s)) y) (fold-batch-backwards step x splices)
 
--- the operations of one splice more come before those of the splices behind it
+-- the operations of one splice more come before those of the splices after it
 pub batch-cons : (s : Splice) (splices : List Splice) → batch (s ∷ splices) ≡ batch splices ++ cond (is_operation s) (replacement s ∷ []) []
 batch-cons s splices = go (is_operation s) where
   rest : List Splice

@@ -24,7 +24,7 @@ use Rattle.display_map.proofs.FittingBatches.{texts}
 use Rattle.display_map.proofs.Replays.{state_of-appended, state_of-one_more}
 use Rattle.display_map.proofs.Works.{kept-work}
 
--- want of memory, of which nothing else is known
+-- out of memory, of which nothing else is known
 pub err-same : {A E : Type 0} (r : Result A E) (s : E) (P : E → Type 0) → IsErrAnd r (λ e. e ≡ s) → P s → IfErr r P
 err-same (Ok x) s P h p = tt
 err-same (Err e) s P h p = subst P (sym h) p

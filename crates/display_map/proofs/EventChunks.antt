@@ -1,4 +1,4 @@
--- Events in chunks: where one stands, and one behind the first ones.
+-- Events in chunks: where one is, and one after the first ones.
 use Rattle.std.proofs.Common.{◌≡◌, ℕ, ◌+◌, ◌/◌, ◌%◌, ◌<◌, ◌≤◌, zero, suc, List, [], ◌∷◌, ◌++◌, length, take, set, get_or, sym, ap, subst, ◌∙◌, arith, append-nil, length-append}
 use Rattle.std.specs.Prelude.{Some, slice_get}
 use Rattle.std.proofs.Math.Seq.{take-set-lt}
@@ -38,7 +38,7 @@ keeps-with chunks k j len c ends long small = record {
   long = omega (arith, ap length (joined-push (take k chunks) c), length-append (joined (take k chunks)) c, ends.counted, long);
 }
 
--- ---- behind full chunks
+-- ---- after full chunks
 
 full-end : (chunks : List (List Event)) (len : ℕ) → KeepsEvents len chunks → len % 256 ≡ 0 → EndsAt 256 chunks (len / 256) 0 len
 full-end chunks len keeps none = subst (λ (j : ℕ). EndsAt 256 chunks (len / 256) j len) none (events-end chunks len keeps)

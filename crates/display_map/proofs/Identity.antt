@@ -23,7 +23,7 @@ use Rattle.display_sheet.proofs.ElementLines.{elements_long}
 use Rattle.display_map.proofs.Places.{stands}
 use Rattle.display_map.proofs.Stamps.{AreStamps, AreStamps-replaced, stamps, stamps-replaced, stamps-wrapped_at, times, times-append}
 
--- a stamp that stands once stands at one place
+-- a stamp that is there once is at one place
 one_before : (S : List ℕ) (j k : ℕ) → ((v : ℕ) → times v S ≤ 1) → j < k → k < length S → get_or S j 0 ≡ get_or S k 0 → ⊥
 one_before S j k once lt within e =
     let v = get_or S j 0 in

@@ -38,7 +38,7 @@ numbered_at a (job ∷ jobs) (suc k) e lt =
     ∙ ap (λ (n : ℕ). find (λ (j : SentJob). j.number == n) jobs) next
     ∙ numbered_at (a + 1) jobs k (other_numbers a job jobs e) (omega arith)
 
--- jobs that are numbered from 1 on stand at their numbers
+-- jobs that are numbered from 1 on are at their numbers
 pub job_numbered-at : (jobs : List SentJob) (k : ℕ) → map (λ job. job.number) jobs ≡ range_with_len 1 (length jobs) → k < length jobs →
     job_numbered (k + 1) jobs ≡ slice_get jobs k
 job_numbered-at jobs k e lt = ap (λ (n : ℕ). job_numbered n jobs) (add_comm k 1) ∙ numbered_at 1 jobs k e lt

@@ -28,7 +28,7 @@ use Rattle.display_map.proofs.Works.{flags-are}
 length-landed : (r : Record) (o : Option SentJob) → length (landed_marks r o) ≡ length r.marks
 length-landed r o = sym (length-map (landed_marks r o) (λ m. m.stamp)) ∙ ap length (landed_stamps r o) ∙ length-map r.marks (λ m. m.stamp)
 
--- the widths after the landing of a job whose lines stand at these places
+-- the widths after the landing of a job whose lines are at these places
 pub widths-after : (r : Record) (job : SentJob) (places : List (Option ℕ)) → ((v : ℕ) → times v (stamps r.marks) ≤ 1) → AreAt (stamps r.marks) job.stamps places →
     widths (landed_marks r (Some job)) ≡ cond (eqb job.width r.width) (landed_at job.width places (widths r.marks)) (widths r.marks)
 widths-after r job places once at = go (eqb job.width r.width) where

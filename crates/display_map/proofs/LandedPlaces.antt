@@ -1,4 +1,4 @@
--- What a landing makes of widths and numbers of rows, at the places where the lines of its job stand.
+-- What a landing makes of widths and numbers of rows, at the places where the lines of its job are.
 use Rattle.std.proofs.Common.{◌≡◌, ℕ, ◌<◌, ◌≤◌, ◌||◌, eqb, zero, suc, cond, Bool, true, false, List, [], ◌∷◌, length, set, get_or, refl, sym, ap, subst, ◌∙◌, arith}
 use Rattle.std.specs.Prelude.{Option, Some, None}
 use Rattle.std.proofs.lemmas.Bool.{eqb-true, eq-eqb}

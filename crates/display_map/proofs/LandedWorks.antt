@@ -114,7 +114,7 @@ module _ (h : History) (sheet : Record) (outs : List OutParts) (versions jobs fi
   out-width : f.out.width ≡ job.width
   out-width = f.is.width ∙ o.width_is
 
-  -- the lines of the job are those that stand at the places that are kept of it, and its cuts are theirs
+  -- the lines of the job are those at the places that are kept of it, and its cuts are theirs
   pub lines-fit : (cuts : List (List ℕ)) → cuts ≡ wraps_of job.lines job.run job.width → IsRunIn (length job.lines) job.run →
       LinesFit sheet (find (λ out. eqb out.number job.number) outs) job.lines job.run cuts
   lines-fit cuts is within =

@@ -18,7 +18,7 @@ use Rattle.display_map.specs.Sending.{GivesCuts, IsOutstanding}
 use Rattle.display_map.proofs.Jobs.{job_numbered-at}
 use Rattle.display_map.proofs.Outstanding.{IsStillOut, no_job, still_out}
 
--- a stamp that is held stands at some place
+-- a stamp that is held is at some place
 abbrev StandsIn : List ℕ → ℕ → Type 0
 StandsIn xs v = (k : ℕ) × (k < length xs) × (get_or xs k 0 ≡ v)
 

@@ -9,7 +9,7 @@ use Rattle.display_map.specs.Replay.{SentJob, State, holds, wrapped_at, landed_o
 use Rattle.std.proofs.lemmas.Simd.{map-map}
 use Rattle.display_map.proofs.Jobs.{job_numbered-at, slice_get_some, with_landed-at, landed_marks, landed_on-is}
 
--- the state after the landing of a job that stands at its number
+-- the state after the landing of a job that is at its number
 abbrev pub landed_state : State → ℕ → SentJob → State
 landed_state s k job = record {
   present = record s.present { marks = landed_marks s.present (Some job) };

@@ -56,7 +56,7 @@ module _ (f n k : ℕ) where
       ∙ get_or-range_with_len 0 (f + (n + k)) (f + n + (m - f)) 0 (omega (arith, le, lt))
       ∙ omega (arith, le)
 
-  -- the m-th stands above the run, or below it
+  -- the m-th is above the run, or below it
   nth : (m i : ℕ) → slice_get (untouched_lines (one_run f n k)) m ≡ Some i → ((m < f) × (i ≡ m)) ⊎ ((f ≤ m) × (m < f + k) × (i ≡ m + n))
   nth m i e =
       let at : slice_get kept m ≡ Some i = ap (λ (l : List ℕ). slice_get l m) (sym kept-are) ∙ e in
@@ -79,7 +79,7 @@ module _ (f n k : ℕ) where
       ∙ slice_get-get_or kept m 0 (omega (arith, long_kept, lt))
       ∙ ap Some (kept_below m le lt)
 
--- line i after is line j before, where behind f lines n make place for n'
+-- line i after is line j before, where after f lines n make place for n'
 abbrev pub Stays : (f n n' i j : ℕ) → Type 0
 Stays f n n' i j = ((i < f) × (j ≡ i)) ⊎ ((f + n' ≤ i) × (j + n' ≡ i + n))
 

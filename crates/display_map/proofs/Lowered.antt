@@ -1,4 +1,4 @@
--- Which lines wait at another width, by where the lines of the jobs that are out stand.
+-- Which lines wait at another width, by where the lines of the jobs that are out are.
 use Rattle.std.proofs.Common.{◌≡◌, ℕ, ◌<◌, ◌≤◌, ◌&&◌, ◌||◌, not, eqb, zero, suc, cond, Bool, true, false, List, [], ◌∷◌, length, map, set, get_or, refl, sym, ap, ◌∙◌, arith}
 use Rattle.std.specs.Prelude.{Option, Some, None}
 use Rattle.std.specs.List.{list_any}

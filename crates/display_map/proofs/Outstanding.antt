@@ -1,4 +1,5 @@
--- A job that is out stays as it was sent, whatever was done since, and the lines of its stamps have the elements that it holds.
+-- A job that is out stays as it was sent, whatever was done since. The lines of its stamps have the elements that it
+-- holds.
 use Rattle.std.proofs.Common.{◌≡◌, ℕ, ◌+◌, ◌<◌, ◌≤◌, ◌||◌, eqb, cond, Bool, true, false, List, [], ◌∷◌, ◌++◌, length, map, take, drop, get_or, refl, sym, ap, subst, ◌∙◌, inl, inr, arith, add_comm}
 use Rattle.std.specs.List.{list_any, range_with_len}
 use Rattle.std.proofs.lemmas.Bool.{cases_lt, ne_eqb, eq-eqb, true≢false}
@@ -71,7 +72,7 @@ in-order text events m n is fits le =
     subst (λ (l : List Event). HaveSameLines (replayed (begun text) (take m events)).present (replayed (begun text) l).present) whole
     (tied-later text (take m events) (drop m (take n events)) is (subst (EventsFit (begun text)) (sym whole) these)).same
 
--- lines of one stamp in the records of two fronts
+-- lines of one stamp in the records of two prefixes
 pub same-fronts : (text : List ℕ) (events : List Event) (m n : ℕ) → IsText text → EventsFit (begun text) events →
     HaveSameLines (replayed (begun text) (take m events)).present (replayed (begun text) (take n events)).present
 same-fronts text events m n is fits = elim (cases_lt m n) [

@@ -10,7 +10,7 @@ use Rattle.display_map.specs.Replay.{SentJob}
 use Rattle.display_map.specs.Outs.{AreAt, AreOut, IsAt, OutParts, carried, carried_out}
 use Rattle.display_map.proofs.Stamps.{AreStamps, times, times-append, times-cons, times-range}
 
--- a stamp that stands in a list stands there once at least
+-- a stamp that is in a list is there once at least
 pub stands : (v : ℕ) (xs : List ℕ) (k : ℕ) → k < length xs → get_or xs k 0 ≡ v → 1 ≤ times v xs
 stands v [] k lt e = absurd (omega (arith, lt))
 stands v (x ∷ xs) zero lt e = omega (arith, times-cons v x xs, ap {B = ℕ} (λ (b : Bool). cond b 1 0) (eq-eqb x v e))

@@ -1,4 +1,4 @@
--- The lines of a job stand in the order in which they were sent, and do so over an operation.
+-- The lines of a job are in the order in which they were sent, and stay so over an operation.
 use Rattle.std.proofs.Common.{◌≡◌, ℕ, zero, suc, ◌+◌, ◌-◌, ◌<◌, ◌≤◌, cond, ltb, List, [], ◌∷◌, map, sym, subst, inl, inr, arith}
 use Rattle.std.specs.Prelude.{Option, Some, None}
 use Rattle.std.proofs.lemmas.Bool.{cases_lt, le-ltb, lt-ltb}
@@ -27,7 +27,7 @@ module _ (first end count : ℕ) (order : first ≤ end) where
   moves : (line : ℕ) → end ≤ line → carried first end count (Some line) ≡ Some (line - end + (first + count))
   moves line ge = λ i. cond (le-ltb line first (omega (arith, ge, order)) i) (Some line) (cond (le-ltb line end ge i) None (Some (line - end + (first + count))))
 
-  -- of places that all lie behind the first line of the splice
+  -- of places that all lie after the first line of the splice
   behind : (from low : ℕ) (places : List (Option ℕ)) → first ≤ from → low ≤ first + count + (from - end) → Rise from places → Rise low (map (carried first end count) places)
   behind from low [] ge le r = tt
   behind from low (None ∷ places) ge le r = behind from low places ge le r

@@ -21,7 +21,7 @@ use Rattle.display_map.proofs.Runs.{waits_run}
 use Rattle.display_map.proofs.Stamps.{stamps, stamps_of-is}
 use Rattle.display_map.proofs.Works.{flags-are}
 
--- the lines of a run stand where they are
+-- the lines of a run are where they were
 pub places-of_run : (S : List ℕ) (first count : ℕ) → first + count ≤ length S → AreAt S (take count (drop first S)) (some_places first count)
 places-of_run S first zero within = tt
 places-of_run S first (suc n) within =

@@ -11,7 +11,7 @@ use Rattle.display_map.specs.Replay.{holds, wrapped_at, stamps_of}
 abbrev pub stamps : List Mark → List ℕ
 stamps marks = map (λ m. m.stamp) marks
 
--- how often a number stands in a list
+-- how often a number is in a list
 abbrev pub times : ℕ → List ℕ → ℕ
 times v xs = count_by (λ x. x == v) xs
 
@@ -42,7 +42,7 @@ range_from a (suc n) =
     All-cons (λ (x : ℕ). a ≤ x) a (range_with_len (a + 1) n) (omega arith)
     (All-weaker (λ (x : ℕ). a + 1 ≤ x) (λ (x : ℕ). a ≤ x) (λ x le. omega (arith, le)) (range_with_len (a + 1) n) (range_from (a + 1) n))
 
--- a number below a range doesn't stand in it
+-- a number below a range isn't in it
 pub times-range : (v a n : ℕ) → v < a → times v (range_with_len a n) ≡ 0
 times-range v a n lt =
     times-absent v (range_with_len a n)

@@ -23,7 +23,7 @@ all-marks : (width : ℕ) (marks : List Mark) → list_all (λ m. eqb m.width wi
 all-marks width [] = refl
 all-marks width (m ∷ marks) = ap (λ (b : Bool). eqb m.width width && b) (all-marks width marks)
 
--- whether all lines stand at the width doesn't depend on stamps
+-- whether all lines are wrapped at the width doesn't depend on stamps
 pub settled-by : (r sheet : Record) → unstamped r ≡ sheet → all_at_width sheet ≡ is_settled r
 unfolding is_settled
 settled-by r sheet is =

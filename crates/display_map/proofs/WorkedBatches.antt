@@ -1,4 +1,5 @@
--- A batch as it is done, from its last splice to its first: each is allowed where it is done, and no text between is too long.
+-- A batch as it is done, from its last splice to its first. Each is allowed where it is done, and no text between is
+-- too long.
 use Rattle.std.proofs.Common.{◌≡◌, ℕ, ◌-◌, ◌<◌, ◌≤◌, ◌&&◌, leb, zero, suc, cond, Bool, true, false, List, [], ◌∷◌, ◌++◌, length, map, take, drop, get_or, slice_range, sym, ap, subst, ◌∙◌, arith, append_assoc, append-nil, length-append}
 use Rattle.std.specs.Str.{IsUtf8}
 use Rattle.std.proofs.lemmas.Bool.{and_parts}

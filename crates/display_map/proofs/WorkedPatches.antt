@@ -15,7 +15,7 @@ use Rattle.display_map.specs.LinePatches.{IsLinePatch, IsPatchOver}
 use Rattle.display_map.specs.Replay.{begun}
 use Rattle.display_map.proofs.LinePatches.{run-patch}
 
--- what one edit says of a position before it, inside it and behind it
+-- what one edit says of a position before it, inside it and after it
 one-kept : (e : Edit) (i : ℕ) → i < e.new_start → origin_of (e ∷ []) i ≡ Some i
 one-kept e i lt = origin-kept 0 0 e [] i lt ∙ ap Some (omega arith)
 

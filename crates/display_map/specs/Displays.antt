@@ -39,8 +39,8 @@ IsNextRun flags (Some run) =
     × (run.count ≡ min RUN_LIMIT (prefix_len (λ w. w) (drop run.first flags)))
     × NoneWaits flags run.first
 
--- the record that the history replays to, where the lines of the jobs that are out stand, how many versions were published
--- and jobs sent, and before which line none waits
+-- what is kept of a history: the record that it replays to, and where the lines of the jobs that are out are. With
+-- these come how many versions were published and jobs sent, and before which line none waits
 pub record KeepsDisplay (h : History) (sheet : Record) (outs : List OutParts) (versions jobs first : ℕ) : Type 0 where
   pub opening : IsText h.opening
   pub fits : EventsFit (begun h.opening) h.events

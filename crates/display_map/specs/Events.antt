@@ -1,12 +1,12 @@
--- What happens to a display, as a list of events tells it.
+-- What happens to a display, as a list of events says it.
 use Rattle.std.specs.Prelude.{ℕ, Bool, List, map}
 use Rattle.cell_units.specs.Operation.{Operation}
 use Rattle.display_sheet.specs.Changes.{operation_of}
 use Rattle.display_map.specs.declared.event.Event as declared
 use Rattle.display_map.specs.declared.event.Event.TheVariants as events
 
--- a script line was answered, refused or is about to be done; an operation was done; a job was sent with the display lines
--- from the first one on; its wraps were taken; a version was published
+-- a script line was answered, was refused or is about to be done. An operation was done. A job was sent with the
+-- display lines from the first one on, or its wraps were taken. A version was published
 pub data Event : Type 0 where
   Line : (number : ℕ) → Event
   Did : (operation : Operation) → Event
@@ -14,7 +14,7 @@ pub data Event : Type 0 where
   Landed : (job : ℕ) → Event
   Published : (last : Bool) → Event
 
--- the event that a value of the program tells of
+-- the event of a value of the program
 abbrev pub event_of : declared.Event → Event
 event_of (events.Line number) = Line number
 event_of (events.Did op) = Did (operation_of op)

@@ -32,8 +32,8 @@ abbrev pub ChangeInsertsUtf8 : ChangeParts → Type 0
 ChangeInsertsUtf8 (Edit splices) = All (λ s. IsUtf8 s.text) splices
 ChangeInsertsUtf8 (One operation) = InsertsUtf8 operation
 
--- the opening is a text, and each operation was allowed where it was done. The present record is lawful, its text no longer
--- than a text may be, and the jobs are numbered from 1 on
+-- the opening is a text, and each operation was allowed where it was done. The present record is lawful, its text no
+-- longer than a text may be, and the jobs are numbered from 1 on
 pub record IsLawfulHistory (h : History) : Type 0 where
   pub opening : IsText h.opening
   pub fits : EventsFit (begun h.opening) h.events

@@ -1,3 +1,6 @@
+-- What the crate promises: all but those named next
+-- What its parts say to each other: OutRuns, Splicing, Works
+
 pub mod Displays
 pub mod Events
 pub mod Identity

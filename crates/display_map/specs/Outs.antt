@@ -1,4 +1,4 @@
--- Where the lines of a job that is out stand now.
+-- Where the lines of a job that is out are now.
 use Rattle.std.specs.Prelude.{ℕ, ◌≡◌, ◌+◌, ◌-◌, ◌<◌, ◌==◌, nat_lt, if◌then◌else◌, not, Bool, false, List, [], ◌∷◌, length, map, count_by, slice_index, slice_set, Option, Some, None}
 use Rattle.std.specs.List.{All, range_with_len}
 use Rattle.cell_units.specs.Record.{Record}
@@ -44,7 +44,7 @@ AreOut stamps [] [] = Unit {0}
 AreOut stamps (job ∷ jobs) (out ∷ outs) = IsOut stamps job out × AreOut stamps jobs outs
 AreOut stamps _ _ = ⊥
 
--- the lines of each job that are still there stand in the order in which they were sent
+-- the lines of each job that are still there are in the order in which they were sent
 abbrev pub StandInOrder : List OutParts → Type 0
 StandInOrder outs = All (λ out. IsRising 0 (standing out.lines)) outs
 
@@ -70,7 +70,8 @@ lowered_by width [] flags = flags
 lowered_by width (out ∷ outs) flags =
     lowered_by width outs (if out.width == width then lowered out.lines flags else flags)
 
--- which lines of these widths wait: those of another width than the present one, but for the lines of jobs of that width
+-- which lines of these widths wait: those of another width than the present one, but for the lines of jobs of that
+-- width
 abbrev pub waiting : ℕ → List ℕ → List OutParts → List Bool
 waiting width ws outs = lowered_by width outs (map (λ w. not (w == width)) ws)
 

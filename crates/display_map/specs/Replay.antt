@@ -102,7 +102,7 @@ first_waiting s = prefix_len (λ m. not (waits s m)) s.present.marks
 unfoldable pub next_run : State → Option Run
 next_run s = if first_waiting s == length s.present.marks then None else Some (run_from s (first_waiting s))
 
--- every line stands wrapped at the present width
+-- every line is wrapped at the present width
 unfoldable pub is_settled : Record → Bool
 is_settled r = list_all (λ m. m.width == r.width) r.marks
 

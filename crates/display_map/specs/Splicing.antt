@@ -5,7 +5,7 @@ use Rattle.display_sheet.specs.declared.change.Splice.{Splice}
 use Rattle.display_map.specs.Events.{Event, Did}
 use Rattle.display_sheet.specs.Changes.{batch}
 
--- the text from an offset on, with the splices behind it done
+-- the text from an offset on, with the splices after it done
 abbrev pub spliced_text : List ℕ → ℕ → List Splice → List ℕ
 spliced_text text from [] = drop from text
 spliced_text text from (s ∷ splices) = slice_range text from s.start ++ (clean s.text ++ spliced_text text s.end splices)

@@ -20,20 +20,20 @@ KeepsWork h sheet outs versions jobs = KeepsDisplay h sheet outs versions jobs 0
 abbrev pub IsKept : Record → List OutParts → Type 0
 IsKept sheet outs = (h : History) × (versions : ℕ) × (jobs : ℕ) × KeepsWork h sheet outs versions jobs
 
--- a record after operations, and where the lines of the jobs that are out stand then: whatever history was kept before, the
--- history with the operations is kept so
+-- a record after operations, and where the lines of the jobs that are out are then. Whatever history was kept before,
+-- the history with the operations is kept so
 abbrev pub IsWork : List Operation → Record → List OutParts → Record → List OutParts → Type 0
 IsWork ops sheet outs sheet' outs' =
     (h : History) (versions jobs : ℕ) → KeepsWork h sheet outs versions jobs →
     KeepsWork (appended h (map Did ops)) sheet' outs' versions jobs
 
--- the record after a job landed, if it is out: its lines stand at its width, where that is the present one
+-- the record after a job landed, if it is out: its lines are wrapped at its width, where that is the present one
 abbrev pub with_landed : Record → Option OutParts → Record
 with_landed r None = r
 with_landed r (Some out) = if out.width == r.width then with_landed_lines out.width out.lines r else r
 
--- the lines of the run that the job was made of are those that stand at its places now, in order, and the cuts are those of
--- these lines
+-- the lines of the run that the job was made of are those at its places now, in order. The cuts are those of these
+-- lines
 abbrev pub LinesFit : Record → Option OutParts → List (List Element) → Run → List (List ℕ) → Type 0
 LinesFit r None lines run cuts = Unit {0}
 LinesFit r (Some out) lines run cuts =

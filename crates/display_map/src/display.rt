@@ -1,4 +1,4 @@
-//! The display.
+//! The display: its start, its changes, the jobs that it sends and lands, and its versions.
 ghost use Rattle.std.specs.Prelude.{◌≡◌, ◌+◌, ◌≤◌, false, [], ◌∷◌, None, length, map, OnOk, OnErr, IfOk, IfErr, MatchResult};
 ghost use Rattle.cell_units.specs.declared.limits.TheConstants.{TEXT_LIMIT};
 ghost use Rattle.cell_units.specs.Record.{opened};
@@ -92,7 +92,10 @@ fn begun<S: Sheet>(alloc: Global, opening: S) -> Result<DisplayOn<S>, NoMemory>
 }
 
 impl<S: Sheet> DisplayOn<S> {
-    /// A display of the bytes, in which each CR LF and then each lone CR is a LF, with an empty journal.
+    /// A display of these bytes, with an empty journal. Each CR LF and then each lone CR is made an LF (*Text*).
+    ///
+    /// `TooLong` where there are more than 33,554,432 bytes. Else `NotUtf8` where they aren't UTF-8, with the length in
+    /// bytes of the longest prefix that is.
     pub fn start(alloc: Global, bytes: &[u8], steps: &mut Steps) -> Result<DisplayOn<S>, TextFault>
         ensures started { MatchResult result
             (λ display. display ≡ record { opening = clean bytes.now; events = [] })
@@ -104,14 +107,15 @@ impl<S: Sheet> DisplayOn<S> {
         Ok(begun(alloc, opening)?)
     }
 
-    /// How many events the journal may still take.
+    /// How many events the journal may still take, of 4,294,967,295 in all.
     pub fn room(&self) -> u32
         ensures { result + length self.now.events ≡ event_limit }
     {
         u32::MAX - self.journal.len()
     }
 
-    /// Records that a script line is answered, refused or about to be done.
+    /// Records that the script line of this number, counted from 1, is answered, refused or about to be done. If it is
+    /// out of memory nothing changes.
     pub fn note_line(&mut self, alloc: Global, number: u64) -> Result<(), NoMemory>
         requires room { length self.old.events + 1 ≤ event_limit }
         ensures noted { OnOk result (self.new ≡ appended self.old (Line number ∷ [])) }
@@ -121,7 +125,8 @@ impl<S: Sheet> DisplayOn<S> {
         Ok(())
     }
 
-    /// Publishes the display as it is.
+    /// Publishes the display as it is, as the last version or not (*Row of versions*). If it is out of memory nothing
+    /// changes.
     pub fn publish(&mut self, alloc: Global, last: bool) -> Result<VersionOn<S>, NoMemory>
         requires room { length self.old.events + 1 ≤ event_limit }
         ensures published { OnOk result (self.new ≡ appended self.old (Published last ∷ [])) }
@@ -142,8 +147,8 @@ impl<S: Sheet> DisplayOn<S> {
         }
     }
 
-    /// Sends the next run: the first line that waits with the waiting lines after it, at most 128. The job has the next
-    /// number, the present width and the present lines. `None` where no line waits.
+    /// Sends the next run (*Replay*): the first line that waits with the waiting lines after it, at most 128. The job
+    /// has the next number, the present width and the present lines. `None` where no line waits.
     pub fn take_run(
         &mut self,
         alloc: Global,
@@ -179,8 +184,8 @@ impl<S: Sheet> DisplayOn<S> {
         Ok(Some(held::job(number, lines, run, width)))
     }
 
-    /// Takes the wraps of a job that this display sent. Where the job's width is the present one, its lines stand wrapped
-    /// so from then on. `Err` is want of memory, and hands the result back.
+    /// Takes the wraps of a job that this display sent. Where the job's width is the present one, its lines are wrapped
+    /// so from then on (*Replay*). `Err` means out of memory, and hands the result back.
     pub fn land(
         &mut self,
         alloc: Global,
@@ -191,7 +196,7 @@ impl<S: Sheet> DisplayOn<S> {
         requires sent { IsOutstanding self.old (seen_job S.Held.elements_by_line done.job) }
         // What is there after it.
         ensures landed { OnOk result (self.new ≡ appended self.old (Landed done.job.number ∷ [])) }
-        // What want of memory leaves.
+        // What is left if it is out of memory.
         ensures back { IfErr result (λ back. back ≡ done) }
         ensures unchanged { OnErr result (self.new ≡ self.old) }
         // The work.
@@ -232,7 +237,7 @@ impl<S: Sheet> DisplayOn<S> {
         ensures accepted { OnOk result (edit_refusal (present_of self.old) splices.now ≡ None) }
         ensures done { OnOk result (self.new ≡ appended self.old (map Did (batch splices.now))) }
 
-        // A refusal is the one that is owed. That and want of memory leave the display as it was.
+        // A refusal is the one that is owed. That and out of memory leave the display as it was.
         ensures refused { IfErr result
             (IsRefusedAs (edit_refusal (present_of self.old) splices.now)) }
         ensures unchanged { OnErr result (self.new ≡ self.old) }
@@ -265,7 +270,7 @@ impl<S: Sheet> DisplayOn<S> {
             (operation_refusal (present_of self.old) (operation_of op.now) ≡ None) }
         ensures done { OnOk result (self.new ≡ appended self.old (Did (operation_of op.now) ∷ [])) }
 
-        // A refusal is the one that is owed. That and want of memory leave the display as it was.
+        // A refusal is the one that is owed. That and out of memory leave the display as it was.
         ensures refused { IfErr result
             (IsRefusedAs (operation_refusal (present_of self.old) (operation_of op.now))) }
         ensures unchanged { OnErr result (self.new ≡ self.old) }
@@ -282,7 +287,8 @@ impl<S: Sheet> DisplayOn<S> {
         Ok(())
     }
 
-    /// Does a change. A refused change leaves the display as it was. It is refused by the first of these that fits:
+    /// Does a change. A refused change leaves the display as it was, and so does one that is out of memory. It is
+    /// refused by the first of these that fits (*Why a change is refused*), where offsets count bytes:
     ///
     /// - `BadNumber`: a tab size isn't 1 to 16, or a width neither 0 nor 2 to 10,000;
     /// - `IdInUse`, `UnknownId`: an id that is added is there already, or one that is removed isn't;
@@ -312,14 +318,15 @@ impl<S: Sheet> DisplayOn<S> {
         }
     }
 
-    /// Whether every line stands wrapped at the present width.
+    /// Whether every line is wrapped at the present width (*Legal histories and the output*).
     pub fn settled(&self) -> bool
         ensures { result ≡ is_settled (present_of self.now) }
     {
         self.sheet.is_settled()
     }
 
-    /// The display as it is now. It takes no memory: `NoMemory` is one holder too many of what is shared.
+    /// The display as it is now. It allocates nothing, and fails with `NoMemory` only where the count of holders is
+    /// full.
     pub fn view(&self) -> Result<ViewOn<S>, NoMemory>
         ensures { IfOk result (λ view. view ≡ self.now) }
     {
@@ -335,10 +342,11 @@ impl<S: Sheet> DisplayOn<S> {
     pub fn lawful(&self)
         ensures { IsLawfulHistory self.now }
     {
+        // For the proof: the history is lawful, as the type keeps.
         let _ = &self.versions;
     }
 
-    /// The journal alone. It takes no memory.
+    /// The journal alone. It allocates nothing.
     pub fn into_journal(self) -> Journal
         ensures { result ≡ self.events }
     {

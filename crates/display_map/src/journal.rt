@@ -1,4 +1,4 @@
-//! The journal of a display.
+//! The journal of a display: a list of events in chunks that copies share.
 ghost use Rattle.std.specs.Prelude.{◌≡◌, ◌+◌, ◌<◌, ◌≤◌, ◌^◌, [], ◌∷◌, ◌++◌, length, take, slice_get, IfOk, OnOk, OnErr};
 ghost use Rattle.std.specs.Option.{option_copied, option_map};
 ghost use Rattle.std.specs.Arc.{arc_value};
@@ -72,8 +72,8 @@ impl Chunk {
         self.events.get(at)
     }
 
-    /// Appends an event behind the first `len`, which takes the place of what stands there: in place where the chunk isn't
-    /// shared, and in a copy elsewhere.
+    /// Appends an event after the first `len`, which takes the place of what is there. This is in place where the chunk
+    /// isn't shared, and in a copy elsewhere.
     fn push_behind(&mut self, alloc: Global, len: usize, event: Event) -> Result<(), NoMemory>
         requires { len ≤ length self.old }
         ensures appended { OnOk result (self.new ≡ take len self.old ++ event_of event ∷ []) }
@@ -95,7 +95,7 @@ impl Chunk {
     }
 }
 
-/// The events of a display, in order. It is seen as the list of what they tell.
+/// The events of a display, in order. It is seen as the list of what they say.
 #[derive(Debug)]
 pub struct Journal {
     // Shared with other journals, which may end earlier: the events from `len` on are none of this one's.
@@ -135,7 +135,7 @@ fn shared_chunks(alloc: Global, chunks: &[Chunk]) -> Result<Vec<Chunk>, NoMemory
     Ok(list)
 }
 
-/// Appends an event behind the first `len` of chunks, which takes the place of what stands there.
+/// Appends an event after the first `len` of chunks, which takes the place of what is there.
 fn push_into(
     alloc: Global,
     chunks: &mut Vec<Chunk>,
@@ -161,7 +161,7 @@ fn push_into(
     Ok(())
 }
 
-/// Appends an event behind the first `len`, which takes the place of what stands there. Where the list of chunks is shared,
+/// Appends an event after the first `len`, which takes the place of what is there. Where the list of chunks is shared,
 /// a list of the same chunks takes its place.
 fn push_behind(
     alloc: Global,
@@ -188,7 +188,7 @@ fn push_behind(
 }
 
 impl Journal {
-    /// The journal without events. It takes no memory.
+    /// The journal without events. It allocates nothing.
     pub fn none(_alloc: Global) -> Journal
         ensures { result ≡ [] }
     {

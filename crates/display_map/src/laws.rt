@@ -19,7 +19,8 @@ ghost use Rattle.edit_patch.specs.Came.{edit_of};
 
 /// Laws of jobs. Call it where a job is to land; it does nothing.
 ///
-/// A job is out once it was sent, and stays out over each event that isn't its landing, so over all operations of a change.
+/// A job is out once it was sent, and stays out over each event that isn't its landing, so over all operations of a
+/// change.
 pub fn job_laws()
     ensures sent { (before after : History) (job : JobParts (List (List Element))) →
         IsSent before after job → IsOutstanding after job }
@@ -33,8 +34,8 @@ pub fn job_laws()
 
 /// Laws of stamps. It does nothing.
 ///
-/// In the records that two fronts of one journal of allowed operations lead to, lines of one stamp have equal elements. So
-/// the cuts of a run are those of the present lines that have its stamps, whatever was done since it was sent.
+/// In the records of two prefixes of one journal of allowed operations, lines of one stamp have equal elements. So the
+/// cuts of a run are those of the present lines that have its stamps, whatever was done since it was sent.
 pub fn stamp_laws()
     ensures { (text : List ℕ) (events : List Event) (m n : ℕ) →
         IsText text → EventsFit (begun text) events →
@@ -43,8 +44,8 @@ pub fn stamp_laws()
 
 /// Which operations are allowed, and what records they lead to. It does nothing.
 ///
-/// Each record that a journal of allowed operations leads to is lawful. An operation that isn't refused is allowed, and so are
-/// the operations of a change that isn't, each in the record that it finds.
+/// Each record that a journal of allowed operations leads to is lawful. An operation that isn't refused is allowed, and
+/// so are the operations of a change that isn't, each in the record that it finds.
 pub fn replay_laws()
     ensures lawful { (text : List ℕ) (events : List Event) →
         IsText text → EventsFit (begun text) events →
@@ -59,9 +60,9 @@ pub fn replay_laws()
 
 /// The line patches between the records of one journal. It does nothing.
 ///
-/// The line patch of an operation leads from the display lines before it to those after it: an untouched line came from the
-/// untouched line that it was, and a touched line is new. From one record of a journal of allowed operations to each later
-/// one there is a composition of them, and by it a line came from another exactly where both have one stamp.
+/// The line patch of an operation leads from the display lines before it to those after it. An untouched line came from
+/// the untouched line that it was, and a touched line is new. From one record of a journal of allowed operations to
+/// each later one there is a composition of them. By it a line came from another exactly where both have one stamp.
 pub fn line_patch_laws()
     ensures exists { (text : List ℕ) (before after : List Event) → IsText text →
         EventsFit (begun text) (before ++ after) →
@@ -75,8 +76,8 @@ pub fn line_patch_laws()
 
 /// Histories of which the stamps and the line patch are known. It does nothing.
 ///
-/// A line that is changed and changed back is new, though its text is what it was. Where a line is made into two and then the
-/// line above it is taken away, only the line below came from one of the opening text.
+/// A line that is changed and changed back is new, though its text is what it was. Where a line is made into two and
+/// then the line above it is taken away, only the line below came from the opening text.
 pub fn worked_line_patches()
     ensures changed_back { let s = begun (codes "a\nb") in
         let events = Did (Replace 2 3 (codes "x")) ∷ Did (Replace 2 3 (codes "b")) ∷ [] in
@@ -88,8 +89,8 @@ pub fn worked_line_patches()
         × (stamps_in (replayed s events).present ≡ 5 ∷ 4 ∷ 2 ∷ []) }
 {}
 
-/// The landing of a job that is out, whatever was done since it was sent: the job's cuts are those of exactly the present
-/// lines that the landing marks. It does nothing.
+/// The landing of a job that is out, whatever was done since it was sent. The job's cuts are those of exactly the
+/// present lines that the landing marks. It does nothing.
 pub fn landing_laws()
     ensures { (h : History) (job : JobParts (List (List Element))) → IsText h.opening →
         EventsFit (begun h.opening) h.events →

@@ -1,4 +1,4 @@
-//! Jobs that are out, and where their lines stand now.
+//! Jobs that are out, and where their lines are now.
 ghost use Rattle.std.specs.Prelude.{◌≡◌, ℕ, ◌++◌, length, ◌+◌, ◌-◌, ◌==◌, ◌^◌, ◌<◌, ◌≤◌, ◌∷◌, [], not, All, map, filter, find, IfOk, OnOk};
 ghost use Rattle.std.specs.Option.{option_copied};
 ghost use Rattle.cell_line.specs.Waiting.{AreApart};
@@ -14,7 +14,7 @@ use kept_sheet::Sheet;
 use std::alloc::Global;
 use std::marker::Model;
 
-/// A job that was sent and hasn't landed, and of each line of its run the line that it is now, if it is still there.
+/// A job that was sent and hasn't landed. Of each line of its run it has the line that it is now, if it is still there.
 #[derive(Drop)]
 pub(crate) struct Out {
     number: u64,
@@ -92,7 +92,7 @@ fn carried(line: Option<u32>, splice: LineSplice, total: u32, after: u32) -> Opt
     requires within { splice.end ≤ total }
     requires after { after ≡ splice.first + (splice.count + (total - splice.end)) }
 
-    // A line before the splice stays, one in it is gone, and one behind it moves along.
+    // A line before the splice stays, one in it is gone, and one after it moves along.
     ensures { result ≡ carried splice.first splice.end splice.count line }
 {
     let line = line?;

@@ -57,7 +57,7 @@ fn put_len(alloc: Global, splice: &Splice) -> Result<u64, NoMemory>
     Ok(cleaned(alloc, splice.text.as_str())?.len() as u64)
 }
 
-/// Whether the text with all splices done would be longer than a text may be. It is told by lengths alone.
+/// Whether the text with all splices done would be longer than a text may be. Lengths alone decide it.
 pub(crate) fn is_too_long<S: Sheet>(
     alloc: Global,
     sheet: &S,

@@ -59,6 +59,7 @@ impl<S: Sheet> VersionOn<S> {
     pub fn lawful(&self)
         ensures { IsLawfulHistory self.now }
     {
+        // For the proof: the history of the view is lawful.
         self.view.lawful();
     }
 

@@ -58,7 +58,7 @@ impl<S: Sheet> Model for ViewOn<S> {
 }
 
 impl<S: Sheet> ViewOn<S> {
-    /// How many rows there are.
+    /// How many rows there are, those of blocks too (*Rows*).
     pub fn row_count(&self) -> u32
         ensures { result ≡ length (rows_of (present_of self.now)) }
     {
@@ -74,7 +74,7 @@ impl<S: Sheet> ViewOn<S> {
         self.sheet.row(alloc, row, steps)
     }
 
-    /// The rows from number `first` on, as many as there are up to `count`.
+    /// The rows from number `first` on, counted from 0, as many as there are up to `count` (*Rows*).
     pub fn rows(
         &self,
         alloc: Global,
@@ -89,7 +89,8 @@ impl<S: Sheet> ViewOn<S> {
         self.sheet.rows(alloc, first, count, steps)
     }
 
-    /// Where an offset of the text is shown. `BadRange` where it is past the end or within a character.
+    /// The row, and the column in cells, where an offset in bytes of the text is shown (*Spots*). `BadRange` where the
+    /// offset is past the end or within a character.
     pub fn show(
         &self,
         alloc: Global,
@@ -108,7 +109,7 @@ impl<S: Sheet> ViewOn<S> {
         Ok(self.sheet.show(alloc, offset, bias, steps)?)
     }
 
-    /// The nearest spot at which some offset is shown.
+    /// The nearest spot at which some offset is shown (*Spots*).
     pub fn clip(
         &self,
         alloc: Global,
@@ -122,7 +123,7 @@ impl<S: Sheet> ViewOn<S> {
         self.sheet.clip(alloc, spot, bias, steps)
     }
 
-    /// The least offset (Left) or the greatest (Right) that is shown at the nearest such spot.
+    /// The least offset in bytes (Left) or the greatest (Right) that is shown at the nearest such spot (*Spots*).
     pub fn back(
         &self,
         alloc: Global,
@@ -136,7 +137,7 @@ impl<S: Sheet> ViewOn<S> {
         self.sheet.back(alloc, spot, bias, steps)
     }
 
-    /// The lines that stand wrapped: maximal runs of neighbours at one width.
+    /// The wrapped lines: maximal runs of neighbours at one width in cells.
     pub fn marks(&self, alloc: Global, steps: &mut Steps) -> Result<Vec<MarkRun>, NoMemory>
         ensures runs { IfOk result (λ runs. runs.items ≡ mark_runs (present_of self.now)) }
         ensures counted { steps.old ≤ steps.new }
@@ -148,6 +149,7 @@ impl<S: Sheet> ViewOn<S> {
     pub fn lawful(&self)
         ensures { IsLawfulHistory self.now }
     {
+        // For the proof: the history is lawful, as the type keeps.
         let _ = &self.versions;
     }
 
@@ -172,8 +174,8 @@ impl<S: Sheet> ViewOn<S> {
         self.sheet.plain(alloc, steps)
     }
 
-    /// The offset of a row and a column of the text. Past the last row it is the text's end, and past a row's end that end;
-    /// within a character it is the character's start (Left) or end (Right).
+    /// The offset in bytes of a row and a column of the text (*Points*). Past the last row it is the text's end, and
+    /// past a row's end that end. Within a character it is the character's start (Left) or end (Right).
     pub fn offset_of(&self, point: Point, bias: Bias, steps: &mut Steps) -> u32
         ensures value { result ≡ offset_at (present_of self.now).text point bias }
         ensures counted { steps.old ≤ steps.new }
@@ -181,7 +183,7 @@ impl<S: Sheet> ViewOn<S> {
         self.sheet.offset_of(point, bias, steps)
     }
 
-    /// The bytes of the text from `start` up to `end`, two boundaries in order.
+    /// The text from the byte `start` up to the byte `end`, two boundaries in order.
     pub fn slice(
         &self,
         alloc: Global,

@@ -15,7 +15,7 @@ use display_sheet::{Op, Splice};
 use kept_sheet::Sheet;
 use std::alloc::Global;
 
-/// A record after a change, and where the lines of the jobs that are out stand then.
+/// A record after a change, and where the lines of the jobs that are out are then.
 #[derive(Drop)]
 pub(crate) struct Work<S: Sheet> {
     pub(crate) sheet: S,
@@ -58,7 +58,7 @@ pub(crate) fn batch<S: Sheet>(
     splices: &[Splice],
     steps: &mut Steps,
 ) -> Result<Work<S>, NoMemory>
-    // Some history is kept so, and the ranges lie in its text, one behind the other.
+    // Some history is kept so, and the ranges lie in its text, one after the other.
     requires kept { IsKept (S.kept sheet.now) outs.now }
     requires ranges { are_ranges (S.kept sheet.now).text 0 splices.now ≡ true }
 
@@ -67,7 +67,7 @@ pub(crate) fn batch<S: Sheet>(
     requires short_after { length (spliced_text (S.kept sheet.now).text 0 splices.now)
         ≤ TEXT_LIMIT }
 
-    // Whatever history is kept so, it is still kept with the batch behind it.
+    // Whatever history is kept so, it is still kept with the batch after it.
     ensures done { IfOk result (λ work. IsWork (batch splices.now) (S.kept sheet.now) outs.now
         (S.kept work.sheet) work.outs.items) }
     ensures counted { steps.old ≤ steps.new }
@@ -89,8 +89,8 @@ pub(crate) fn batch<S: Sheet>(
     })
 }
 
-/// The record in which the lines of a job stand wrapped, where it is out and has the present width. `old` are the lines that
-/// it was made of, and `cuts` those of its run.
+/// The record in which the lines of a job are wrapped, where it is out and has the present width. `old` are the lines
+/// that it was made of, and `cuts` those of its run.
 pub(crate) fn landed<S: Sheet>(
     alloc: Global,
     sheet: &S,

@@ -1,4 +1,4 @@
--- Where an element stands in chunks, and where the first elements end.
+-- Where an element is in chunks, and where the first elements end.
 use Rattle.std.proofs.Common.{◌≡◌, ℕ, ◌+◌, ◌-◌, ◌*◌, ◌<◌, ◌≤◌, zero, suc, List, [], ◌∷◌, ◌++◌, length, take, drop, set, get_or, sym, ap, ◌∙◌, arith, length-append, append-nil, append_assoc}
 use Rattle.std.specs.Prelude.{slice_range}
 use Rattle.std.proofs.Math.Nat.{suc-mul, zero-mul}
@@ -144,7 +144,7 @@ ends-at size (c ∷ d ∷ cs) (suc k) j len are few is le =
     ends-next size c (d ∷ cs) k j len are.0 (omega (arith, is, suc-mul k size))
     (ends-at size (d ∷ cs) k j (len - size) are.1 few (omega (arith, is, suc-mul k size)) (omega (arith, le, is, suc-mul k size, are.0, length-append c (joined (d ∷ cs)))))
 
--- an element behind the first ones
+-- an element after the first ones
 pub joined-appended : {X : Type 0} (size : ℕ) (chunks : List (List X)) (k j len : ℕ) (x : X) → EndsAt size chunks k j len →
     joined (take k chunks ++ (take j (get_or chunks k []) ++ x ∷ []) ∷ []) ≡ take len (joined chunks) ++ x ∷ []
 joined-appended {X} size chunks k j len x ends =

@@ -83,7 +83,7 @@ module _ {X Y : Type 0} (see : X → Y) (le : Y → Y → Bool) where
       ∙ (λ k. insert_by le (same k) (before k))
       ∙ ap (λ (l : List X). sort_by le (map move l)) (sym (drop_more entries (i - 1) z (omega (arith, within)) ∙ (λ k. sym is k ∷ drop (next k) entries)))
 
-  -- one more, behind those that it doesn't come before
+  -- one more, after those that it doesn't come before
   pub inserted-at : (x : X) (xs : List X) →
       map see (take (prefix_len (λ z. not (le (see x) (see z))) xs) xs ++ (x ∷ drop (prefix_len (λ z. not (le (see x) (see z))) xs) xs)) ≡ insert_by le (see x) (map see xs)
   inserted-at x [] = refl
@@ -150,7 +150,7 @@ kept-all see le keep move entries falling moved i none turned is =
     ap (map see) turned ∙ is ∙ ap (λ (n : ℕ). sort_by le (filter keep (map (λ x. move (see x)) (drop n entries)))) none
     ∙ ap (λ (l : List _). sort_by le (filter keep l)) (map-map see move entries)
 
--- one more was put behind those that it doesn't come before
+-- one more was put after those that it doesn't come before
 pub added-at : {X Y : Type 0} (see : X → Y) (le : Y → Y → Bool) (x : X) (xs front behind added : List X) (n : ℕ) → n ≡ prefix_len (λ z. not (le (see x) (see z))) xs →
     map see front ≡ map see [] ++ map see (take n xs) → behind ≡ front ++ x ∷ [] → map see added ≡ map see behind ++ map see (drop n xs) →
     map see added ≡ insert_by le (see x) (map see xs)

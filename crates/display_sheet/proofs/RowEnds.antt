@@ -10,7 +10,7 @@ use Rattle.cell_units.proofs.BufferLines.{feed_at_end, line_bounds, line_end_nex
 use Rattle.cell_units.proofs.PlainLayers.{line_of_offset}
 use Rattle.cell_units.proofs.ReplacedRows.{row_of-le, row_of-lt}
 
--- before a row's start stands a line feed, where that isn't the text's start
+-- before a row's start is a line feed, where that isn't the text's start
 feed_before : (text : List ℕ) (row : ℕ) → row < line_count text → 0 < line_start text row → line_start text row ≤ length text → is_feed (get_or text (line_start text row - 1) 0) ≡ true
 feed_before text zero lt some within = absurd (omega (arith, some))
 feed_before text (suc row) lt some within =
@@ -19,7 +19,7 @@ feed_before text (suc row) lt some within =
     let next : line_end text row + 1 ≡ line_start text (suc row) = line_end_next text row (omega (arith, lt)) ∙ ap (line_start text) one in
     ap (λ (k : ℕ). is_feed (get_or text k 0)) (omega (arith, next)) ∙ ap is_feed (feed_at_end text row before (omega (arith, next, within)))
 
--- between a row's start and an offset in it no line feed stands
+-- between a row's start and an offset in it there is no line feed
 feedless : (text : List ℕ) (o k : ℕ) → o ≤ length text → line_start text (row_of text o) ≤ k → k < o → is_feed (get_or text k 0) ≡ false
 feedless text o k le from before = go (is_feed (get_or text k 0)) refl where
   go : (b : Bool) → is_feed (get_or text k 0) ≡ b → b ≡ false

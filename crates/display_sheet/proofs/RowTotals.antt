@@ -41,7 +41,7 @@ sum-none (suc k) = omega (arith, sum-none k)
 
 -- ---- blocks
 
--- a block that is on a side stands at one line
+-- a block that is on a side is at one line
 on-side : (c : Bool) (line n k : ℕ) → sum_upto (λ j. cond (c && eqb line j) n 0) k ≡ cond (c && ltb line k) n 0
 on-side true line n zero = grind (arith, nat_tests)
 on-side false line n zero = refl

@@ -1,4 +1,4 @@
--- Lines that stand wrapped from now on, at the places where they are.
+-- Lines that are wrapped from now on, at the places where they are.
 use Rattle.std.specs.Prelude.{ℕ, ◌≡◌, ◌+◌, ◌^◌, ◌<◌, List, [], ◌∷◌, length, map, slice_index_or, slice_set, Option, Some, None}
 use Rattle.smallvec.specs.SmallVec.{SmallVec}
 use Rattle.cell_units.specs.Record.{Record}
@@ -53,7 +53,7 @@ pub record AreLanded (width : ℕ) (places : List (Option ℕ)) (cuts : List (Li
   pub marks : marks_in new ≡ landed_at width places (marks_in old)
   pub rows : rows_in new ≡ landed_rows places cuts (rows_in old)
 
--- the record in which the lines at the places stand at the width
+-- the record in which the lines at the places are wrapped at the width
 abbrev pub with_landed_lines : ℕ → List (Option ℕ) → Record → Record
 with_landed_lines width places r =
     record r { marks = marks_of (landed_at width places (map (λ m. m.width) r.marks)); next_stamp = length r.marks }

@@ -34,6 +34,6 @@ abbrev pub texts_at : Record → ℕ → List (List ℕ)
 texts_at r line =
     row_texts_of (slice_index_or (line_elements r) line []) (slice_index_or r.marks line (plain_mark 0)).width
 
--- a run of lines that stand wrapped, or none
+-- a run of wrapped lines, or none
 abbrev pub run_or_none : MarkRun → List MarkRun
 run_or_none run = if run.width == 0 then [] else (run ∷ [])

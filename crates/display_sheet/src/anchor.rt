@@ -1,10 +1,10 @@
-//! Where anchors go.
+//! Where the anchors of inlays, folds and blocks go at a replacement.
 ghost use Rattle.std.specs.Prelude.{◌≡◌, ◌+◌, ◌^◌, ◌<◌, ◌≤◌};
 ghost use Rattle.cell_units.specs.Anchor.{move};
 
 use cell_units::{Bias, Shift};
 
-/// Where an anchor stands after a replacement.
+/// Where an anchor is after a replacement, in bytes (*Anchors*).
 pub fn moved(offset: u32, bias: Bias, shift: Shift) -> u32
     requires start { shift.start + shift.count < 2 ^ 32 }
     requires fits { offset + shift.count < 2 ^ 32 }

@@ -76,6 +76,7 @@ fn line_in<'a>(text: &'a str, starts: &[u32], line: usize) -> &'a str
 }
 
 impl Buffer {
+    /// The text, with the offsets at which its lines start.
     pub fn new(alloc: Global, text: String) -> Result<Buffer, NoMemory>
         requires { length (string_bytes text) ≤ LAID_LIMIT }
         ensures { IfOk result (λ buffer. buffer ≡ string_bytes text) }
@@ -84,7 +85,7 @@ impl Buffer {
         Ok(Buffer { text, starts })
     }
 
-    /// How many lines the text has.
+    /// How many lines the text has. The last may be empty.
     pub fn lines(&self) -> u32
         ensures count { result ≡ line_count self.now }
         ensures size { length self.now ≤ LAID_LIMIT }
@@ -92,7 +93,7 @@ impl Buffer {
         self.starts.len() as u32
     }
 
-    /// The line of this number without its line feed.
+    /// The line of this number, counted from 0, without its line feed.
     pub fn line(&self, line: usize) -> &str
         requires { line < line_count self.now }
         ensures line { result.now ≡ slice_index_or (buffer_lines self.now) line [] }
@@ -101,7 +102,7 @@ impl Buffer {
         line_in(self.text.as_str(), &self.starts, line)
     }
 
-    /// The first offset of the line of this number.
+    /// The first offset, in bytes, of the line of this number, counted from 0.
     pub fn line_start(&self, line: u32) -> u32
         requires { line < line_count self.now }
         ensures { result ≡ line_start self.now line }
@@ -109,7 +110,7 @@ impl Buffer {
         self.starts[line as usize]
     }
 
-    /// The number of the line that holds an offset.
+    /// The number of the line that holds an offset in bytes, counted from 0.
     pub fn row_of(&self, offset: u32) -> usize
         ensures row { result ≡ row_of self.now offset }
         ensures within { result < line_count self.now }
@@ -117,7 +118,7 @@ impl Buffer {
         self.starts.partition_point(|start| *start <= offset) - 1
     }
 
-    /// The first offset of the row that holds an offset.
+    /// The first offset, in bytes, of the row that holds an offset.
     pub fn row_start(&self, offset: u32) -> u32
         requires { offset ≤ length self.now }
         ensures { result ≡ row_start self.now offset }
@@ -125,7 +126,7 @@ impl Buffer {
         self.starts[self.row_of(offset)]
     }
 
-    /// The end of the row that holds an offset: before its line feed, or the text's end.
+    /// The end, in bytes, of the row that holds an offset: before its line feed, or the text's end.
     pub fn row_end(&self, offset: u32) -> u32
         requires { offset ≤ length self.now }
         ensures { result ≡ row_end self.now offset }

@@ -20,7 +20,7 @@ pub enum Op {
     /// Replaces a range of the text. CR LF and then each lone CR of what is inserted become LF.
     Replace(Splice),
     /// Shows a text of 1 to 1,024 bytes at an offset. The anchor stays before what is inserted there (Left) or moves
-    /// behind it (Right).
+    /// after it (Right).
     Inlay {
         id: u32,
         offset: u32,
@@ -71,6 +71,7 @@ pub enum Change {
 }
 
 impl Splice {
+    /// An equal replacement.
     pub fn copy(&self, alloc: Global) -> Result<Splice, NoMemory>
         ensures { IfOk result (λ copy. copy ≡ self.now) }
     {
@@ -95,6 +96,7 @@ pub fn copied(alloc: Global, texts: &[Text]) -> Result<Vec<Text>, NoMemory>
 }
 
 impl Op {
+    /// An equal operation.
     pub fn copy(&self, alloc: Global) -> Result<Op, NoMemory>
         ensures { IfOk result (λ copy. operation_of copy ≡ operation_of self.now) }
     {

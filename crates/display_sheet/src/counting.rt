@@ -19,7 +19,7 @@ fn rows_of_blocks(blocks: &[PlainBlock]) -> u32
 }
 
 impl Sheet {
-    /// How many rows there are, those of blocks too.
+    /// How many rows there are, those of blocks too (*Rows*).
     pub fn row_count(&self) -> u32
         ensures { result ≡ length (rows_of self.now) }
     {

@@ -102,7 +102,8 @@ impl Lines for Held {
 }
 
 impl Sheet {
-    /// The display lines as they are, for a job. It takes no memory: `NoMemory` is one holder too many.
+    /// The display lines as they are, for a job. It allocates nothing, and fails with `NoMemory` only where the count
+    /// of holders is full.
     pub fn held(&self) -> Result<Held, NoMemory>
         ensures { IfOk result (λ held. held ≡ line_elements self.now) }
     {

@@ -1,4 +1,4 @@
-//! Lines of a sheet that stand wrapped from now on.
+//! Lines of a sheet that are wrapped from now on.
 ghost use Rattle.std.specs.Prelude.{◌≡◌, length, IfOk, OnErr, OnOk};
 ghost use Rattle.cell_units.specs.Lawful.{IsWidth};
 ghost use Rattle.plain_rows.specs.Rows.{line_elements};
@@ -11,7 +11,7 @@ use cell_units::NoMemory;
 use std::alloc::Global;
 use std::sync::Arc;
 
-/// The lines at the places stand wrapped at the width, each with its cuts.
+/// The lines at the places are wrapped at the width, each with its cuts.
 fn landed(
     alloc: Global,
     wraps: &Wraps,
@@ -33,8 +33,8 @@ fn landed(
 }
 
 impl Sheet {
-    /// The lines at the places stand wrapped at the width from now on, with these cuts. Only chunks with such a line are
-    /// copied.
+    /// The lines at the places are wrapped at the width in cells from now on, with these cuts. Only chunks with such a
+    /// line are copied.
     pub fn land(
         &mut self,
         alloc: Global,

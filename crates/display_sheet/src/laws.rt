@@ -5,8 +5,8 @@ ghost use Rattle.cell_units.specs.Operation.{Operation};
 ghost use Rattle.cell_units.specs.Lawful.{IsAllowed, IsLawful};
 ghost use Rattle.display_sheet.specs.LineStep.{GivesFreshMarks, KeepsMarks, SplicesMarks, Touches, line_step};
 
-/// What every operation that is allowed makes of a lawful record and its marks: it leaves a lawful record, in which
-/// each mark of an untouched line is handed on, in order, and the touched lines have fresh ones. It does nothing.
+/// What every allowed operation makes of a lawful record and its marks. It leaves a lawful record, in which each mark
+/// of an untouched line is handed on, in order, and the touched lines have fresh ones. It does nothing.
 pub fn step_laws()
     ensures lawful { (operation : Operation) (r : Record) → IsLawful r → IsAllowed operation r →
         IsLawful (line_step operation r) }

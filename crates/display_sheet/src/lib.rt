@@ -1,9 +1,9 @@
 //! Sheets: a record as a display keeps it, what operations make of it, and what is read off it.
 //!
-//! A sheet keeps the text, the lists of inlays, folds and blocks, the display lines laid out, and how each stands
-//! wrapped; all of it is shared with its copies. It is seen as its record, in which the stamps count the lines. The
-//! crate promises that each operation leaves the record that the definitions give, with the one splice of display
-//! lines that they give, and that each reading of a sheet is the plain function of its record.
+//! A sheet keeps the text, the lists of inlays, folds and blocks, the display lines laid out, and how each is wrapped.
+//! All of it is shared with its copies. It is seen as its record, in which the stamps count the lines. The crate
+//! promises that each operation leaves the record that the definitions give, with the one splice of display lines that
+//! they give. Each reading of a sheet is the plain function of its record.
 #![tactic(auto)]
 
 mod anchor;

@@ -1,4 +1,4 @@
-//! Runs of lines that stand wrapped at one width.
+//! Runs of lines that are wrapped at one width.
 ghost use Rattle.std.specs.Prelude.{◌≡◌, ◌++◌, map, IfOk, OnOk};
 ghost use Rattle.cell_line.specs.MarkRuns.{runs_from};
 ghost use Rattle.display_sheet.specs.Windows.{run_or_none};
@@ -8,7 +8,7 @@ use cell_line::MarkRun;
 use cell_units::NoMemory;
 use std::alloc::Global;
 
-/// Appends a run of lines that stand wrapped; those at width 0 are none.
+/// Appends a run of wrapped lines; those at width 0 are none.
 fn push_run(runs: &mut Vec<MarkRun>, run: MarkRun) -> Result<(), NoMemory>
     ensures { OnOk result (runs.new.items ≡ runs.old.items ++ run_or_none run) }
 {
@@ -18,7 +18,7 @@ fn push_run(runs: &mut Vec<MarkRun>, run: MarkRun) -> Result<(), NoMemory>
     Ok(())
 }
 
-/// The maximal runs of lines that stand wrapped at one width.
+/// The maximal runs of lines that are wrapped at one width in cells. Lines are counted from 0.
 pub fn mark_runs(alloc: Global, wraps: &Wraps) -> Result<Vec<MarkRun>, NoMemory>
     ensures { IfOk result (λ runs. runs.items ≡ runs_from 0 (map (λ w. w.mark) wraps.now)) }
 {

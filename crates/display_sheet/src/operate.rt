@@ -60,6 +60,7 @@ fn add_inlay(
 ) -> Result<Spliced, Fault>
     ensures { IsDone (AddInlay (inlay_of id offset bias text.now)) sheet.now result }
 {
+    // For the proof: the record of the sheet is lawful.
     sheet.lawful();
     if let Some(refusal) = inlay_refusal(sheet, id, offset, text) {
         return Err(Fault::Refused(refusal));
@@ -87,6 +88,7 @@ fn remove_inlay(alloc: Global, sheet: &Sheet, id: u32) -> Result<Spliced, Fault>
     let Some(inlay) = inlays::found(sheet.inlays(), id) else {
         return Err(Fault::Refused(Refusal::UnknownId));
     };
+    // For the proof: the record of the sheet is lawful.
     sheet.lawful();
     let at = Reach {
         start: inlay.offset,
@@ -125,6 +127,7 @@ fn fold_refusal(sheet: &Sheet, fold: &PlainFold) -> Option<Refusal>
 fn add_fold(alloc: Global, sheet: &Sheet, fold: PlainFold) -> Result<Spliced, Fault>
     ensures { IsDone (AddFold (fold_of fold)) sheet.now result }
 {
+    // For the proof: the record of the sheet is lawful.
     sheet.lawful();
     if let Some(refusal) = fold_refusal(sheet, &fold) {
         return Err(Fault::Refused(refusal));
@@ -146,6 +149,7 @@ fn remove_fold(alloc: Global, sheet: &Sheet, id: u32) -> Result<Spliced, Fault>
     let Some(fold) = folds::found(sheet.folds(), id) else {
         return Err(Fault::Refused(Refusal::UnknownId));
     };
+    // For the proof: the record of the sheet is lawful.
     sheet.lawful();
     let at = Reach {
         start: fold.start,
@@ -259,6 +263,7 @@ pub fn replace(alloc: Global, sheet: &Sheet, splice: &Splice) -> Result<Spliced,
     requires fits { length (operated (replacement splice.now) sheet.now).text ≤ LAID_LIMIT }
     ensures { IfOk result (λ s. IsOperated (replacement splice.now) sheet.now s.sheet s.splice) }
 {
+    // For the proof: the record of the sheet is lawful.
     sheet.lawful();
     let old = sheet.text().as_str();
     let text = replaced(alloc, old, splice)?;
@@ -292,6 +297,7 @@ fn add_block(
 ) -> Result<Spliced, Fault>
     ensures { IsDone (AddBlock row id side lines.now) sheet.now result }
 {
+    // For the proof: the record of the sheet is lawful.
     sheet.lawful();
     if let Some(refusal) = block_refusal(sheet, id, row, lines) {
         return Err(Fault::Refused(refusal));
@@ -306,7 +312,8 @@ fn add_block(
     Ok(sheet.with_blocks(alloc, blocks)?)
 }
 
-/// What an operation that isn't a replacement makes of a sheet.
+/// What an operation that isn't a replacement makes of a sheet (*Records and operations*). It is refused as
+/// `Display::apply` of `display_map` says.
 pub fn operate(alloc: Global, sheet: &Sheet, op: &Op) -> Result<Spliced, Fault>
     requires { is_replacement op.now ≡ false }
     ensures { IsDone (operation_of op.now) sheet.now result }

@@ -14,8 +14,8 @@ use plain_rows::{FoldedLines, PlainSource};
 use std::alloc::Global;
 use std::marker::Model;
 
-/// A display line: the pieces that it shows, and the tab size. It is seen as its elements, which are made only when they
-/// are asked for.
+/// A display line: the pieces that it shows, and the tab size. It is seen as its elements, which are made only when
+/// they are asked for.
 pub struct PieceLine {
     pieces: Vec<Piece>,
     tab: u32,
@@ -74,8 +74,8 @@ impl PieceLine {
         cuts_of_pieces(alloc, self.pieces.as_slice(), self.tab, width)
     }
 
-    /// The texts of the line's rows at a width, at which it is cut so, from the row `first` on, as many as there are up
-    /// to `count`.
+    /// The texts of the line's rows at a width in cells, at which it is cut so. They are those from the row `first` on,
+    /// as many as there are up to `count`.
     pub fn row_texts(
         &self,
         alloc: Global,

@@ -17,8 +17,8 @@ fn near_boundary(text: &str, offset: usize, bias: Bias) -> usize
     }
 }
 
-/// The offset at a point: past the last row the text's end, past a row's end that end, and inside a character its start
-/// or its end.
+/// The offset at a point (*Points*): past the last row the text's end, and past a row's end that end. Inside a
+/// character it is its start or its end.
 fn offset_at(text: &Buffer, point: Point, bias: Bias) -> u32
     ensures { result ≡ offset_at text.now point bias }
 {
@@ -35,7 +35,7 @@ fn offset_at(text: &Buffer, point: Point, bias: Bias) -> u32
 }
 
 impl Sheet {
-    /// The offset of a point of the text.
+    /// The offset in bytes of a point of the text (*Points*).
     pub fn offset_of(&self, point: Point, bias: Bias) -> u32
         ensures { result ≡ offset_at self.now.text point bias }
     {

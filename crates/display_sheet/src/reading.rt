@@ -24,7 +24,7 @@ use cell_units::{NoMemory, Side, Text};
 use plain_rows::{Kind, Plain, PlainSource, Shown};
 use std::alloc::Global;
 
-/// Of each line the width at which it stands wrapped.
+/// Of each line the width at which it is wrapped.
 pub(crate) fn widths(alloc: Global, wraps: &Wraps) -> Result<Vec<u32>, NoMemory>
     ensures { IfOk result (λ widths. widths.items ≡ map (λ w. w.mark) wraps.now) }
 {
@@ -46,7 +46,7 @@ impl Sheet {
         Ok(lines)
     }
 
-    /// Whether there is a block of this number and it is on the other side or stands at the line or before it.
+    /// Whether there is a block of this number and it is on the other side, or is at the line or before it.
     fn is_upto(&self, stands: &[u32], side: Side, number: usize, line: u32) -> bool
         requires { stands.now ≡ map (line_of_block self.now) self.now.blocks }
         ensures { result ≡ is_upto self.now side number line }
@@ -55,8 +55,8 @@ impl Sheet {
         number < blocks.len() && (blocks[number].side != side || stands[number] <= line)
     }
 
-    /// The rows of the blocks of one side that stand at the line go past, from the block of the number `from` on.
-    /// `stands` has of each block its line. It answers the number of the block behind them.
+    /// The rows of the blocks of one side that are at the line go past, from the block of the number `from` on.
+    /// `stands` has of each block its line. Returns the number of the block after them.
     fn pass_blocks(
         &self,
         alloc: Global,
@@ -66,12 +66,12 @@ impl Sheet {
         from: usize,
         line: u32,
     ) -> Result<usize, NoMemory>
-        // Blocks of the side before `from` stand before the line, and no others do.
+        // Blocks of the side before `from` are before the line, and no others are.
         requires lawful { IsLawful self.now }
         requires stands { stands.now ≡ map (line_of_block self.now) self.now.blocks }
         requires before { AreBefore self.now side from line }
 
-        // The rows of those at the line went past, and those before the answer stand before the next line.
+        // The rows of those at the line went past, and those before the result are before the next line.
         ensures rows { OnOk result
             (HasPassed (row_pairs (blocks_at self.now side line)) window.old window.new) }
         ensures before { IfOk result (λ behind. AreBefore self.now side behind (line + 1)) }
@@ -104,7 +104,7 @@ impl Sheet {
         PieceLine::new(alloc, &self.source(), &self.lines, self.tab, line)
     }
 
-    /// The width at which a line stands wrapped, or 0.
+    /// The width at which a line is wrapped, or 0.
     fn line_width(&self, line: u32) -> u32
         requires { line < length self.now.marks }
         ensures width { result ≡ (slice_index_or self.now.marks line (plain_mark 0)).width }
@@ -162,11 +162,12 @@ impl Sheet {
         Ok(())
     }
 
-    /// The rows from number `first` on, as many as there are up to `count`.
+    /// The rows from number `first` on, counted from 0, as many as there are up to `count` (*Rows*).
     pub fn rows(&self, alloc: Global, first: u32, count: u32) -> Result<Vec<Shown>, NoMemory>
         ensures { IfOk result (λ shown.
             shown_rows shown.items ≡ take count (drop first (rows_of self.now))) }
     {
+        // For the proof: the record is lawful, so its rows can be counted.
         self.lawful();
         let stands = self.block_lines(alloc)?;
         let stands = stands.as_slice();
@@ -196,7 +197,7 @@ impl Sheet {
         Ok(rows.pop())
     }
 
-    /// The lines that stand wrapped: maximal runs of neighbours at one width.
+    /// The wrapped lines: maximal runs of neighbours at one width.
     pub fn marks(&self, alloc: Global) -> Result<Vec<MarkRun>, NoMemory>
         ensures { IfOk result (λ runs. runs.items ≡ mark_runs self.now) }
     {
@@ -226,7 +227,7 @@ impl Sheet {
         })
     }
 
-    /// The bytes of the text from `start` up to `end`, two boundaries in order.
+    /// The text from the byte `start` up to the byte `end`, two boundaries in order.
     pub fn slice(&self, alloc: Global, start: u32, end: u32) -> Result<Text, NoMemory>
         requires start { IsBoundary self.now.text start }
         requires end { IsBoundary self.now.text end }

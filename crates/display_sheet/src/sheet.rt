@@ -1,4 +1,4 @@
-//! A record as a display keeps it: its lists, its display lines laid out, and how each stands wrapped.
+//! A record as a display keeps it: its lists, its display lines laid out, and how each is wrapped.
 ghost use Rattle.std.specs.Prelude.{◌≡◌, ◌+◌, ◌≤◌, length, map, IfOk};
 ghost use Rattle.std.specs.Arc.{arc_value};
 ghost use Rattle.cell_units.specs.Record.{Record, opened};
@@ -131,14 +131,14 @@ fn first_line(text: &Buffer, lines: &FoldedLines, offset: u32) -> u32
     lines.line_of(text.row_start(offset), Bias::Left)
 }
 
-/// The display line behind the one that holds the end of an offset's row.
+/// The display line after the one that holds the end of an offset's row.
 fn end_line(text: &Buffer, lines: &FoldedLines, offset: u32) -> u32
     requires { offset ≤ length text.now }
     ensures { (r : Record) → HasLawfulEntries r → AreLinesOf (source_of r) lines.now →
         r.text ≡ text.now → result ≡ line_of_row_end r offset + 1 }
 {
     let last = lines.line_of(text.row_end(offset), Bias::Right);
-    // There is no line behind the last.
+    // There is no line after the last.
     last.saturating_add(1).min(lines.lines())
 }
 
@@ -175,40 +175,42 @@ impl Sheet {
         &self.text
     }
 
-    /// The inlays, in order.
+    /// The inlays, by offset, bias (Left first) and id.
     pub fn inlays(&self) -> &[PlainInlay]
         ensures { map inlay_of result.now ≡ self.now.inlays }
     {
         self.inlays.as_slice()
     }
 
-    /// The folds, in order.
+    /// The folds, by start, end and id.
     pub fn folds(&self) -> &[PlainFold]
         ensures { map fold_of result.now ≡ self.now.folds }
     {
         self.folds.as_slice()
     }
 
-    /// The blocks, in order.
+    /// The blocks, by offset and id.
     pub fn blocks(&self) -> &[PlainBlock]
         ensures { map block_of result.now ≡ self.now.blocks }
     {
         self.blocks.as_slice()
     }
 
+    /// The tab size, in cells.
     pub fn tab(&self) -> u32
         ensures { result ≡ self.now.tab }
     {
         self.tab
     }
 
+    /// The width in cells at which lines are to be wrapped, and 0 where none is.
     pub fn width(&self) -> u32
         ensures { result ≡ self.now.width }
     {
         self.width
     }
 
-    /// How each display line stands.
+    /// How each display line is wrapped.
     pub fn wraps(&self) -> &Wraps
         ensures { marks_in result.now ≡ map (λ m. m.width) self.now.marks }
     {
@@ -219,6 +221,7 @@ impl Sheet {
     pub fn lawful(&self)
         ensures { IsLawful self.now }
     {
+        // For the proof: the record is lawful, as the type keeps.
         let _ = &self.tab;
     }
 

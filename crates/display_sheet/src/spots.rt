@@ -1,5 +1,5 @@
-//! Where offsets of a sheet are shown. Of each line its width and the rows before it are counted in one pass; only of the
-//! lines that are asked for the elements are made.
+//! Where offsets of a sheet are shown. Of each line its width and the rows before it are counted in one pass. Elements
+//! are made only of the lines that are asked for.
 ghost use Rattle.std.specs.Prelude.{◌≡◌, ◌≤◌, length, map, IfOk};
 ghost use Rattle.cell_units.specs.Text.{IsBoundary};
 ghost use Rattle.plain_rows.specs.Rows.{is_on, line_of_block};
@@ -13,14 +13,14 @@ use cell_units::{Bias, NoMemory, Side, Spot, Steps};
 use plain_rows::{LaidRows, PlainBlock, back_in, clip_in, show_in};
 use std::alloc::Global;
 
-/// Of each line the width at which it stands wrapped, and how many rows stand before its text rows.
+/// Of each line the width at which it is wrapped, and how many rows are before its text rows.
 #[derive(Drop)]
 struct LineCounts {
     widths: Vec<u32>,
     first_rows: Vec<u32>,
 }
 
-/// Whether the block stands on that side of its line.
+/// Whether the block is on that side of its line.
 fn stands_on(block: &PlainBlock, side: Side) -> bool
     ensures { result ≡ is_on side block.now.side }
 {
@@ -28,11 +28,12 @@ fn stands_on(block: &PlainBlock, side: Side) -> bool
 }
 
 impl Sheet {
-    /// How many rows of blocks stand on one side of each line. `stands` has of each block its line.
+    /// How many rows of blocks are on one side of each line. `stands` has of each block its line.
     fn block_rows(&self, alloc: Global, stands: &[u32], side: Side) -> Result<Vec<u32>, NoMemory>
         requires { stands.now ≡ map (line_of_block self.now) self.now.blocks }
         ensures { IfOk result (λ rows. HasBlockRows self.now side rows.items) }
     {
+        // For the proof: the record is lawful, so the rows of its blocks fit u32.
         self.lawful();
         let blocks = self.blocks();
         let mut rows = vec![in alloc; 0; self.lines() as usize]?;
@@ -45,7 +46,7 @@ impl Sheet {
         Ok(rows)
     }
 
-    /// How many rows stand before the text rows of each line.
+    /// How many rows are before the text rows of each line.
     fn first_rows(&self, alloc: Global) -> Result<Vec<u32>, NoMemory>
         ensures { IfOk result (λ rows. HasFirstRows self.now rows.items) }
     {
@@ -89,7 +90,7 @@ impl Sheet {
         }
     }
 
-    /// Where the boundary `offset` of the text is shown.
+    /// The row, and the column in cells, where the boundary `offset` of the text is shown (*Spots*).
     pub fn show(&self, alloc: Global, offset: u32, bias: Bias) -> Result<Spot, NoMemory>
         requires { IsBoundary self.now.text offset }
         ensures { IfOk result (λ spot. spot ≡ show self.now offset bias) }
@@ -99,7 +100,7 @@ impl Sheet {
         show_in(alloc, &rows, offset, bias, &mut Steps::new())
     }
 
-    /// The nearest spot at which some offset is shown.
+    /// The nearest spot at which some offset is shown (*Spots*).
     pub fn clip(&self, alloc: Global, spot: Spot, bias: Bias) -> Result<Spot, NoMemory>
         ensures { IfOk result (λ nearest. nearest ≡ clip self.now spot bias) }
     {
@@ -108,7 +109,7 @@ impl Sheet {
         clip_in(alloc, &rows, spot, bias, &mut Steps::new())
     }
 
-    /// The least offset (Left) or the greatest (Right) that is shown at the nearest such spot.
+    /// The least offset in bytes (Left) or the greatest (Right) that is shown at the nearest such spot (*Spots*).
     pub fn back(&self, alloc: Global, spot: Spot, bias: Bias) -> Result<u32, NoMemory>
         ensures { IfOk result (λ offset. offset ≡ back self.now spot bias) }
     {

@@ -1,4 +1,4 @@
-//! How the display lines of a sheet stand, in chunks that copies share.
+//! How the display lines of a sheet are wrapped, in chunks that copies share.
 ghost use Rattle.std.specs.Prelude.{◌≡◌, ◌+◌, ◌-◌, ◌<◌, ◌≤◌, ◌^◌, All, length, replicate, slice_index_or, slice_set, IfOk, OnOk, OnErr};
 ghost use Rattle.display_sheet.specs.Chunks.{AreChunks, joined};
 ghost use Rattle.display_sheet.specs.LineSplices.{spliced};
@@ -13,13 +13,13 @@ use std::sync::Arc;
 /// How many lines a chunk has. The last one may have fewer.
 pub const CHUNK: usize = 2048;
 
-/// How a line that was touched stands.
+/// How a line that was touched is wrapped.
 const FRESH: Wrapped = Wrapped { mark: 0, rows: 1 };
 
-/// How a display line stands.
+/// How a display line is wrapped.
 #[derive(Clone, Copy, Debug)]
 pub struct Wrapped {
-    /// The width at which it stands wrapped, or 0.
+    /// The width in cells at which it is wrapped, or 0.
     pub mark: u32,
     /// How many rows it has.
     pub rows: u32,
@@ -34,7 +34,7 @@ impl Wrapped {
     }
 }
 
-/// How some lines that follow each other stand, shared with copies.
+/// How some lines that follow each other are wrapped, shared with copies.
 #[derive(Drop)]
 pub(crate) struct Chunk {
     lines: Arc<Vec<Wrapped>>,
@@ -76,7 +76,7 @@ impl Chunk {
         self.lines.as_slice()
     }
 
-    /// How the line at a place stands.
+    /// How the line at a place is wrapped.
     fn get(&self, at: usize) -> Wrapped
         requires { at < length self.now }
         ensures { result ≡ slice_index_or self.now at result }
@@ -84,7 +84,7 @@ impl Chunk {
         self.lines[at]
     }
 
-    /// The line at a place stands so, in place where the chunk isn't shared and in a copy elsewhere.
+    /// The line at a place is wrapped so, in place where the chunk isn't shared and in a copy elsewhere.
     fn set(&mut self, alloc: Global, at: usize, wrapped: Wrapped) -> Result<(), NoMemory>
         requires { at < length self.old }
         ensures set { OnOk result (self.new ≡ slice_set self.old at wrapped) }
@@ -102,7 +102,7 @@ impl Chunk {
     }
 }
 
-/// How each display line stands. It is seen as a list with one entry for each line.
+/// How each display line is wrapped. It is seen as a list with one entry for each line.
 pub struct Wraps {
     chunks: Vec<Chunk>,
     len: u32,
@@ -149,7 +149,7 @@ fn chunked(alloc: Global, lines: &[Wrapped]) -> Result<Vec<Chunk>, NoMemory>
     Ok(chunks)
 }
 
-/// How many rows lines have that stand so.
+/// How many rows lines have that are wrapped so.
 fn rows_of_lines(lines: &[Wrapped]) -> u64
     requires { length lines.now < 2 ^ 32 }
     ensures rows { result ≡ rows_of_lines lines.now }
@@ -183,7 +183,7 @@ fn after_splice(
 }
 
 impl Wraps {
-    /// Lines that stand so.
+    /// Lines that are wrapped so.
     fn from_slice(alloc: Global, lines: &[Wrapped]) -> Result<Wraps, NoMemory>
         requires { length lines.now < 2 ^ 32 }
         ensures { IfOk result (λ wraps. wraps ≡ lines.now) }
@@ -220,7 +220,7 @@ impl Wraps {
         self.rows
     }
 
-    /// How a line stands.
+    /// How a line is wrapped.
     pub fn get(&self, line: u32) -> Wrapped
         requires { line < length self.now }
         ensures { result ≡ slice_index_or self.now line result }
@@ -229,7 +229,7 @@ impl Wraps {
         self.chunks[line / CHUNK].get(line % CHUNK)
     }
 
-    /// A line stands so. What copies share isn't changed.
+    /// A line is wrapped so. What copies share isn't changed.
     pub(crate) fn set(&mut self, alloc: Global, line: u32, wrapped: Wrapped) -> Result<(), NoMemory>
         requires { line < length self.old }
         ensures set { OnOk result (self.new ≡ slice_set self.old line wrapped) }
@@ -268,7 +268,7 @@ impl Wraps {
         Ok(list)
     }
 
-    /// The lines after a splice, of which the new ones stand unwrapped.
+    /// The lines after a splice, of which the new ones are unwrapped.
     pub(crate) fn spliced(&self, alloc: Global, splice: LineSplice) -> Result<Wraps, NoMemory>
         requires order { splice.first ≤ splice.end }
         requires within { splice.end ≤ length self.now }

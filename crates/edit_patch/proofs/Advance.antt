@@ -128,7 +128,7 @@ answers-second_taken f e xs ys r h x a =
     answers-advanced f e.old_start xs (e ∷ ys) r h x (omega arith)
     (answers-second (advanced f e.old_start) e xs ys r (stands-advanced f e.old_start xs (e ∷ ys) h x (omega arith)) (reach_of-advanced f e.old_start) a)
 
--- so there is always a rest that answers all
+-- so there is always a rest that says all
 pub rest : (n : ℕ) (f : Front) (xs ys : List Edit) → length xs + length ys ≤ n → Stands f xs ys → (r : List Edit) × Answers f xs ys r
 rest n f [] [] l h = (open_edit f, answers-end f h)
 rest zero f (e ∷ xs) ys l h = absurd (omega arith)

@@ -1,4 +1,4 @@
--- What the rest of a merge has to answer, and how it does step by step.
+-- What the rest of a merge has to say, and how it does step by step.
 use Rattle.std.proofs.Common.{◌≡◌, ℕ, ◌+◌, ◌-◌, ◌<◌, ◌≤◌, max, List, [], ◌∷◌, Option, Some, None, ap, sym, ◌∙◌, arith, ⊎_elim}
 use Rattle.std.specs.Prelude.{option_and_then}
 use Rattle.std.proofs.lemmas.Bool.{cases_lt}
@@ -10,20 +10,20 @@ use Rattle.edit_patch.specs.Merge.{reach_of, with_first, with_second}
 use Rattle.edit_patch.proofs.Origin.{origin-kept, origin-new, origin-past}
 use Rattle.edit_patch.proofs.Shift.{IsShift, early, pass, and_then-some, and_then-none, and_then-same, beyond, beyond-below, beyond-above}
 
--- xs and ys are left of the two patches, and the front is in order
+-- xs and ys are left of the two patches, and where the merge is now is in order
 pub record Stands (f : Front) (xs ys : List Edit) : Type 0 where
   pub first : IsPatchFrom 0 f.first.old f.first.new xs
   pub second : IsPatchFrom 0 f.second.old f.second.new ys
   pub old_order : f.start.old ≤ f.first.old
   pub new_order : f.start.new ≤ f.second.new
 
--- r, with which the result goes on from the open edit's start, answers all that xs and ys still say
+-- r, with which the result goes on from the open edit's start, says all that xs and ys still say
 pub record Answers (f : Front) (xs ys r : List Edit) : Type 0 where
   pub normal : IsPatchFrom 0 f.start.old f.start.new r
   pub came : (i : ℕ) → f.start.new ≤ i →
       origin_from f.start.old f.start.new r i ≡ option_and_then (beyond f.first.old f.first.new xs) (beyond f.second.old f.second.new ys i)
 
--- the same behind an edit that is closed at the place (o, m, n), m being in the middle text
+-- the same after an edit that is closed at the place (o, m, n), m being in the middle text
 pub record AnswersBehind (o m n : ℕ) (xs ys r : List Edit) : Type 0 where
   pub normal : IsPatchFrom 1 o n r
   pub came : (i : ℕ) → n ≤ i → origin_from o n r i ≡ option_and_then (origin_from o m xs) (origin_from m n ys i)
@@ -82,7 +82,7 @@ farther o n o2 n2 [] s pos h = tt
 farther o n o2 n2 (e ∷ r) s pos h = let a = h.0 in
     (record { kept = omega arith; even = omega arith; old_order = a.old_order; new_order = a.new_order; some = a.some }, h.1)
 
--- behind a closed edit, at a kept position or more, another is opened
+-- after a closed edit, at a kept position or more, another is opened
 pub behind-opened : (o m n o2 m2 n2 : ℕ) (xs ys r : List Edit) → IsShift o m o2 m2 → IsShift m n m2 n2 → m < m2 →
     IsPatchFrom 0 o2 m2 xs → IsPatchFrom 0 m2 n2 ys →
     Answers (record { start = record { old = o2; new = n2 }; first = record { old = o2; new = m2 }; second = record { old = m2; new = n2 } }) xs ys r →

@@ -29,7 +29,7 @@ ends f = record {
   least = least-max f.first.new f.second.old;
 }
 
--- what stands behind the open edit, once it is closed
+-- what comes after the open edit, once it is closed
 closed-behind : (f : Front) (o m n : ℕ) (xs ys r : List Edit) → Ends f o m n → IsPatchFrom 0 o m xs → IsPatchFrom 0 m n ys →
     AnswersBehind o m n xs ys r → (i : ℕ) → n ≤ i →
     origin_from o n r i ≡ option_and_then (beyond f.first.old f.first.new xs) (beyond f.second.old f.second.new ys i)

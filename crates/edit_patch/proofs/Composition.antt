@@ -11,7 +11,7 @@ use Rattle.edit_patch.proofs.Shift.{and_then-same, beyond, beyond-above}
 use Rattle.edit_patch.proofs.Answers.{Stands, Answers}
 use Rattle.edit_patch.proofs.Advance.{rest}
 
--- what a merge answers from its beginning is the composition
+-- what a merge returns from its beginning is the composition
 pub composed : (a b c : List Edit) → IsPatch b → Answers begun a b c → IsComposed a b c
 composed a b c y h = record {
   normal = h.normal;

@@ -15,7 +15,7 @@ use Rattle.edit_patch.proofs.Inverse.{forth}
 abbrev pub IsInside : ℕ → ℕ → Edit → Type 0
 IsInside old new e = (e.old_end ≤ old) × (e.new_end ≤ new)
 
--- the edits lie within lists of these lengths, and behind (o, n) the lengths agree with them
+-- the edits lie within lists of these lengths, and after (o, n) the lengths agree with them
 record Reaches (o n old new : ℕ) (es : List Edit) : Type 0 where
   within : All (IsInside old new) es
   lengths : old + n + sum_by added_count es ≡ new + o + sum_by removed_count es

@@ -1,4 +1,4 @@
--- The way back: the inverse of a patch is a patch, by which i came from j exactly where by the patch j came from i.
+-- The inverse of a patch is a patch. By it i came from j exactly where by the patch j came from i.
 use Rattle.std.proofs.Common.{◌≡◌, ℕ, ◌+◌, ◌-◌, ◌≤◌, List, [], ◌∷◌, map, Some, ap, sym, subst, refl, ◌∙◌, arith, ⊎_elim}
 use Rattle.std.proofs.lemmas.Bool.{cases_lt}
 use Rattle.edit_patch.specs.declared.edit.Edit.{Edit}

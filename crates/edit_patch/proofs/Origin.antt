@@ -13,7 +13,7 @@ origin-kept o n e es i h = cond-true _ _ _ (lt-ltb _ _ h)
 pub origin-new : (o n : ℕ) (e : Edit) (es : List Edit) (i : ℕ) → e.new_start ≤ i → i < e.new_end → origin_from o n (e ∷ es) i ≡ None
 origin-new o n e es i h k = cond-false _ _ _ (le-ltb _ _ h) ∙ cond-true _ _ _ (lt-ltb _ _ k)
 
--- behind it
+-- after it
 pub origin-past : (o n : ℕ) (e : Edit) (es : List Edit) (i : ℕ) → e.new_start ≤ i → e.new_end ≤ i →
     origin_from o n (e ∷ es) i ≡ origin_from e.old_end e.new_end es i
 origin-past o n e es i h k = cond-false _ _ _ (le-ltb _ _ h) ∙ cond-false _ _ _ (le-ltb _ _ k)
@@ -24,7 +24,7 @@ nearer gap o n [] h = tt
 nearer gap o n (e ∷ es) h = let a = h.0 in
     (record { kept = omega arith; even = a.even; old_order = a.old_order; new_order = a.new_order; some = a.some }, h.1)
 
--- right behind an edit stands a kept position
+-- right after an edit is a kept position
 pub origin-behind : (o n : ℕ) (es : List Edit) → IsPatchFrom 1 o n es → origin_from o n es n ≡ Some o
 origin-behind o n [] h = ap Some (omega arith)
 origin-behind o n (e ∷ es) h = let a = h.0 in origin-kept o n e es n (omega arith) ∙ ap Some (omega arith)

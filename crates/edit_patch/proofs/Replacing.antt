@@ -71,7 +71,7 @@ same_outside before removed added after i j g =
     (cases_lt i (length before + length added)))
     (cases_lt i (length before))
 
--- and fits what stood there before and what stands there then
+-- and fits what was there before and what is there then
 pub fits-replacement : {A : Type 0} (before removed added after : List A) →
     Fits (replacement (length before) (length before + length removed) (length added)) (before ++ removed ++ after) (before ++ added ++ after)
 fits-replacement before removed added after =

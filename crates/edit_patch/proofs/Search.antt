@@ -136,7 +136,7 @@ pub origin-inside : (es : List Edit) (i b : ℕ) (e : Edit) → IsPatch es → b
     i < e.new_end → origin_of es i ≡ None
 origin-inside es i b e h l s g lt = origin-last es i b e h l s g ∙ cond-true _ _ _ (lt-ltb _ _ lt)
 
--- behind it
+-- after it
 pub origin-outside : (es : List Edit) (i b : ℕ) (e : Edit) → IsPatch es → b ≤ length es → IsSplit new_start es i b → last_of es b ≡ Some e →
     e.new_end ≤ i → origin_of es i ≡ Some (e.old_end + (i - e.new_end))
 origin-outside es i b e h l s g le = origin-last es i b e h l s g ∙ cond-false _ _ _ (le-ltb _ _ le)

@@ -32,7 +32,7 @@ and_then-some f o j h = ap (option_and_then f) h
 pub and_then-none : (f : ℕ → Option ℕ) (o : Option ℕ) → o ≡ None → option_and_then f o ≡ None
 and_then-none f o h = ap (option_and_then f) h
 
--- behind q only what stands at q or later is asked
+-- after q only what is at q or later is asked
 pub and_then-same : (gap q n : ℕ) (ys : List Edit) (f g : ℕ → Option ℕ) (i : ℕ) → IsPatchFrom gap q n ys → n ≤ i → ((j : ℕ) → q ≤ j → f j ≡ g j) →
     option_and_then f (origin_from q n ys i) ≡ option_and_then g (origin_from q n ys i)
 and_then-same gap q n [] f g i ok h same = same (q + (i - n)) (omega arith)
@@ -44,7 +44,7 @@ and_then-same gap q n (e ∷ ys) f g i ok h same = let kept = ok.0 in
     (cases_lt i e.new_end))
     (cases_lt i e.new_start)
 
--- nothing below n, and from there on what the edits say
+-- nothing before n, and from there on what the edits say
 abbrev pub beyond : ℕ → ℕ → List Edit → ℕ → Option ℕ
 beyond o n es i = cond (ltb i n) None (origin_from o n es i)
 

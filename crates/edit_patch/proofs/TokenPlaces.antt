@@ -1,4 +1,4 @@
--- What stands at the places of tokens, and replacements of it.
+-- What is at the places of tokens, and replacements of it.
 use Rattle.std.proofs.Common.{◌≡◌, ℕ, ◌+◌, List, [], ◌∷◌, ◌++◌, length, map, take, drop, refl, sym, ap, ◌∙◌, arith, append_assoc, length-append}
 use Rattle.std.specs.List.{flat_map}
 use Rattle.std.proofs.lemmas.List.{length-map, map-append}
@@ -8,7 +8,7 @@ use Rattle.cell_units.specs.Inlaid.{Token, bytes_of}
 use Rattle.edit_patch.specs.LayerLeads.{token_places}
 use Rattle.edit_patch.specs.Leads.{Leads, Reach}
 
--- what stands at the places of tokens
+-- what is at the places of tokens
 abbrev pub at_places : List Token → List Token
 at_places ts = flat_map token_places ts
 
@@ -30,7 +30,7 @@ module _ (moved : Token → Token) (places : (t : Token) → token_places (moved
   at_places-map [] = refl
   at_places-map (t ∷ ts) = (λ i. places t i ++ at_places-map ts i) ∙ sym (map-append moved (token_places t) (at_places ts))
 
-  -- two lists of tokens that have their fronts in common, and of which the one's end is the other's, moved
+  -- two lists of tokens with the same prefix, and of which the one's end is the other's, moved
   pub leads-by_parts : (front mid mid' end : List Token) (s : Reach) →
       s.start ≡ length (at_places front) → s.end ≡ length (at_places (front ++ mid)) → s.start + s.count ≡ length (at_places (front ++ mid')) →
       Leads (map moved) (at_places ((front ++ mid) ++ end)) (at_places ((front ++ mid') ++ map moved end)) s

@@ -37,7 +37,7 @@ same_edit e f a b c d =
     ap (λ (x : ℕ). edit x e.old_end e.new_start e.new_end) a ∙ ap (λ (x : ℕ). edit f.old_start x e.new_start e.new_end) b
     ∙ ap (λ (x : ℕ). edit f.old_start f.old_end x e.new_end) c ∙ ap (λ (x : ℕ). edit f.old_start f.old_end f.new_start x) d
 
--- the same behind any place
+-- the same after any place
 unique-from : (gap o n : ℕ) (es fs : List Edit) → IsPatchFrom gap o n es → IsPatchFrom gap o n fs →
     ((i : ℕ) → n ≤ i → origin_from o n es i ≡ origin_from o n fs i) → es ≡ fs
 unique-from gap o n [] [] h k same = refl

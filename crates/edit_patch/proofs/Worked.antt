@@ -9,7 +9,7 @@ use Rattle.edit_patch.specs.Patch.{IsPatch, IsComposed, AllFit}
 use Rattle.edit_patch.proofs.Origin.{origin-kept, origin-new, origin-past}
 use Rattle.edit_patch.proofs.Composition.{one_composition}
 
--- what the one edit says of a position before it, inside it and behind it
+-- what the one edit says of a position before it, inside it and after it
 one-kept : (e : Edit) (i : ℕ) → i < e.new_start → origin_of (e ∷ []) i ≡ Some i
 one-kept e i h = origin-kept 0 0 e [] i h ∙ ap Some (omega arith)
 

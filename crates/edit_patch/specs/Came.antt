@@ -6,8 +6,8 @@ use Rattle.edit_patch.specs.declared.edit.Edit.{Edit}
 abbrev pub edit_of : ℕ → ℕ → ℕ → ℕ → Edit
 edit_of a b c d = record { old_start = a; old_end = b; new_start = c; new_end = d }
 
--- where the new position i came from, behind what ends at `old` and `new`: before the next edit as far behind `old`
--- as it is behind `new`, inside that edit from nowhere, and behind it where the other edits say
+-- where the new position i came from, after what ends at `old` and `new`. Before the next edit it came from as far
+-- after `old` as it is after `new`. Inside that edit it came from nowhere, and after it from where the other edits say
 abbrev pub origin_from : ℕ → ℕ → List Edit → ℕ → Option ℕ
 origin_from old new [] i = Some (old + (i - new))
 origin_from old new (e ∷ es) i =
@@ -30,7 +30,7 @@ IsNew es i = Any (λ e. (e.new_start ≤ i) × (i < e.new_end)) es
 abbrev pub IsReplaced : List Edit → ℕ → Type 0
 IsReplaced es j = Any (λ e. (e.old_start ≤ j) × (j < e.old_end)) es
 
--- f answers none inside the new ranges, and makes the other positions correspond, in order, to those that stay
+-- f gives none inside the new ranges, and makes the other positions correspond, in order, to those that stay
 pub record CorrespondsInOrder (es : List Edit) (f : ℕ → Option ℕ) : Type 0 where
   pub new : (i : ℕ) → IsNew es i ↔ (f i ≡ None)
   pub stays : (j : ℕ) → ((i : ℕ) × (f i ≡ Some j)) ↔ (¬ IsReplaced es j)

@@ -4,7 +4,8 @@ use Rattle.cell_units.specs.Layers.{Source}
 use Rattle.edit_patch.specs.LayerLeads.{LayerLeads}
 use Rattle.edit_patch.specs.Leads.{Reach}
 
--- The replacement that covers both, of which the second replaces what the first has left: it reaches over what either replaced.
+-- The replacement that covers both, of which the second replaces what the first has left: it reaches over what either
+-- replaced.
 abbrev pub covering : Reach → Reach → Reach
 covering first second =
     let start = min first.start second.start in
@@ -27,8 +28,8 @@ with_pending None second = second
 with_pending (Some first) None = Some first
 with_pending (Some first) (Some second) = Some (covering first second)
 
--- Where one replacement of a layer's text leads to a second layer while the buffer's text stays, and another from that to a
--- third, the one that covers both leads from the first layer to the third.
+-- One replacement of a layer's text leads to a second layer while the buffer's text stays, and another leads from that
+-- to a third. Then the one that covers both leads from the first layer to the third.
 abbrev pub CoverLeads : Type 0
 CoverLeads = (shift : Option Reach) (a b c : Source) (first second : Reach) → first.start ≤ first.end → second.start ≤ second.end
     → LayerLeads None a b (Some first) → LayerLeads shift b c (Some second) → LayerLeads shift a c (Some (covering first second))

@@ -28,7 +28,8 @@ MeetsOld es first last = Any (λ e. HaveCommon e.old_start e.old_end first last)
 abbrev pub MeetsNew : List Edit → ℕ → ℕ → Type 0
 MeetsNew es first last = Any (λ e. HaveCommon e.new_start e.new_end first last) es
 
--- the patch that puts `count` positions in the place of those from `start` up to `end`: no edit where nothing replaces nothing
+-- the patch that puts `count` positions in the place of those from `start` up to `end`: no edit where nothing replaces
+-- nothing
 abbrev pub replacement : ℕ → ℕ → ℕ → List Edit
 replacement start end count =
     if nat_lt start end || nat_lt 0 count then edit_of start end start (start + count) ∷ [] else []

@@ -7,7 +7,7 @@ use Rattle.cell_units.specs.Folded.{folded_to}
 use Rattle.cell_units.specs.Layers.{Source, place_of}
 use Rattle.edit_patch.specs.Leads.{LeadsIfAny, Reach}
 
--- the offset of a byte behind a replacement of the buffer's text, or before it
+-- the offset of a byte after a replacement of the buffer's text, or before it
 abbrev pub offset_after : Option Reach → ℕ → ℕ
 offset_after None o = o
 offset_after (Some s) o = move o Right s.start s.end s.count
@@ -22,7 +22,7 @@ token_after s (Hidden o) = Hidden (offset_after s o)
 abbrev pub token_places : Token → List Token
 token_places t = map (λ b. t) (bytes_of t)
 
--- what stands at each place of a layer's text
+-- what is at each place of a layer's text
 abbrev pub layer_places : Source → List Token
 layer_places source = flat_map token_places (folded_to source.text source.inlays source.folds (length source.text) Right)
 
@@ -30,7 +30,7 @@ layer_places source = flat_map token_places (folded_to source.text source.inlays
 abbrev pub LayerLeads : Option Reach → Source → Source → Option Reach → Type 0
 LayerLeads shift old new answer = LeadsIfAny (map (token_after shift)) (layer_places old) (layer_places new) answer
 
--- the places from the left one of an offset to the right one of another, in whose stead `count` bytes stand
+-- the places from the left one of an offset to the right one of another, which `count` bytes replace
 abbrev pub shown_shift : Source → ℕ → ℕ → ℕ → Reach
 shown_shift source start end count = record { start = place_of source start Left; end = place_of source end Right; count = count }
 

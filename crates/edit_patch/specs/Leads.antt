@@ -2,7 +2,7 @@
 use Rattle.std.specs.Prelude.{◌≡◌, ℕ, ◌+◌, ◌≤◌, List, take, drop, length, Option, Some, None}
 use Rattle.cell_units.specs.declared.place.Shift.{Shift}
 
--- a replacement by its numbers: `count` items stand where those from `start` to `end` stood
+-- a replacement by its numbers: `count` items replace those from `start` to `end`
 pub record Reach : Type 0 where
   pub start : ℕ
   pub end : ℕ
@@ -11,7 +11,7 @@ pub record Reach : Type 0 where
 abbrev pub reach_of : Shift → Reach
 reach_of s = record { start = s.start; end = s.end; count = s.count }
 
--- The replacement lies within both lists. What stands before it is the same in both, and so is what stands behind it, moved.
+-- The replacement lies within both lists. What is before it is the same in both, and so is what is after it, moved.
 pub record Leads {X : Type 0} (moved : List X → List X) (old new : List X) (s : Reach) : Type 0 where
   pub within : s.end ≤ length old
   pub reaches : s.start + s.count ≤ length new
@@ -23,7 +23,7 @@ abbrev pub LeadsIfAny : {X : Type 0} → (List X → List X) → List X → List
 LeadsIfAny moved old new None = new ≡ old
 LeadsIfAny moved old new (Some s) = Leads moved old new s
 
--- what stands behind a replacement stays as it was
+-- what is after a replacement stays as it was
 abbrev pub unmoved : {X : Type 0} → List X → List X
 unmoved xs = xs
 

@@ -52,7 +52,7 @@ pub record IsBounded (f : Front) : Type 0 where
   pub second_old : f.second.old < 2 ^ 32
   pub second_new : f.second.new < f.second.old + 2 ^ 32
 
--- the open edit ends behind its start, and where it is not empty its positions are u32
+-- the open edit ends after its start, and where it is not empty its positions are u32
 pub record IsClosable (f : Front) : Type 0 where
   pub bounded : IsBounded f
   pub old_order : f.start.old ≤ f.first.old

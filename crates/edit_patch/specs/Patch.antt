@@ -3,7 +3,7 @@ use Rattle.std.specs.Prelude.{◌≡◌, ℕ, ◌+◌, ◌^◌, ◌<◌, ◌≤�
 use Rattle.edit_patch.specs.declared.edit.Edit.{Edit}
 use Rattle.edit_patch.specs.Came.{origin_of}
 
--- e may follow what ends at `old` and `new`: behind at least `gap` kept positions, as many on both sides
+-- e may follow what ends at `old` and `new`: after at least `gap` kept positions, as many on both sides
 pub record IsNext (gap old new : ℕ) (e : Edit) : Type 0 where
   pub kept : old + gap ≤ e.old_start
   pub even : e.old_start + new ≡ e.new_start + old

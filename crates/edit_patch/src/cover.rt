@@ -6,8 +6,8 @@ ghost use Rattle.edit_patch.specs.Leads.{reach_of};
 
 use cell_units::Shift;
 
-/// The replacement that covers both, of which the second replaces what the first has left; the second alone where there is
-/// no first.
+/// The replacement that covers both, of which the second replaces what the first has left. It is the second alone where
+/// there is no first.
 pub fn with_pending(first: Option<Shift>, second: Shift) -> Shift
     requires { ForSome first (λ f. CoverFits (reach_of f) (reach_of second)) }
     ensures { let both = with_pending (option_map reach_of first) (Some (reach_of second)) in

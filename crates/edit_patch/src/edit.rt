@@ -1,8 +1,8 @@
-//! One edit of a patch.
+//! One edit of a patch: which new positions replace which old ones.
 ghost use Rattle.std.specs.Prelude.{◌≡◌, ◌↔◌, ℕ, IsTrue};
 
-/// A replacement: the new positions from `new_start` up to `new_end` stand where the old ones from `old_start` up to
-/// `old_end` stood. The ends are exclusive.
+/// A replacement: the new positions from `new_start` up to `new_end` replace the old ones from `old_start` up to
+/// `old_end`. The ends are exclusive.
 #[derive(Clone, Copy, Debug, PartialEq, Eq)]
 pub struct Edit {
     pub old_start: u32,
@@ -27,7 +27,7 @@ impl Edit {
         }
     }
 
-    /// Whether the edit may follow, in a patch, what ends at `old` and `new`, behind at least `gap` kept positions.
+    /// Whether the edit may follow, in a patch, what ends at `old` and `new`, after at least `gap` kept positions.
     pub(crate) fn follows(&self, gap: u32, old: u32, new: u32) -> bool
         ensures { IsTrue result ↔ IsNext gap old new self.now }
     {

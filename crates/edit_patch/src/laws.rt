@@ -30,8 +30,8 @@ pub fn one_composition()
     ensures one { (a b c d : List Edit) → IsComposed a b c → IsComposed a b d → c ≡ d }
 {}
 
-/// It does not matter which two of three patches are composed first, the patch of no edit changes nothing, and the way
-/// back from a composition goes back through the second patch first.
+/// It does not matter which two of three patches are composed first, and the patch of no edit changes nothing. The
+/// inverse of a composition is that of the second patch and then that of the first.
 pub fn composition()
     ensures associative { (a b c ab bc x y : List Edit) →
         IsComposed a b ab → IsComposed ab c x → IsComposed b c bc → IsComposed a bc y → x ≡ y }
@@ -59,21 +59,21 @@ pub fn replacing<T>()
         (before ++ removed ++ after) (before ++ added ++ after) }
 {}
 
-/// Ranges that are not backwards have a place in common where neither is behind the other. What an edit meets in the
-/// old text its inverse meets in the new one.
+/// Ranges that are not backwards have a place in common where neither is after the other. What an edit meets in the old
+/// text its inverse meets in the new one.
 pub fn meeting()
     ensures order { (start end first last : ℕ) → start ≤ end → first ≤ last →
         HaveCommon start end first last ↔ ((start ≤ last) × (first ≤ end)) }
     ensures inverse { (a : List Edit) (first last : ℕ) → MeetsNew (inverted a) first last ↔ MeetsOld a first last }
 {}
 
-/// Where one replacement leads from a list to a second, and another from that to a third, the one that covers both leads from
-/// the first to the third.
+/// One replacement leads from a list to a second, and another from that to a third. Then the one that covers both leads
+/// from the first to the third.
 pub fn covering_laws()
     ensures { CoverLeads }
 {}
 
-/// Of the new positions of a replacement the next patch deletes all but the first, and the position behind them.
+/// Of the new positions of a replacement the next patch deletes all but the first, and the position after them.
 pub fn delete_across_an_edge()
     ensures composed { IsComposed (edit_of 2 4 2 5 ∷ []) (edit_of 3 6 3 3 ∷ []) (edit_of 2 5 2 3 ∷ []) }
     ensures new { origin_of (edit_of 2 5 2 3 ∷ []) 2 ≡ None }

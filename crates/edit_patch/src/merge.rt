@@ -1,9 +1,9 @@
 //! The merge of two patches, of which the second applies to what the first made, into the one that composes them.
 //!
-//! The edits of both are taken by where they begin in the middle text, which is the new one of the first patch and the
-//! old one of the second. Those whose closed middle ranges touch make one edit of the result, or none where it is empty
-//! on both sides, as where an insertion is deleted again. Between two of these both patches keep a middle position, so
-//! no edit of the result has to be joined or dropped later, and one pass is enough.
+//! The edits of both are taken by where they begin in the middle text. That is the new one of the first patch, and the
+//! old one of the second. Those whose closed middle ranges touch make one edit of the result. They make none where it
+//! is empty on both sides, as where an insertion is deleted again. Between two of these both patches keep a middle
+//! position. So no edit of the result has to be joined or dropped later, and one pass is enough.
 ghost use Rattle.std.specs.Prelude.{◌≡◌, ℕ, ◌^◌, ◌<◌, ◌++◌, [], List, IfOk};
 ghost use Rattle.edit_patch.specs.declared.edit.Edit.{Edit};
 ghost use Rattle.edit_patch.specs.Patch.{IsPatch, IsComposed, AllFit};
@@ -24,7 +24,7 @@ pub struct Place {
 pub struct Front {
     /// Where the open edit of the result begins.
     pub start: Place,
-    /// Behind the last edit that was taken of the first patch, or a kept position later.
+    /// After the last edit that was taken of the first patch, or a kept position later.
     pub first: Place,
     /// The same of the second patch.
     pub second: Place,
@@ -73,7 +73,7 @@ impl Front {
         }
     }
 
-    /// The front where another edit is open, which begins at the middle place.
+    /// Where the merge is once another edit is open, which begins at the middle place.
     fn opened_at(&self, middle: u64) -> Front
         requires bounded { IsBounded self.now }
         requires reached { reach_of self.now ≤ middle }

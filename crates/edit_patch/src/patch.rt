@@ -11,8 +11,9 @@ use cell_units::{NoMemory, Refusal, Shift};
 use std::alloc::Global;
 use std::marker::Model;
 
-/// A list of edits in order, none empty on both sides, with at least one kept position between neighbours, and as many
-/// kept positions before and between edits on the old side as on the new. Contracts see it as that list.
+/// A list of edits in order (*Patches*), none empty on both sides, with at least one kept position between neighbours.
+/// Before and between edits there are as many kept positions on the old side as on the new. Contracts see it as that
+/// list.
 pub struct Patch {
     edits: Vec<Edit>,
 }
@@ -36,7 +37,7 @@ impl Model for Patch {
 }
 
 impl Patch {
-    /// The patch by which every position came from itself. It takes no memory.
+    /// The patch by which every position came from itself. It allocates nothing.
     pub fn none(alloc: Global) -> Patch
         ensures { result ≡ [] }
     {
@@ -45,7 +46,7 @@ impl Patch {
         }
     }
 
-    /// The patch of these edits. `BadRange` exactly where no patch has them. It takes no memory.
+    /// The patch of these edits. `BadRange` exactly where no patch has them. It allocates nothing.
     pub fn of(edits: Vec<Edit>) -> Result<Patch, Refusal>
         ensures accepted { IsOk result ↔ IsPatch edits.items }
         ensures value { IfOk result (λ p. p ≡ edits.items) }
@@ -58,7 +59,8 @@ impl Patch {
         }
     }
 
-    /// The patch of one replacement: of one edit, or of none where nothing replaces nothing. All positions of it must be u32.
+    /// The patch of one replacement: of one edit, or of none where nothing replaces nothing. All positions of it must
+    /// be u32.
     pub fn of_shift(alloc: Global, shift: Shift) -> Result<Patch, NoMemory>
         requires { shift.start + shift.count < 2 ^ 32 }
         ensures { IfOk result (λ p. p ≡ replacement shift.start shift.end shift.count) }
@@ -83,7 +85,7 @@ impl Patch {
         self.edits.as_slice()
     }
 
-    /// The patch of this one and then `later`: a position came from where `later` and then this one say, and is new
+    /// The patch of this one and then `later`: a position came from where `later` and then this one say. It is new
     /// where either says so. All positions of the result must be u32. It takes one pass over both.
     pub fn compose(&self, alloc: Global, later: &Patch) -> Result<Patch, NoMemory>
         requires { (c : List Edit) → IsComposed self.now later.now c → AllFit c }

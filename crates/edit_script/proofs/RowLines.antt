@@ -22,7 +22,7 @@ drop-get zero (x ∷ xs) = refl
 drop-get (suc n) [] = refl
 drop-get (suc n) (x ∷ xs) = drop-get n xs
 
--- the row that was made stands first among those that are left
+-- the row that was made is first among those that are left
 first-of : (rest : List Shown) (more : List Row) (k : ℕ) (shown : Shown) → map row_of_shown rest ≡ take k more → slice_get rest 0 ≡ Some shown
     → (slice_get more 0 ≡ Some (row_of_shown shown)) × (map row_of_shown (drop 1 rest) ≡ take (k - 1) (drop 1 more))
 first-of [] more k shown e is = cc
@@ -46,7 +46,7 @@ lines-of next (suc left) (r ∷ more) row is some =
     let count : left ≡ suc left - 1 = omega arith in
     (ap (λ r. Some (row_line next r)) same, ap (λ k. row_lines (next + 1) (take k more)) count)
 
--- the next row, its line, and what is left behind it
+-- the next row, its line, and what is left after it
 pub record IsNextRow (made : List Shown) (used next left : ℕ) (rows : List Row) (line : List ℕ) : Type 0 where
   pub line_is : Some line ≡ slice_get (rows_in next left rows) 0
   pub rest_is : rows_in (next + 1) (left - 1) rows ≡ drop 1 (rows_in next left rows)

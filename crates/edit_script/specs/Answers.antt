@@ -26,7 +26,7 @@ rows_seen r = plain.rows_of (present_of r.view.now)
 abbrev pub rows_left : RowsLeft → List (List ℕ)
 rows_left r = rows_in r.next r.left (rows_seen r)
 
--- the same behind a line that comes before them
+-- the same after a line that comes before them
 abbrev pub lines_left : Option (List ℕ) → List (List ℕ) → List (List ℕ)
 lines_left None lines = lines
 lines_left (Some head) lines = head ∷ lines

@@ -35,7 +35,7 @@ pub data Command : Type 0 where
   AskCaret : CaretQuery → Command
   Settle : Command
 
--- the command that a value of the program stands for
+-- the command of a value of the program
 abbrev pub meaning : Asked → Command
 meaning (asks.Change change) = Apply (parts_of change)
 meaning (asks.Query query) = Ask query
@@ -291,7 +291,7 @@ command_at form text keys.Select value = option_map AskCaret (select_in value)
 abbrev pub command_named : Form → List ℕ → List ℕ → Data → Option Command
 command_named form text name value = option_and_then (λ key. command_at form text key value) (key_of name)
 
--- an object that has exactly one key, as that key and its value. Of equal keys the last stands
+-- an object that has exactly one key, as that key and its value. Of equal keys the last counts
 abbrev pub only_member : Members → Option (List ℕ × Data)
 only_member (member name value no_members) = Some (name, value)
 only_member _ = None

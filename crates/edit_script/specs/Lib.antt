@@ -1,3 +1,4 @@
+-- What the crate promises
 pub mod Commands
 pub mod Verdict
 pub mod Script

@@ -91,7 +91,7 @@ abbrev pub verdict : Form → Record → List ℕ → Verdict
 verdict form r line =
     if nat_lt LINE_LIMIT (length line) then Refused TooLong else form_verdict r (command_of form r.text line)
 
--- a question is answered where every line stands wrapped at the width
+-- a question is answered where every line is wrapped at the width
 abbrev pub query_wants_settled : Query → Bool
 query_wants_settled (queries.Rows first count) = true
 query_wants_settled (queries.Peek first count) = false
@@ -106,15 +106,15 @@ wants_settled (Ask query) = query_wants_settled query
 wants_settled (AskCaret query) = true
 wants_settled Settle = true
 
--- what reading gives of the command that a line has, if it has one: that command, or why there is none that a display
--- can be asked. Out of memory may come at any time
+-- what reading gives of the command that a line has, if it has one. It is that command, or why there is none that a
+-- display can be asked. Out of memory may come at any time
 abbrev pub IsReadAs : Option Command → Result Asked Unread → Type 0
 IsReadAs command (Ok asked) = (command ≡ Some (meaning asked)) × (is_over (meaning asked) ≡ false)
 IsReadAs command (Err unread.NoForm) = command ≡ None
 IsReadAs command (Err unread.IdOver) = option_map is_over command ≡ Some true
 IsReadAs command (Err unread.NoMemory) = Unit {0}
 
--- why a line is not read on a text: it is over the limit, or else it is no command, or else an id of it is over the
+-- why a line is not read on a text: it is over the limit. Or else it is no command, or else an id of it is over the
 -- greatest number. Out of memory comes only where it is text within the limit
 abbrev pub IsLineRefused : Form → List ℕ → List ℕ → Fault → Type 0
 IsLineRefused form text line (faults.Refused TooLong) = LINE_LIMIT < length line

@@ -71,7 +71,7 @@ impl<'a> RowsLeft<'a> {
     fn next_line(&mut self, alloc: Global, steps: &mut Steps) -> Result<Option<Text>, NoMemory>
         requires { AreMade self.old }
 
-        // What was made still comes next. The first row that is left is answered, and the others are left then.
+        // What was made still comes next. The first row that is left is returned, and the others are left then.
         ensures made { AreMade self.new }
         ensures line { IfOk result (λ line. line ≡ slice_get (rows_left self.old) 0) }
         ensures rest { OnOk result (rows_left self.new ≡ drop 1 (rows_left self.old)) }
@@ -131,8 +131,8 @@ impl<'a> Answer<'a> {
         }
     }
 
-    /// The next line, without a line feed; `None` past the last. The rows that are made of a display line for it are kept
-    /// for the lines after it. After out of memory the same line comes next.
+    /// The next line, without a line feed; `None` past the last. The rows that are made of a display line for it are
+    /// kept for the lines after it. After out of memory the same line comes next.
     pub fn next_line(&mut self, alloc: Global, steps: &mut Steps) -> Result<Option<Text>, NoMemory>
         ensures line { IfOk result (λ line. line ≡ slice_get self.old 0) }
         ensures rest { OnOk result (self.new ≡ drop 1 self.old) }

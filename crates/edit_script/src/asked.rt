@@ -1,4 +1,4 @@
-//! What a line asks.
+//! What a line of a script asks: a change, a query, a question about a caret, or to settle.
 use cell_units::{Bias, Motion, Spot};
 use display_map::Change;
 

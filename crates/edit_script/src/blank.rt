@@ -5,8 +5,8 @@ ghost use Rattle.edit_script.specs.Verdict.{is_blank, is_blank_byte};
 /// The greatest length of a line, in bytes.
 pub const LINE_LIMIT: usize = 1_048_576;
 
-/// Whether a line is blank, so that it is skipped: it is within the limit of 1,048,576 bytes, and has only spaces,
-/// tabs and carriage returns.
+/// Whether a line is blank, so that it is skipped. A blank line is within the limit of 1,048,576 bytes, and has only
+/// spaces, tabs and carriage returns.
 pub fn skipped(line: &[u8]) -> bool
     ensures { result ≡ is_blank line.now }
 {

@@ -25,8 +25,8 @@ ghost use Rattle.edit_script.specs.Laws.{IsWritable, two_rows, written_edit, wri
 ghost use Rattle.edit_script.specs.Script.{asking_from, filled_from, form_of, is_header};
 ghost use Rattle.edit_script.specs.Printed.{refusal_text, row_lines};
 
-/// What reading a line says of the verdict on it, on every record of the text. A question about a caret is never refused.
-/// It does nothing.
+/// What reading a line says of the verdict on it, on every record of the text. A question about a caret is never
+/// refused. It does nothing.
 pub fn verdict_laws()
     ensures unread { (form : Form) (r : Record) (line : List ℕ) (refusal : Refusal)
         → IsLineRefused form r.text line (faults.Refused refusal) → verdict form r line ≡ Refused refusal }
@@ -39,8 +39,8 @@ pub fn verdict_laws()
         → verdict form r line ≡ Accepted (AskCaret query) }
 {}
 
-/// The line that is written for an edit is read as that edit, whatever its numbers and texts, and the line that is
-/// written for a question for rows as that question. It does nothing.
+/// The line that is written for an edit is read as that edit, whatever its numbers and texts. The line that is written
+/// for a question for rows is read as that question. It does nothing.
 pub fn written_laws()
     ensures edit { (text : List ℕ) (splices : List Splice) → All IsWritable splices
         → command_of First text (written_edit splices) ≡ Some (Apply (Edit splices)) }
@@ -49,8 +49,8 @@ pub fn written_laws()
         → command_of First text (written_rows first count) ≡ Some (Ask (queries.Rows first count)) }
 {}
 
-/// What the header of a script changes: a command without points stays what it is, a blank line and the header are skipped,
-/// and no other line. It does nothing.
+/// What the header of a script changes. A command without points stays what it is, a blank line and the header are
+/// skipped, and no other line. It does nothing.
 pub fn form_laws()
     ensures extends { (text line : List ℕ) (command : Command)
         → command_of First text line ≡ Some command → command_of Second text line ≡ Some command }

@@ -1,7 +1,7 @@
-//! The script: what its lines ask, and how answers and refusals print.
+//! The lines of a script: what each asks, and how answers and refusals print.
 //!
-//! The crate promises that a line is read as the command that it is, or refused where it is none; that a line of an
-//! answer is the line that the rows of the view's record give; and that a refusal prints as its number.
+//! The crate promises that a line is read as the command that it is, or refused where it is none. A line of an answer
+//! is the line that the rows of the view's record give, and a refusal prints as its number.
 #![tactic(auto)]
 
 pub mod answer_lines;

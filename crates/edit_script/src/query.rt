@@ -12,8 +12,8 @@ use cell_units::{Fault, NoMemory, Refusal, Spot, Steps, Text};
 use display_map::{MarkRun, View};
 use std::alloc::Global;
 
-/// Why a view refuses a query, if it does: one that shows an offset, past the end of the text or off a boundary. Out of
-/// memory is no refusal.
+/// Why a view refuses a query, if it does. Only one that shows an offset is refused, past the end of the text or off a
+/// boundary. The offset counts bytes. Out of memory is no refusal.
 pub fn query_refusal(
     alloc: Global,
     view: &View,
@@ -33,7 +33,7 @@ pub fn query_refusal(
 }
 
 /// The lines that answer a query on a view, one after the other. A query that shows an offset is refused as `BadRange`
-/// where the offset is past the end of the text or off a boundary; no other is refused.
+/// where that is past the end of the text or off a boundary. The offset counts bytes. No other query is refused.
 pub fn answer<'a>(
     alloc: Global,
     view: &'a View,

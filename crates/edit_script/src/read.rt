@@ -1,4 +1,4 @@
-//! Reading a line.
+//! Reading a line of a script: its JSON text, its one key, and that key's value.
 ghost use Rattle.std.specs.Prelude.{◌≡◌, ◌≤◌, ◌<◌, false, length, Some, IfOk, OnOk, IfErr};
 ghost use Rattle.serde_json.specs.View.{view as data_of};
 ghost use Rattle.display_map.specs.Replay.{present_of};
@@ -49,14 +49,15 @@ impl From<AllocError> for Unread {
     }
 }
 
-/// What a line asks, in this form of a script and on this view's text. A line is one JSON text, an object of exactly one
-/// key. An edit, an inlay, a fold, a block, the tab size and the width are changes; `settle` asks only that every display
-/// line is wrapped at the width; `rows`, `peek`, `display`, `buffer` and `clip` are queries, and `move` and `select` ask
-/// about a caret. The README of this crate has the value of each key. A point of the second form is asked as the offset that it has in the view's text.
+/// What a line asks, in this form of a script and on this view's text (*Commands and verdicts*). A line is one JSON
+/// text, an object of exactly one key. An edit, an inlay, a fold, a block, the tab size and the width are changes.
+/// `settle` asks only that every display line is wrapped at the width. `rows`, `peek`, `display`, `buffer` and `clip`
+/// are queries, and `move` and `select` ask about a caret. The README of this crate has the value of each key. A point
+/// of the second form is asked as the offset that it has in the view's text.
 ///
 /// A number that is no id and doesn't fit 32 bits counts as the greatest that does. A line over 1,048,576 bytes is
-/// refused as `TooLong`, any other that is no such text as `NotCommand`, and else one with an id over 4,294,967,295 as
-/// `BadNumber`. Only a line that is UTF-8 and within the limit takes memory.
+/// refused as `TooLong`. Any other that is no such text is refused as `NotCommand`, and else one with an id over
+/// 4,294,967,295 as `BadNumber`. Only a line that is UTF-8 and within the limit takes memory.
 pub fn read_line(
     alloc: Global,
     line: &[u8],

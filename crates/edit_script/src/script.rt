@@ -11,9 +11,9 @@ use cell_units::NoMemory;
 use serde_json::Value;
 use std::alloc::Global;
 
-/// Whether a line is a header: it is within the limit of 1,048,576 bytes, and is one JSON text, an object whose one key is
-/// `script` and whose value is the number 2. A script whose first line that isn't blank is a header has the second form,
-/// and that line is skipped. Only a line that is UTF-8 and within the limit takes memory.
+/// Whether a line is a header: it is within the limit of 1,048,576 bytes and is one JSON text. This is an object whose
+/// one key is `script` and whose value is the number 2. A script whose first line that isn't blank is a header has the
+/// second form, and that line is skipped. Only a line that is UTF-8 and within the limit takes memory.
 pub fn header(alloc: Global, line: &[u8]) -> Result<bool, NoMemory>
     ensures header { IfOk result (λ is. is ≡ is_header line.now) }
     ensures memory { OnErr result ((length line.now ≤ LINE_LIMIT) × IsUtf8 line.now) }

@@ -121,7 +121,7 @@ module _ (s : Source) (js : List JoinedFold) (alls : AreAllJoined s.folds (lengt
   pub window-is : IsWindow folds m.window
   window-is = stay.0
 
-  -- those behind it
+  -- those after it
   dropped : drop m.last js ≡ met.back
   dropped =
       ap (drop m.last) (met.parts ∙ sym (append_assoc met.front met.met met.back))

@@ -1,4 +1,4 @@
--- The splices after a change: those before it, others for those that it met, and those behind it with a new first gap.
+-- The splices after a change: those before it, others for those that it met, and those after it with a new first gap.
 use Rattle.std.proofs.Common.{◌≡◌, ℕ, ◌+◌, ◌-◌, ◌<◌, ◌≤◌, false, List, [], ◌∷◌, ◌++◌, length, map, take, drop, refl, sym, ap, ◌∙◌, arith, append_assoc, length-append}
 use Rattle.std.specs.List.{All}
 use Rattle.std.proofs.lemmas.List.{drop_at, take_at}
@@ -60,7 +60,7 @@ module _ (low low' : Source) (start end last : ℕ) (same : AreSameAround low lo
       λ i. record { gap = gap i; old = old i; new = record { buffer = size i; bytes = length placeholder; feeds = 0 }; load = record {} } in
       λ i. first i ∷ back-same j.end js n a.1 (omega (arith, l, order, some)) u i
 
-  -- those behind the change, with the gap before the first of them measured anew
+  -- those after the change, with the gap before the first of them measured anew
   pub regapped-same : (e base : ℕ) (back : List JoinedFold) (n : ℕ) (gap : Amount) → AreJoined folds e back n → All (λ j. end < j.start) back → n ≤ length low.text
       → ((j : JoinedFold) (more : List JoinedFold) → back ≡ j ∷ more → gap ≡ amount_between low' base Left (on j.start) Right)
       → with_first_gap gap (splices_from low e back) ≡ splices_from low' base (map (moved_fold end last) back)
@@ -98,7 +98,7 @@ module _ (low low' : Source) (start end last : ℕ) (same : AreSameAround low lo
       ∙ ap (λ l. splices_from low' 0 front ++ l) (sym (splices-append low' (last_end 0 front) fresh (map (moved_fold end last) back)))
       ∙ sym (splices-append low' 0 front (fresh ++ map (moved_fold end last) back))
 
--- ---- joined folds stand at boundaries
+-- ---- joined folds are at boundaries
 
 module _ (text : List ℕ) (inlays : List Inlay) (folds : List Fold) (are : AreFolds text folds) (ends : EndBy folds (length text)) where
   abbrev low : Source

@@ -47,14 +47,14 @@ module _ (folds : List Fold) where
     behind o [] to a = omega arith
     behind o (j ∷ js) to a = omega (arith, a.0.order, a.0.some, behind j.end js to a.1)
 
-  -- each ends behind where they begin
+  -- each ends after where they begin
   pub ends-behind : (from : ℕ) (js : List JoinedFold) (to : ℕ) → AreJoined folds from js to → All (λ j. from < j.end) js
   ends-behind from [] to a = All-nil (λ (j : JoinedFold). from < j.end)
   ends-behind from (j ∷ js) to a = All-cons (λ (i : JoinedFold). from < i.end) j js (omega (arith, a.0.order, a.0.some)) (further js (ends-behind j.end js to a.1)) where
     further : (is : List JoinedFold) → All (λ i. j.end < i.end) is → All (λ i. from < i.end) is
     further is h k d l = let x = h k d l in omega (arith, x, a.0.order, a.0.some)
 
-  -- those from an index on end behind an offset where the first of them does
+  -- those from an index on end after an offset where the first of them does
   pub ends-further : (from : ℕ) (js : List JoinedFold) (to o : ℕ) → AreJoined folds from js to → ((j : JoinedFold) (rest : List JoinedFold) → js ≡ j ∷ rest → o < j.end) → All (λ j. o < j.end) js
   ends-further from [] to o a h = All-nil (λ (j : JoinedFold). o < j.end)
   ends-further from (j ∷ js) to o a h = All-cons (λ (i : JoinedFold). o < i.end) j js (h j js refl) (further js (ends-behind j.end js to a.1)) where
@@ -87,7 +87,7 @@ head-or d [] = d
 head-or d (j ∷ js) = j
 
 module _ (low : Source) (folds : List Fold) where
-  -- the splice of an index stands for the joined fold of that
+  -- the splice of an index is that of the joined fold there
   pub next-is : (base : ℕ) (js : List JoinedFold) (to n : ℕ) → AreJoined folds base js to → option_map (joined_behind (last_end base (take n js))) (slice_get (splices_from low base js) n) ≡ slice_get js n
   next-is base [] to zero a = refl
   next-is base [] to (suc n) a = refl

@@ -1,4 +1,4 @@
--- What is copied of a line's pieces from one place to another: the front of the rest of them.
+-- What is copied of a line's pieces from one place to another: the prefix of the rest of them.
 use Rattle.std.proofs.Common.{◌≡◌, ℕ, ◌+◌, ◌-◌, ◌<◌, ◌≤◌, ◌⊎◌, min, max, Bool, cond, eqb, ltb, List, [], ◌∷◌, ◌++◌, length, take, drop, flat_map, refl, sym, ap, ◌∙◌, subst, inl, inr, arith, append-nil, append_assoc, length-append, take_all}
 use Rattle.std.proofs.lemmas.Bool.{cases_lt, le-leb, le-ltb, lt-leb, lt-ltb, ne_eqb}
 use Rattle.std.proofs.lemmas.List.{length-drop}
@@ -39,7 +39,7 @@ none-copied : (from to begin : ℕ) (ps : List Piece) → to ≤ begin → copie
 none-copied from to begin [] le = refl
 none-copied from to begin (p ∷ ps) le = (λ i. none-one from to begin p (omega (arith, le)) i ++ none-copied from to (begin + length p.text) ps (omega (arith, le)) i)
 
--- ---- fronts and rests
+-- ---- prefixes and rests
 
 front-none : (ps : List Piece) → Every HasBytes ps → front_pieces 0 ps ≡ []
 front-none [] h = refl

@@ -1,4 +1,4 @@
--- Lines of tokens of which the front ends with a break.
+-- Lines of tokens of which the prefix ends with a break.
 use Rattle.std.proofs.Common.{◌≡◌, ℕ, suc, zero, ◌+◌, ◌<◌, ◌≤◌, Bool, true, false, cond, List, [], ◌∷◌, ◌++◌, length, get_or, refl, sym, ap, ◌∙◌, inl, inr, ◌⊎◌, arith, append-nil, append_assoc}
 use Rattle.std.specs.List.{count_by}
 use Rattle.std.proofs.lemmas.List.{get_or-append-add}
@@ -17,7 +17,7 @@ breaks-cons t ts = sum_by-cons (λ (u : Token). cond (is_break u) 1 0) t ts
 
 -- ---- up to a break
 
--- Tokens up to the break of a number, which is counted from 1, and those behind it.
+-- Tokens up to the break of a number, which is counted from 1, and those after it.
 pub record IsCutAt (ts : List Token) (r : ℕ) : Type 0 where
   pub front : List Token
   pub back : List Token
@@ -67,7 +67,7 @@ length-lines (t ∷ u ∷ us) h = go (is_break t) (breaks-cons t (u ∷ us)) (li
       ap (λ (ls : List (List Token)). length (onto_line t ls)) r.2
       ∙ (let same : length (r.0 ∷ r.1) ≡ count_by is_break (t ∷ u ∷ us) = omega (arith, ap (λ (ls : List (List Token)). length ls) r.2, n, e) in same)
 
--- ---- the line behind the front, and its last line
+-- ---- the line after the prefix, and its last line
 
 pub first-line : (t : Token) (ts : List Token) → get_or (cut_lines is_break (t ∷ ts)) 0 [] ≡ upto is_break (t ∷ ts)
 first-line t ts = go (upto-ended is_break true t ts) where
@@ -82,7 +82,7 @@ first-line t ts = go (upto-ended is_break true t ts) where
       let all : t ∷ ts ≡ upto is_break (t ∷ ts) = sym whole ∙ ap (λ (l : List Token). upto is_break (t ∷ ts) ++ l) h ∙ append-nil (upto is_break (t ∷ ts)) in
       ap (λ (l : List Token). get_or (cut_lines is_break l) 0 []) all ∙ ap (λ (ls : List (List Token)). get_or ls 0 []) (lines-upto is_break t ts)
 
--- the line that begins behind a front that ends with a break
+-- the line that begins after a prefix that ends with a break
 pub line-behind : (front : List Token) (t : Token) (ts : List Token) (line : ℕ) → Ended front → count_by is_break front ≡ line → get_or (cut_lines is_break (front ++ t ∷ ts)) line [] ≡ upto is_break (t ∷ ts)
 line-behind front t ts line closed e =
     let long : length (cut_lines is_break front) ≡ line = length-lines front closed ∙ e in
@@ -102,7 +102,7 @@ module _ (text : List ℕ) where
   some-break e t [] h = omega (arith, breaks-cons t [] ∙ ap (λ (c : Bool). cond c 1 0 + 0) h)
   some-break e t (u ∷ us) h = omega (arith, breaks-cons t (u ∷ us), some-break (is_break t) u us h)
 
-  -- one line, whatever stands behind it
+  -- one line, whatever comes after it
   upto-one : (e : Bool) (ts ys : List Token) → ended is_break e ts ≡ true → count_by is_break ts ≡ 1 → upto is_break (ts ++ ys) ≡ ts
   upto-one e [] ys h n = absurd (omega (arith, n))
   upto-one e (t ∷ ts) ys h n = go (is_break t) refl ts h (breaks-cons t ts) (λ k. upto-one false ts ys k) where
@@ -114,7 +114,7 @@ module _ (text : List ℕ) where
         let one : count_by is_break us ≡ 1 = omega (arith, e, n, ap (λ (c : Bool). cond {A = ℕ} c 1 0) b) in
         ap (λ (c : Bool). t ∷ cond c [] (upto is_break (us ++ ys))) b ∙ ap (λ (l : List Token). t ∷ l) (next (ap (λ (c : Bool). ended is_break c us) (sym b) ∙ h) one)
 
-  -- the last line of a front that ends with a break
+  -- the last line of a prefix that ends with a break
   pub end-of_line : (front ys : List Token) (line : ℕ) → Ended front → count_by is_break front ≡ suc line → span_end text (get_or (cut_lines is_break (front ++ ys)) line []) ≡ span_end text front
   end-of_line front ys line closed e = go c.back c.is one ended-back where
     c : IsCutAt front line

@@ -33,7 +33,7 @@ same-splices s ps qs p q = p.spliced ∙ ap (splices_from (unfolded s) 0) (one-l
 
 -- ---- a part of a gap
 
--- what is left of a gap behind some of its tokens
+-- what is left of a gap after some of its tokens
 abbrev pub left_of : List Token → Amount → Amount
 left_of kept g = record { buffer = g.buffer; bytes = g.bytes - size kept; feeds = g.feeds - count_by is_break kept }
 
@@ -41,7 +41,7 @@ abbrev pub regap : List Token → List (Piece Amount NoLoad) → List (Piece Amo
 regap kept [] = []
 regap kept (p ∷ ps) = regapped (left_of kept p.gap) p ∷ ps
 
--- A line begins behind what splices cover and a part of the gap that follows.
+-- A line begins after what splices cover and a part of the gap that follows.
 pub record AtLine (c : Source) (ps : List (Piece Amount NoLoad)) (all_below all_above : List Token) (n r : ℕ) : Type 0 where
   pub offset : ℕ
   pub front_below : List Token
@@ -157,7 +157,7 @@ none-of (t ∷ ts) e = absurd (some t (omega (arith, e, size-append (t ∷ []) t
     go (InlayByte o id b) e = omega (arith, e)
     go (Hidden o) e = omega (arith, e)
 
--- tokens below and above begin at one offset
+-- tokens of the lower layer and tokens shown begin at one offset
 pub begins-alike : (s : Source) (base : ℕ) (ps : List (Piece Amount NoLoad)) (below above : List Token) (o : ℕ) → AreSpliced s base ps below above → BeginAt o (below ++ closing s ∷ []) → BeginAt o (above ++ closing s ∷ [])
 begins-alike c base [] below above o s b = subst (λ (l : List Token). BeginAt o (l ++ closing c ∷ [])) s b
 begins-alike c base (p ∷ ps) below above o (a, i, s) b = go a.gap i.below_is i.above_is where
@@ -220,7 +220,7 @@ module _ (s : Source) (ps : List (Piece Amount NoLoad)) (are : AreSplices s ps) 
     upper-feeds : at.before.upper.feeds ≡ (sums (take n ps)).upper.feeds
     upper-feeds = ap (λ x. x.upper.feeds) start.before
 
-    -- it is the first line, or begins behind a line feed in the gap
+    -- it is the first line, or begins after a line feed in the gap
     first-or : 0 < n → 0 < r
     first-or some = omega (arith, start.first.short some, upper-feeds)
 
@@ -280,7 +280,7 @@ module _ (s : Source) (ps : List (Piece Amount NoLoad)) (are : AreSplices s ps) 
     line-of front [] k h e = line-behind front c [] k h e
     line-of front (t ∷ ts) k h e = line-behind front t (ts ++ c ∷ []) k h e
 
-    -- the tokens of the line below and of the line
+    -- the tokens of the lower layer's line and of the line
     pub tokens-below : line_tokens (unfolded s) at.below ≡ upto is_break (at-line.below ++ c ∷ [])
     tokens-below =
         ap (λ (l : List Token). get_or (cut_lines is_break l) at.below []) cut-below

@@ -139,7 +139,7 @@ module _ (s : Source) (ps : List (Piece Amount NoLoad)) (are : AreSplices s ps) 
 
   -- ---- where one ends
 
-  -- The line of the layer below ends in the row in which the display line ends.
+  -- The lower layer's line ends in the row in which the display line ends.
   pub record IsLastBelow (line below : ℕ) : Type 0 where
     pub there : below < length (shown_lines (unfolded s))
     pub row : span_end s.text (line_tokens s line) ≡ span_end s.text (line_tokens (unfolded s) below)

@@ -1,4 +1,4 @@
--- Where the pieces of the line below are cut: between characters, and so that all are copied.
+-- Where the pieces of the lower layer's line are cut: between characters, and so that all are copied.
 use Rattle.std.proofs.Common.{◌≡◌, ◌≢◌, ℕ, suc, ◌+◌, ◌-◌, ◌<◌, ◌≤◌, ◌^◌, ◌⊎◌, Bool, true, false, cond, eqb, List, [], ◌∷◌, ◌++◌, length, length-append, take, drop, slice_range, get_or, Some, refl, sym, ap, ◌∙◌, subst, inl, inr, arith, append_assoc}
 use Rattle.std.specs.List.{All, slice_get}
 use Rattle.std.specs.Str.{IsCharBoundary}
@@ -239,7 +239,7 @@ module _ (s : Source) (ps : List (Piece Amount NoLoad)) (are : AreSplices s ps) 
       abbrev start : ℕ
       start = (sums (take index ps)).lower.buffer + p.gap.buffer
 
-      -- and so on behind it
+      -- and so on after it
       pub goes-on : IsWalk s ps line (index + 1) (hidden + p.old.bytes) (below_line + p.old.feeds)
           ((done ++ front_pieces (hidden - place) (rest_pieces (place - b.start) b.pieces.items)) ++ hidden_piece start (start + p.old.buffer) ∷ [])
       goes-on =

@@ -1,4 +1,5 @@
--- The pieces of a line, splice by splice: those of the layer below up to a placeholder, it, and so on behind what it stands for.
+-- The pieces of a line, splice by splice: those of the lower layer up to a placeholder, it, and so on after what it
+-- hides.
 use Rattle.std.proofs.Common.{◌≡◌, ◌≢◌, ℕ, suc, zero, ◌+◌, ◌-◌, ◌<◌, ◌≤◌, ◌⊎◌, Bool, true, false, cond, List, [], ◌∷◌, ◌++◌, length, take, drop, get_or, Some, refl, sym, ap, ◌∙◌, subst, inl, inr, arith, append_assoc}
 use Rattle.std.specs.List.{count_by, slice_get}
 use Rattle.std.proofs.lemmas.List.Sums.{sum_by-cons}
@@ -43,7 +44,7 @@ use Rattle.cell_units.specs.Inlaid.{bytes_of as bytes_of_token}
 abbrev IsFree : Token → Type 0
 IsFree t = is_break t ≡ false
 
--- behind tokens without a break
+-- after tokens without a break
 upto-free : (xs ys : List Token) → Every IsFree xs → upto is_break (xs ++ ys) ≡ xs ++ upto is_break ys
 upto-free [] ys f = refl
 upto-free (x ∷ xs) ys f = ap (λ (b : Bool). x ∷ cond b [] (upto is_break (xs ++ ys))) f.0 ∙ ap (λ (l : List Token). x ∷ l) (upto-free xs ys f.1)
@@ -62,7 +63,7 @@ none-free : (xs : List Token) → Every IsFree xs → count_by is_break xs ≡ 0
 none-free [] f = refl
 none-free (x ∷ xs) f = breaks-cons x xs ∙ ap (λ (b : Bool). cond b 1 0 + count_by is_break xs) f.0 ∙ omega (arith, none-free xs f.1)
 
--- with a break among them, what stands behind doesn't count
+-- with a break among them, what comes after doesn't count
 upto-front : (xs ys zs : List Token) → 0 < count_by is_break xs → upto is_break (xs ++ ys) ≡ upto is_break (xs ++ zs)
 upto-front [] ys zs h = absurd (omega (arith, h))
 upto-front (x ∷ xs) ys zs h = go (is_break x) (breaks-cons x xs) (λ k. upto-front xs ys zs k) where
@@ -71,9 +72,9 @@ upto-front (x ∷ xs) ys zs h = go (is_break x) (breaks-cons x xs) (λ k. upto-f
   go true n next = refl
   go false n next = ap (λ (l : List Token). x ∷ l) (next (omega (arith, h, n)))
 
--- ---- where the line starts that goes on behind tokens
+-- ---- where the line starts that goes on after tokens
 
--- the bytes behind a break at their end
+-- the bytes after a break at their end
 last-feed : (o : ℕ) (ts : List Token) (k : ℕ) → Ended ts → count_by is_break ts ≡ suc k → get_or (behind_feeds o (tokens_bytes ts)) k 0 ≡ o + size ts
 last-feed o [] k h e = absurd (omega (arith, e))
 last-feed o (t ∷ ts) k h e = go t h e (λ p j. last-feed p ts j) where
@@ -116,7 +117,7 @@ last-feed o (t ∷ ts) k h e = go t h e (λ p j. last-feed p ts j) where
       let r = next (o + 1 + 1 + 1) k (off false ts k h n) n in
       omega (arith, r, size-append (Hidden q ∷ []) ts)
 
--- a line starts behind all that ends with a break
+-- a line starts after all that ends with a break
 pub start-behind : (front ts : List Token) → Ended front → line_start (tokens_bytes (front ++ ts)) (count_by is_break front) ≡ size front
 start-behind front ts h = go (count_by is_break front) refl where
   go : (k : ℕ) → count_by is_break front ≡ k → line_start (tokens_bytes (front ++ ts)) (count_by is_break front) ≡ size front
@@ -160,7 +161,7 @@ regap-none (p ∷ ps) =
     let feeds : p.gap.feeds - 0 ≡ p.gap.feeds = omega arith in
     λ i. record { gap = record { buffer = p.gap.buffer; bytes = bytes i; feeds = feeds i }; old = p.old; new = p.new; load = p.load } ∷ ps
 
--- one splice more, below
+-- one splice more, in the lower layer
 lower-next : (ps : List (Piece Amount NoLoad)) (n : ℕ) (p : Piece Amount NoLoad) → slice_get ps n ≡ Some p
     → ((sums (take (n + 1) ps)).lower.buffer ≡ (sums (take n ps)).lower.buffer + (p.gap.buffer + p.old.buffer))
     × ((sums (take (n + 1) ps)).lower.bytes ≡ (sums (take n ps)).lower.bytes + (p.gap.bytes + p.old.bytes))
@@ -181,8 +182,8 @@ lower-next (q ∷ qs) (suc n) p e =
       omega (arith, ap (λ (k : ℕ). (sums (take k (q ∷ qs))).lower.feeds) one, r.2),
     )
 
--- So far the pieces `done` of a line stand there. On goes a line of the layer below, behind the tokens `front`, in the gap
--- before the splice of the index, or behind all.
+-- So far the pieces `done` of a line are there. Next is a line of the lower layer, after the tokens `front`, in the gap
+-- before the splice of the index, or after all.
 pub record IsWalk (s : Source) (ps : List (Piece Amount NoLoad)) (line index place below_line : ℕ) (done : List PieceShown) : Type 0 where
   pub offset : ℕ
   pub front : List Token
@@ -236,11 +237,11 @@ module _ (s : Source) (ps : List (Piece Amount NoLoad)) (are : AreSplices s ps) 
       }
 
   module _ (line index place below_line : ℕ) (done : List PieceShown) (w : IsWalk s ps line index place below_line done) where
-    -- what is left of the line below, and of the line
+    -- what is left of the lower layer's line, and of the line
     abbrev pub left_below : List Token
     left_below = upto is_break (w.below ++ c ∷ [])
 
-    -- The line below, of which some tokens are behind.
+    -- The lower layer's line, of which some tokens are passed.
     pub record IsHere : Type 0 where
       pub behind : List Token
       pub tokens : line_tokens (unfolded s) below_line ≡ behind ++ left_below
@@ -298,7 +299,7 @@ module _ (s : Source) (ps : List (Piece Amount NoLoad)) (are : AreSplices s ps) 
       omega (arith, here.size_is),
     )
 
-    -- what is left of the line below, as pieces
+    -- what is left of the lower layer's line, as pieces
     pub pieces-left : pieces_of left_below ≡ rest_pieces (place - line_start low below_line) (pieces_of (line_tokens (unfolded s) below_line))
     pieces-left = go left_below refl where
       from_size : size here.behind ≡ place - line_start low below_line
@@ -316,7 +317,7 @@ module _ (s : Source) (ps : List (Piece Amount NoLoad)) (are : AreSplices s ps) 
     finish : upto is_break (w.above ++ c ∷ []) ≡ left_below → pieces_of (line_tokens s line) ≡ done ++ rest_pieces (place - line_start low below_line) (pieces_of (line_tokens (unfolded s) below_line))
     finish e = w.pieces ∙ ap (λ (l : List Token). done ++ pieces_of l) e ∙ ap (λ (l : List PieceShown). done ++ l) pieces-left
 
-    -- behind all splices the line goes on to its end as the line below does
+    -- after all splices the line goes on to its end as the lower layer's line does
     pub walk-end : drop index ps ≡ [] → pieces_of (line_tokens s line) ≡ done ++ rest_pieces (place - line_start low below_line) (pieces_of (line_tokens (unfolded s) below_line))
     walk-end e =
         let same : w.below ≡ w.above = subst (λ (qs : List (Piece Amount NoLoad)). AreSpliced s w.offset (regap w.kept qs) w.below w.above) e w.rest in
@@ -375,7 +376,7 @@ module _ (s : Source) (ps : List (Piece Amount NoLoad)) (are : AreSplices s ps) 
           first [] h = absurd h
           first (t ∷ us) h = (t, us, refl, h)
 
-        -- the rest of the line below, from what is hidden on
+        -- the rest of the lower layer's line, from what is hidden on
         abbrev pub later : List Token
         later = cond (is_break own.0) [] (upto is_break ((own.1 ++ a.below) ++ c ∷ []))
 
@@ -439,7 +440,8 @@ module _ (s : Source) (ps : List (Piece Amount NoLoad)) (are : AreSplices s ps) 
                   ∙ sym (append_assoc done (done_more ++ hidden_piece start (start + p.old.buffer) ∷ []) (pieces_of rest_there));
             }
 
-      -- behind a splice on it the line goes on: up to what is hidden as the line below, and then with a placeholder
+      -- after a splice on it the line goes on: up to what is hidden as the lower layer's line, and then with a
+      -- placeholder
       pub walk-on : lower.feeds + p.gap.feeds ≡ below_line
           → IsWalk s ps line (index + 1) (hidden + p.old.bytes) (below_line + p.old.feeds)
           (done ++ (front_pieces (hidden - place) (rest_pieces (place - line_start low below_line) (pieces_of (line_tokens (unfolded s) below_line))) ++ hidden_piece start (start + p.old.buffer) ∷ []))

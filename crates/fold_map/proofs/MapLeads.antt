@@ -54,7 +54,7 @@ module _ (folds : List Fold) where
 
 -- ---- open positions with the places of others
 
--- a position before all that is at the offset or behind it, with its left place
+-- a position before all that is at the offset or after it, with its left place
 record CutFront (v : Source) (start : ℕ) : Type 0 where
   offset : ℕ
   bias : Bias
@@ -64,7 +64,7 @@ record CutFront (v : Source) (start : ℕ) : Type 0 where
   below : place_of (unfolded v) offset bias ≤ place_of (unfolded v) start Left
   before : Every (λ t. offset_of t < start) (folded_to v.text v.inlays [] offset bias)
 
--- a position behind all that is before the offset, with its right place
+-- a position after all that is before the offset, with its right place
 record CutBack (v : Source) (end : ℕ) : Type 0 where
   offset : ℕ
   bias : Bias
@@ -125,7 +125,7 @@ module _ (v : Source) (js : List JoinedFold) (all : AreAllJoined v.folds (length
             end_open = λ same. absurd (omega (arith, same, past));
           }
 
--- what stands before an open position is what stood there below, folded
+-- what is before an open position is what was there in the lower layer, folded
 place-folded : (v : Source) (o : ℕ) (bias : Bias) → o ≤ length v.text → inside v.folds o ≡ false
     → place_of v o bias ≡ length (at_places (fold_each v.folds (take (place_of (unfolded v) o bias) (bare v.text v.inlays))))
 place-folded v o bias u out =

@@ -1,4 +1,4 @@
--- Where offsets stand in layers without folds of which a replacement leads from the one to the other.
+-- Where offsets are in layers without folds of which a replacement leads from the one to the other.
 use Rattle.std.proofs.Common.{◌≡◌, ℕ, zero, suc, ◌+◌, ◌-◌, ◌<◌, ◌≤◌, ◌==◌, cond, filter, get_or, List, [], ◌∷◌, ◌++◌, length, map, take, drop, Option, refl, sym, ap, ◌∙◌, subst, inl, inr, ◌⊎◌, arith, length-append}
 use Rattle.std.specs.List.{count_by, flat_map}
 use Rattle.std.proofs.lemmas.Bool.{cases_lt}
@@ -89,7 +89,7 @@ module _ (text : List ℕ) (inlays : List Inlay) where
   abbrev L : List Token
   L = bare text inlays
 
-  -- ---- the token of a byte stands at its right place, and nowhere else
+  -- ---- the token of a byte is at its right place, and nowhere else
 
   pub record ByteAt (o : ℕ) : Type 0 where
     pub byte : ℕ
@@ -162,7 +162,7 @@ module _ (text : List ℕ) (inlays : List Inlay) where
         length-append front (inlays_at inlays o),
       )
 
-  -- the line of a position, by what stands before its place
+  -- the line of a position, by what is before its place
   line-at : (o : ℕ) (bias : Bias) → o ≤ length text → line_of text inlays [] o bias ≡ count_by is_break (take (place o bias) L)
   line-at o bias l = ap (count_by is_break) (sym (take-bare text inlays o bias l))
 
@@ -199,7 +199,7 @@ module _ (shift : Option Reach) (text text' : List ℕ) (inlays inlays' : List I
       let e : o + 1 ≡ suc o = omega arith in
       omega (arith, a, b, right-before o (omega (arith, l)), ap (λ k. P k Left) e, ap (λ k. P' k Left) e)
 
-  -- what stands before a place up to it
+  -- what is before a place up to it
   same-before : (k : ℕ) → k ≤ s.start → count_by is_break (take k (bare text' inlays')) ≡ count_by is_break (take k (bare text inlays))
   same-before k l =
       ap (count_by is_break)
@@ -212,7 +212,7 @@ module _ (shift : Option Reach) (text text' : List ℕ) (inlays inlays' : List I
       ∙ same-before (P o bias) k
       ∙ sym (line-at text inlays o bias l)
 
-  -- ---- behind it
+  -- ---- after it
 
   abbrev base : ℕ
   base = s.start + s.count
@@ -281,7 +281,7 @@ module _ (shift : Option Reach) (text text' : List ℕ) (inlays inlays' : List I
       let c = past-end q (omega (arith, l)) (omega (arith, u)) in
       (left-behind o l u, omega (arith, a, c, ap (λ k. P k Left) e))
 
-  -- ---- lines behind it
+  -- ---- lines after it
 
   take-plus : (m n : ℕ) (xs : List Token) → take (m + n) xs ≡ take m xs ++ take n (drop m xs)
   take-plus m n xs =

@@ -76,7 +76,7 @@ module _ (shift : Option Reach) (old new : List Fold) where
       ∙ (λ i. (ap (λ l. length l) (places-after shift t) ∙ length-map (token_places t) moved) i + moved-size ts i)
       ∙ sym (length-append (token_places t) (at_places ts))
 
-  -- ---- two lists of tokens that have their fronts in common, and of which the one's end is the other's, moved
+  -- ---- two lists of tokens with the same prefix, and of which the one's end is the other's, moved
 
   module _ (L L' : List Token) (p q q' : ℕ) (order : p ≤ q) (order' : p ≤ q')
       (front : take p L' ≡ take p L) (behind : drop q' L' ≡ map moved (drop q L))
@@ -152,14 +152,14 @@ module _ (text : List ℕ) (inlays : List Inlay) where
   abbrev pub bare : List Token
   bare = folded_to text inlays [] (length text) Right
 
-  -- what the first bytes show before the inlays at their end, and behind them
+  -- what the first bytes show before the inlays at their end, and after them
   abbrev shown_left : List ℕ → List Token
   shown_left xs = show_each (shown inlays []) 0 xs
 
   abbrev shown_right : List ℕ → List Token
   shown_right xs = shown_left xs ++ inlays_at inlays (length xs)
 
-  -- what the rest shows behind the inlays at its start, which is at the offset
+  -- what the rest shows after the inlays at its start, which is at the offset
   abbrev pub behind-from : ℕ → List ℕ → List Token
   behind-from o [] = []
   behind-from o (c ∷ cs) = Byte o c ∷ (show_each (shown inlays []) (o + 1) cs ++ inlays_at inlays (o + 1 + length cs))
@@ -185,7 +185,7 @@ module _ (text : List ℕ) (inlays : List Inlay) where
   bare-is : bare ≡ shown_right text
   bare-is = ap (λ xs. show_each (shown inlays []) 0 xs ++ inlays_at inlays (length text)) (take_all (length text) text (omega arith))
 
-  -- what it shows behind a position
+  -- what it shows after a position
   abbrev pub rest_from : ℕ → Bias → List Token
   rest_from o Left = show_each (shown inlays []) o (drop o text) ++ inlays_at inlays (length text)
   rest_from o Right = behind-from o (drop o text)

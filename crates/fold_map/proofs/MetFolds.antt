@@ -65,7 +65,7 @@ module _ (folds : List Fold) where
     p-by : p ≤ c.start
     p-by = let x = last-bound 0 front c.start (omega arith) front-by in omega (arith, p-is, x)
 
-    -- the next one behind the middle starts by the change's end
+    -- the next one after the middle starts by the change's end
     module _ (j : JoinedFold) (more : List JoinedFold) (rest-is : rest ≡ j ∷ more) (near : j.start ≤ c.end) where
       met-parted : AreParted c.start c.end front (mid ++ j ∷ []) more
       met-parted =
@@ -84,7 +84,7 @@ module _ (folds : List Fold) where
           let far = All-head (λ (i : JoinedFold). c.end < i.end) j more (subst (All (λ (i : JoinedFold). c.end < i.end)) rest-is rest-behind) in
           omega (arith, last-more c.end mid j, far)
 
-    -- it starts behind that, or there is none
+    -- it starts after that, or there is none
     module _ (far : All (λ i. c.end < i.start) rest) where
       mid-parted : AreParted c.start c.end front mid rest
       mid-parted = record {

@@ -55,7 +55,7 @@ module _ (s : Source) (formed : IsWellFormed s) (a b : ℕ) (order : a ≤ b) (w
       let r = meets-between s formed a b order within line lt m in
       between-met s formed first last line first-in last-in lt (omega (arith, r.0, from)) (omega (arith, r.1, to))
 
--- places on the lines of the ends of the rows of the lines of the layer below that a replacement meets
+-- places on the lines of the ends of the rows of the lower layer's lines that a replacement meets
 module _ (s : Source) (formed : IsWellFormed s) (low : IsWellFormed (unfolded s)) (p q : ℕ) (order : p ≤ q) (within : q ≤ length (shown_text (unfolded s))) (first last : ℕ)
     (first-in : first ≤ length (shown_text s)) (last-in : last ≤ length (shown_text s))
     (from : row_of (shown_text s) first ≡ line_of s.text s.inlays s.folds (row_start_at (unfolded s) p) Left)
@@ -129,7 +129,7 @@ module _ (shift : Option Reach) (v v' : Source) (start end last : ℕ) (alike : 
 pub new-last_in : (shift : Option Reach) (v v' : Source) (r : Reach) → LayerLeads shift v v' (Some r) → r.start + r.count ≤ length (shown_text v')
 new-last_in shift v v' r leads = let u = leads.reaches in omega (arith, u, length-at_places (folded_to v'.text v'.inlays v'.folds (length v'.text) Right))
 
--- ---- a replacement of the layer below
+-- ---- a replacement of the lower layer
 
 taken : (shift : Option Reach) (text text' : List ℕ) (start : ℕ) → LeadsIfAny unmoved text text' shift → ((r : Reach) → shift ≡ Some r → start ≤ r.start) → take start text' ≡ take start text
 taken None text text' start led h = ap (take start) led

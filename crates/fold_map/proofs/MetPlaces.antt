@@ -92,7 +92,7 @@ module _ (shift : Option Reach) (v v' : Source) (r : Reach) (leads : Leads (map 
     count-moved shift (drop r.end (layer_places v)),
   )
 
--- ---- the line of a position, by what stands before it in the layer below
+-- ---- the line of a position, by what is before it in the lower layer
 
 -- the last of a list that ends in no break is not counted
 count-but_last : (e : Bool) (xs : List Token) → ended is_break e xs ≡ false → count_by is_break (take (length xs - 1) xs) ≡ count_by is_break xs
@@ -140,7 +140,7 @@ module _ (v : Source) where
   pub line-left : (o : ℕ) → o ≤ length v.text → line_of v.text v.inlays v.folds o Left ≡ breaks-in (take (place_of low o Left) L)
   line-left o u = left-folded o u ∙ ap breaks-in (sym (take-bare v.text v.inlays o Left u))
 
-  -- the breaks behind a position
+  -- the breaks after a position
   pub line-right : (o : ℕ) → o ≤ length v.text → line_of v.text v.inlays v.folds o Right + breaks-in (drop (place_of low o Right) L) ≡ all-feeds v
   line-right o u =
       let place = place_of low o Right in
@@ -157,7 +157,7 @@ module _ (v : Source) where
 
 -- ---- a change of folds, over a layer that a replacement led to
 
--- the byte at an offset is a break where that is shown, and that it may be strictly inside of a fold no longer changes nothing
+-- the byte at an offset is a break where that is shown; that it may no longer be strictly inside a fold changes nothing
 byte-breaks : (folds folds' : List Fold) (o p c : ℕ) → (inside folds o ≡ true → covered folds o ≡ true) → (inside folds o ≡ false → inside folds' p ≡ false) → covered folds' p ≡ covered folds o
     → count_by is_break (folded_token folds' (Byte p c)) ≡ count_by is_break (folded_token folds (Byte o c))
 byte-breaks folds folds' o p c hides opens same =
@@ -207,7 +207,7 @@ module _ (shift : Option Reach) (v v' : Source) (start end last : ℕ) (alike : 
       ∙ ap (count_by is_break) (each-same shift v.folds v'.folds (take left-place old) before-alike)
       ∙ sym (line-left v start (omega (arith, o, within)))
 
-  -- ---- behind it
+  -- ---- after it
 
   behind-is : drop (place_of (unfolded v') last Right) new ≡ map (token_after shift) (drop right-place old)
   behind-is =
@@ -219,7 +219,7 @@ module _ (shift : Option Reach) (v v' : Source) (start end last : ℕ) (alike : 
       ∙ ap (λ k. drop k new) place
       ∙ behind-drop shift v.text v'.text v.inlays v'.inlays s led start end last o within r size first second moves right-place second
 
-  -- offsets behind the end go where folds hide the same
+  -- offsets after the end go where folds hide the same
   alike-at : (o : ℕ) → end < o → HideAlike v.folds v'.folds o (offset_after shift o)
   alike-at o l =
       let there : offset_after shift o ≡ last + (o - end) = moves o (omega (arith, l)) ∙ omega arith in

@@ -71,7 +71,7 @@ own-each inlays o (b ∷ bs) =
       feeds-cons b bs,
     )
 
--- ---- the row of a line of a layer, by what stands before a place on it
+-- ---- the row of a line of a layer, by what is before a place on it
 
 module _ (text : List ℕ) (inlays : List Inlay) where
   abbrev v : Source
@@ -159,7 +159,7 @@ module _ (shift : Option Reach) (text text' : List ℕ) (inlays inlays' : List I
       ∙ ap own-feeds led.before
       ∙ sym (line-row text inlays formed s.start (omega (arith, order, within)))
 
-  -- as many rows are behind that of the line of the last
+  -- as many rows come after that of the line of the last
   pub last-row : (span_of new (row_of (shown_text new) (s.start + s.count))).0 + line_count text ≡ (span_of old (row_of (shown_text old) s.end)).0 + line_count text'
   last-row =
       let k = s.start + s.count in
@@ -175,7 +175,7 @@ module _ (shift : Option Reach) (text text' : List ℕ) (inlays inlays' : List I
         own-moved shift (drop s.end (bare text inlays)),
       )
 
--- ---- where rows start and end in texts that are alike before or behind
+-- ---- where rows start and end in texts that are alike before or after
 
 pub start-stays : (text text' : List ℕ) (row : ℕ) → row < line_count text → line_start text row ≤ length text' → take (line_start text row) text' ≡ take (line_start text row) text → line_start text' row ≡ line_start text row
 start-stays text text' row lt within same =

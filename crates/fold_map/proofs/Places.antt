@@ -1,4 +1,4 @@
--- Where an offset stands among folds: as the splices of the joined folds carry it, and by the definition.
+-- Where an offset is among folds: as the splices of the joined folds carry it, and by the definition.
 use Rattle.std.proofs.Common.{◌≡◌, ℕ, ◌+◌, ◌-◌, ◌<◌, ◌≤◌, Bool, true, false, cond, ltb, leb, nat_le, nat_lt, List, [], ◌∷◌, map, filter, flat_map, length, refl, sym, ap, ◌∙◌, subst, ◌&&◌, inl, inr, ◌⊎◌, arith}
 use Rattle.std.specs.List.{sum_by}
 use Rattle.std.proofs.lemmas.Bool.{cases_lt, leb-true, lt-ltb}
@@ -68,7 +68,7 @@ module _ (text : List ℕ) (inlays : List Inlay) where
     abbrev ss : ℕ → List JoinedFold → List Stretch
     ss base js = map (measured bytes_of) (splices_from low base js)
 
-    -- as far from an offset as below, where no fold hides a byte between
+    -- as far from an offset as in the lower layer, where no fold hides a byte between
     pub apart : (base o : ℕ) (bias : Bias) → base ≤ o → o ≤ length text → inside folds base ≡ false → inside folds o ≡ false → IsBare folds base o
         → place_of high o bias ≡ place_of high base Left + (place_of low o bias - place_of low base Left)
     apart base o Left l u out out' bare =
@@ -100,7 +100,7 @@ module _ (text : List ℕ) (inlays : List Inlay) where
       abbrev s : Stretch
       s = measured bytes_of (splice_of low base j)
 
-      -- what a joined fold hides is some, and begins behind the base
+      -- what a joined fold hides isn't empty, and begins after the base
       lengths : (place_of low base Left ≤ place_of low j.start Right) × (place_of low j.start Right < place_of low j.end Left)
       lengths = (omega (arith, places-rise low base j.start Left l (omega (arith, some, within)), places-left_first low j.start), low-apart j.start j.end some within)
 
@@ -165,7 +165,7 @@ module _ (text : List ℕ) (inlays : List Inlay) where
       go (inr x) (inl y) (inr z) b next =
           omega (arith, next z, place-behind text inlays folds j.start j.end is (omega (arith, a.0.some)) within, start, past base j js a.0.some within a.0.order o bias z u)
 
-  -- as the splices carry a place of the layer below, so it stands by the definition
+  -- as the splices carry a place of the lower layer, so it is by the definition
   pub carried-place : (folds : List Fold) (js : List JoinedFold) (o : ℕ) (bias : Bias) → AreAllJoined folds (length text) js → o ≤ length text
       → place_of (record { text = text; inlays = inlays; folds = folds }) o bias ≡ to_upper bias (map (measured bytes_of) (splices_from low 0 js)) (place_of low o bias)
   carried-place folds js o bias a u =

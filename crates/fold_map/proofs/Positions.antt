@@ -28,7 +28,7 @@ pub unfold-same : (s : Source) → s.folds ≡ [] → s ≡ unfolded s
 unfold-same s bare i = record { text = s.text; inlays = s.inlays; folds = bare i }
 
 module _ (s : Source) (bare : s.folds ≡ []) where
-  -- from before the inlays at an offset to behind those at one that isn't before it
+  -- from before the inlays at an offset to after those at one that isn't before it
   pub left-right : (o p : ℕ) → o ≤ p → p ≤ length s.text → IsBefore (position_of s o Left) (position_of s p Right)
   left-right o p l u =
       subst (λ (v : Source). IsBefore (position_of v o Left) (position_of v p Right)) (sym (unfold-same s bare))
@@ -38,7 +38,7 @@ module _ (s : Source) (bare : s.folds ≡ []) where
         lines = let a = lines-rise s.text s.inlays o p Left l u in let b = lines-left_first s.text s.inlays p u in omega (arith, a, b);
       })
 
-  -- from behind the inlays at an offset to before those at a later one
+  -- from after the inlays at an offset to before those at a later one
   pub right-left : (o p : ℕ) → o < p → p ≤ length s.text → IsBefore (position_of s o Right) (position_of s p Left)
   right-left o p l u =
       subst (λ (v : Source). IsBefore (position_of v o Right) (position_of v p Left)) (sym (unfold-same s bare))

@@ -19,7 +19,7 @@ pub same-ids : (id : ℕ) (ranges : List RangeMark) → list_any (has_range_id i
 same-ids id [] = refl
 same-ids id (r ∷ rs) = ap (λ (b : Bool). (r.id == id) || b) (same-ids id rs)
 
--- the test tells boundaries of a text that is UTF-8
+-- the test finds boundaries of a text that is UTF-8
 pub boundary-test : (text : List ℕ) (o : ℕ) (b : Bool) → IsUtf8 text → (b ≡ true → IsBoundary text o) → (IsBoundary text o → b ≡ true) → b ≡ is_boundary text o
 boundary-test text o b utf8 to from = go b (is_boundary text o) to from (tells_boundaries text utf8 o).0 (tells_boundaries text utf8 o).1 where
   go : (b c : Bool) → (b ≡ true → IsBoundary text o) → (IsBoundary text o → b ≡ true) → (c ≡ true → IsBoundary text o) → (IsBoundary text o → c ≡ true) → b ≡ c

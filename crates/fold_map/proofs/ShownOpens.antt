@@ -1,4 +1,4 @@
--- Where characters begin: a joined fold stands at boundaries, and so do inlays.
+-- Where characters begin: a joined fold is at boundaries, and so are inlays.
 use Rattle.std.proofs.Common.{◌≡◌, ℕ, ◌+◌, ◌-◌, ◌<◌, ◌≤◌, ◌⊎◌, Bool, true, false, cond, eqb, List, [], ◌∷◌, ◌++◌, length, map, filter, flat_map, drop, get_or, sym, ap, ◌∙◌, subst, inl, inr, arith, append_assoc}
 use Rattle.std.specs.List.{Contains}
 use Rattle.std.specs.Str.{IsCharBoundary, IsUtf8}

@@ -1,4 +1,4 @@
--- What is shown is what the layer below shows, with a placeholder in the place of each stretch that a splice takes out.
+-- What is shown is what the lower layer shows, with a placeholder in the place of each stretch that a splice takes out.
 use Rattle.std.proofs.Common.{◌≡◌, ℕ, suc, zero, ◌+◌, ◌<◌, ◌≤◌, List, [], ◌∷◌, ◌++◌, length, take, drop, get_or, refl, sym, ap, ◌∙◌, subst, inl, inr, ◌⊎◌, arith, append_assoc}
 use Rattle.std.specs.List.{count_by}
 use Rattle.std.proofs.lemmas.Bool.{cases_lt}
@@ -40,7 +40,7 @@ pub record IsOf (ts : List Token) (a : Amount) : Type 0 where
   pub bytes : size ts ≡ a.bytes
   pub feeds : count_by is_break ts ≡ a.feeds
 
--- The tokens around a splice: those of the gap and those taken out, and what is behind on either side.
+-- The tokens around a splice: those of the gap and those taken out, and what comes after on either side.
 pub record Around : Type 0 where
   pub start : ℕ
   pub end : ℕ
@@ -49,7 +49,7 @@ pub record Around : Type 0 where
   pub below : List Token
   pub above : List Token
 
--- A splice cuts the tokens below and those above so.
+-- A splice cuts the lower layer's tokens and those shown so.
 pub record IsAround (s : Source) (base : ℕ) (p : Piece Amount NoLoad) (below above : List Token) (a : Around) : Type 0 where
   pub start : a.start ≡ base + p.gap.buffer
   pub end : a.end ≡ a.start + p.old.buffer
@@ -65,7 +65,7 @@ pub record IsAround (s : Source) (base : ℕ) (p : Piece Amount NoLoad) (below a
   pub opens : IsWellFormed s → Opens a.old
   pub opens_next : IsWellFormed s → Opens (a.below ++ closing s ∷ [])
 
--- The tokens below and those above, splice by splice.
+-- The lower layer's tokens and those shown, splice by splice.
 abbrev pub AreSpliced : Source → ℕ → List (Piece Amount NoLoad) → List Token → List Token → Type 0
 AreSpliced s base [] below above = below ≡ above
 AreSpliced s base (p ∷ ps) below above = (a : Around) × IsAround s base p below above a × AreSpliced s a.end ps a.below a.above
@@ -142,7 +142,7 @@ module _ (text : List ℕ) (inlays : List Inlay) where
 abbrev pub sums : List (Piece Amount NoLoad) → Sides Amount
 sums ps = total (none nothing) (both together) (piece_sum together) ps
 
--- What stands before the splice of an index, and from there on.
+-- What is before the splice of an index, and from there on.
 pub record InSplices (s : Source) (base : ℕ) (ps : List (Piece Amount NoLoad)) (below above : List Token) (n : ℕ) : Type 0 where
   pub offset : ℕ
   pub front_below : List Token

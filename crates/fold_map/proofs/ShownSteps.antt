@@ -1,5 +1,5 @@
--- What is shown from a joined fold's end to that of the next, on either side: first the same, and then a placeholder in the
--- place of what is hidden.
+-- What is shown from a joined fold's end to that of the next, on either side. First it is the same, and then a
+-- placeholder in the place of what is hidden.
 use Rattle.std.proofs.Common.{◌≡◌, ℕ, suc, ◌+◌, ◌-◌, ◌<◌, ◌≤◌, false, List, [], ◌∷◌, ◌++◌, length, take, drop, get_or, refl, sym, ap, ◌∙◌, arith, append_assoc}
 use Rattle.std.proofs.lemmas.List.{drop-drop, drop-take, drop_more, length-drop, length-take-le, take-append-drop, take-take}
 use Rattle.cell_units.specs.Record.{Fold, Inlay}
@@ -50,7 +50,7 @@ module _ (text : List ℕ) (inlays : List Inlay) where
   abbrev pub from : List Fold → ℕ → List Token
   from folds o = show_each (shown inlays folds) o (drop o text) ++ last
 
-  -- up to behind the inlays at an offset
+  -- up to after the inlays at an offset
   abbrev pub to_right : ℕ → List Token
   to_right o = show_each low 0 (take o text) ++ inlays_at inlays o
 
@@ -58,7 +58,7 @@ module _ (text : List ℕ) (inlays : List Inlay) where
     abbrev high : ℕ → ℕ → List Token
     high = shown inlays folds
 
-    -- from the offset `base` to behind a joined fold
+    -- from the offset `base` to after a joined fold
     pub record IsStep (base s e : ℕ) : Type 0 where
       pub gap : List Token
       pub old : List Token

@@ -1,4 +1,4 @@
--- The offsets of a place: those of the place of the layer below, and none strictly inside a placeholder.
+-- The offsets of a place: those of the place of the lower layer, and none strictly inside a placeholder.
 use Rattle.std.proofs.Common.{◌≡◌, ℕ, suc, zero, ◌+◌, ◌-◌, ◌<◌, ◌≤◌, ◌⊎◌, ◌↔◌, true, false, List, [], ◌∷◌, map, length, take, Some, refl, sym, ap, ◌∙◌, subst, inl, inr, arith}
 use Rattle.std.specs.List.{slice_get}
 use Rattle.std.proofs.lemmas.Bool.{cases_lt, false≢true}
@@ -30,7 +30,7 @@ abbrev pub AreSome : List Stretch → Type 0
 AreSome [] = Unit {0}
 AreSome (s ∷ ss) = (0 < s.old) × (0 < s.new) × AreSome ss
 
--- how much stands before the one of an index, on the one side and on the other
+-- how much is before the one of an index, on the one side and on the other
 abbrev pub lower_to : List Stretch → ℕ → ℕ
 lower_to [] n = 0
 lower_to (s ∷ ss) zero = 0
@@ -39,13 +39,13 @@ lower_to (s ∷ ss) (suc n) = s.gap + s.old + lower_to ss n
 abbrev pub upper_to : List Stretch → ℕ → ℕ
 upper_to ss n = lower_to (map flipped ss) n
 
--- so much behind those before the index is still in the gap
+-- so much after those before the index is still in the gap
 abbrev pub IsInGap : List Stretch → ℕ → ℕ → Type 0
 IsInGap [] n r = Unit {0}
 IsInGap (s ∷ ss) zero r = r ≤ s.gap
 IsInGap (s ∷ ss) (suc n) r = IsInGap ss n r
 
--- so much behind those before the index is strictly inside what is taken out
+-- so much after those before the index is strictly inside what is taken out
 abbrev pub IsWithin : List Stretch → ℕ → ℕ → Type 0
 IsWithin [] n r = ⊥
 IsWithin (s ∷ ss) zero r = (s.gap < r) × (r < s.gap + s.old)
@@ -225,7 +225,7 @@ upper-sums [] (suc n) = refl
 upper-sums (p ∷ ps) zero = refl
 upper-sums (p ∷ ps) (suc n) = ap (λ (k : ℕ). p.gap.bytes + p.new.bytes + k) (upper-sums ps n)
 
--- in the gap before the splice of an index, or behind all
+-- in the gap before the splice of an index, or after all
 pub in-gap : (ps : List (Piece Amount NoLoad)) (n r : ℕ) → ((p : Piece Amount NoLoad) → slice_get ps n ≡ Some p → r ≤ p.gap.bytes) → IsInGap (bytes_in ps) n r
 in-gap [] n r h = tt
 in-gap (p ∷ ps) zero r h = h p refl
@@ -269,7 +269,7 @@ module _ (s : Source) (ps : List (Piece Amount NoLoad)) (are : AreSplices s ps) 
     abbrev upper : ℕ
     upper = (sums (take n ps)).upper.bytes
 
-    -- a place in a gap has the offsets that it has below
+    -- a place in a gap has the offsets that it has in the lower layer
     pub offsets-below : ((p : Piece Amount NoLoad) → slice_get ps n ≡ Some p → r ≤ p.gap.bytes) → (o : ℕ) → HasPlace s (upper + r) o ↔ HasPlace (unfolded s) (lower + r) o
     offsets-below h o = (down, up) where
       gap : IsInGap (bytes_in ps) n r

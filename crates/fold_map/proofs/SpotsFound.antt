@@ -22,7 +22,7 @@ use Rattle.fold_map.proofs.ShownSplices.{sums}
 use Rattle.fold_map.proofs.SpotsBack.{none-hidden, offsets-below}
 use Rattle.fold_map.proofs.SpotsShown.{in-spot, long-above, long-below, row-above, row-below, row-in}
 
--- The place stands in the layer below at this one: it has its offsets, and as many line feeds behind what splices cover.
+-- The place is in the lower layer at this one: it has its offsets, and as many line feeds after what splices cover.
 pub record IsBelow (s : Source) (place below : ℕ) (before : Sides Amount) : Type 0 where
   pub within : below ≤ length (shown_text (unfolded s))
   pub order : before.lower.feeds ≤ row_of (shown_text (unfolded s)) below
@@ -54,7 +54,7 @@ sums-next ps n p e = go ps n e where
         omega (arith, ap (λ (k : ℕ). (sums (take k (q ∷ qs))).upper.feeds) one, r.1),
       )
 
--- what stands in the place of each stretch is a placeholder
+-- what replaces each stretch is a placeholder
 pub placeholder-new : (s : Source) (ps : List (Piece Amount NoLoad)) (n : ℕ) (p : Piece Amount NoLoad) → AreSplices s ps → slice_get ps n ≡ Some p → (p.new.bytes ≡ 3) × (p.new.feeds ≡ 0)
 placeholder-new s ps n p are e = go 0 are.joined n (ap (λ (qs : List (Piece Amount NoLoad)). slice_get qs n) (sym are.spliced) ∙ e) where
   go : (base : ℕ) (js : List JoinedFold) (n : ℕ) → slice_get (splices_from (unfolded s) base js) n ≡ Some p → (p.new.bytes ≡ 3) × (p.new.feeds ≡ 0)
@@ -151,7 +151,7 @@ module _ (s : Source) (ps : List (Piece Amount NoLoad)) (are : AreSplices s ps) 
 -- ---- the spot of a place
 
 module _ (s : Source) (ps : List (Piece Amount NoLoad)) (are : AreSplices s ps) (place : ℕ) (within : place ≤ length (shown_text s)) where
-  -- a spot so many bytes behind what splices cover
+  -- a spot so many bytes after what splices cover
   make : (n kept : ℕ) (c : Bool) → IsFirstUpper nothing together bytes_of ps place Right n → kept ≡ kept_of (slice_get ps n) (place - (sums (take n ps)).upper.bytes)
       → c ≡ nat_lt kept (place - (sums (take n ps)).upper.bytes)
       → IsSpot s place (record { below = (sums (take n ps)).lower.bytes + kept; before = sums (take n ps); is_hidden = c })

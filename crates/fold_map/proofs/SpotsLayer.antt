@@ -21,7 +21,7 @@ use Rattle.fold_map.specs.Splices.{AreSplices}
 
 -- ---- what a snapshot is seen as
 
--- The layer below of a source, and its splices. Each place of it is a u32.
+-- The lower layer of a source, and its splices. Each place of it is a u32.
 pub record IsOver (v low : Source) (ps : List (Piece Amount NoLoad)) : Type 0 where
   pub below : low ≡ unfolded v
   pub are : AreSplices v ps
@@ -40,13 +40,13 @@ row-small v place = omega (arith, row_of-lt (shown_text v) place, line_count-is 
 
 -- ---- places and offsets
 
--- the same offsets, so the same answer
+-- the same offsets, so the same result
 pub back-same : (s u : Source) (p q : ℕ) (bias : Bias) (found : Option ℕ) → ((o : ℕ) → HasPlace s p o ↔ HasPlace u q o) → IsBack u q bias found → IsBack s p bias found
 back-same s u p q bias None same none = λ o h. none o ((same o).0 h)
 back-same s u p q Left (Some o) same is = ((same o).1 is.0, λ k h. is.1 k ((same k).0 h))
 back-same s u p q Right (Some o) same is = ((same o).1 is.0, λ k h. is.1 k ((same k).0 h))
 
--- no offset has a place behind the last one
+-- no offset has a place after the last one
 pub back-past : (s : Source) (p : ℕ) (bias : Bias) → length (shown_text s) < p → IsBack s p bias None
 back-past s p bias past o h = omega (arith, past, place-le s o h.1 h.0.0.0, h.2)
 

@@ -1,4 +1,4 @@
--- A place whose display line begins in the stretch of the layer below in which the place lies.
+-- A place whose display line begins in the stretch of the lower layer in which the place lies.
 use Rattle.std.proofs.Common.{◌≡◌, ℕ, ◌+◌, ◌-◌, ◌<◌, ◌≤◌, ◌⊎◌, List, length, take, get_or, min, Option, Some, None, sym, ap, ◌∙◌, inl, inr, arith}
 use Rattle.std.specs.List.{slice_get}
 use Rattle.std.proofs.lemmas.Option.{slice_get_cases}
@@ -21,7 +21,7 @@ use Rattle.fold_map.proofs.ShownSplices.{sums}
 use Rattle.fold_map.proofs.LinesLayer.{lines-above, place-at}
 use Rattle.fold_map.proofs.SpotsFound.{gap-end, spot-is, sums-next}
 
--- a place is so far behind the start of its line as its column says
+-- a place is so far after the start of its line as its column says
 pub column-is : (text : List ℕ) (place : ℕ) (p : Point) → place ≤ length text → p ≡ point_of text place → (p.column ≤ place) × (place - p.column ≡ line_start text (row_of text place))
 column-is text place p le e =
     let start = row_start_is text place le in
@@ -29,7 +29,7 @@ column-is text place p le e =
     let column = ap (λ (q : Point). q.column) e in
     (omega (arith, column, start, before), omega (arith, column, start, before))
 
--- the line of a spot starts behind the same splices, where it isn't the one in which these end
+-- the line of a spot starts after the same splices, where it isn't the one in which these end
 pub start-here : (s : Source) (ps : List (Piece Amount NoLoad)) → AreSplices s ps → (place row below : ℕ) (spot : Spot) (at : IsSpotAt ps place spot) → below ≡ row_of (shown_text (unfolded s)) spot.below → spot.before.lower.feeds < below
     → row ≡ spot.before.upper.feeds + (below - spot.before.lower.feeds) → IsLineStart ps row (record { index = at.index; before = spot.before; below = below })
 start-here s ps are place row below spot at b some r = record {
@@ -60,7 +60,7 @@ start-here s ps are place row below spot at b some r = record {
       let most = row_of-le (shown_text (unfolded s)) spot.below ((sums (take at.index ps)).lower.bytes + p.gap.bytes) (omega (arith, kept, bytes)) in
       omega (arith, r, b, most, end.1, next.1, upper, lower)
 
--- where the line of a place begins, by the point of the place below
+-- where the line of a place begins, by the point of its place in the lower layer
 pub record BeginsHere (s : Source) (place row : ℕ) (spot : Spot) (p : Point) : Type 0 where
   pub column : p.column ≤ spot.below
   pub behind : spot.before.lower.bytes ≤ spot.below - p.column

@@ -1,4 +1,4 @@
--- What lies at a splice, or behind all: up to the placeholder the same is shown as below.
+-- What lies at a splice, or after all: up to the placeholder the same is shown as in the lower layer.
 use Rattle.std.proofs.Common.{◌≡◌, ℕ, suc, zero, ◌+◌, ◌<◌, ◌≤◌, Bool, true, false, cond, List, [], ◌∷◌, ◌++◌, length, length-append, take, drop, get_or, Some, None, refl, sym, ap, ◌∙◌, subst, arith, append-nil, take_all}
 use Rattle.std.specs.List.{count_by, slice_get}
 use Rattle.std.proofs.lemmas.List.{get_or-append-add, get_or_append_left, take-append-le}
@@ -43,7 +43,7 @@ feeds-from o (b ∷ bs) i lt = go (is_feed b) i (omega (arith, lt, feeds-cons b 
   go true (suc i) lt f g = omega (arith, f i (omega (arith, lt)), g i (omega (arith, lt)))
   go false i lt f g = omega (arith, f i (omega (arith, lt)), g i (omega (arith, lt)))
 
--- the start of a line behind one of its feeds
+-- the start of a line after one of its feeds
 pub start-in : (front mid rest : List ℕ) (r : ℕ) → r < count_by is_feed mid
     → line_start (front ++ (mid ++ rest)) (count_by is_feed front + suc r) ≡ length front + get_or (behind_feeds 0 mid) r 0
 start-in front mid rest r lt =
@@ -61,7 +61,7 @@ start-in front mid rest r lt =
 
 -- ---- the same bytes on either side
 
--- The text below and what is shown have the same bytes behind what splices cover.
+-- The lower layer's text and what is shown have the same bytes after what splices cover.
 pub record AreAlike (below above : List ℕ) (before : Sides Amount) (mid : List ℕ) : Type 0 where
   pub front_below : List ℕ
   pub front_above : List ℕ
@@ -111,7 +111,7 @@ module _ (below above : List ℕ) (before : Sides Amount) (mid : List ℕ) (a : 
   pub feeds-above : count_by is_feed above ≡ before.upper.feeds + (count_by is_feed mid + count_by is_feed a.rest_above)
   feeds-above = ap (count_by is_feed) a.above_is ∙ omega (arith, feeds-append a.front_above (mid ++ a.rest_above), feeds-append mid a.rest_above, a.upper_feeds)
 
--- What is alike before the splice of an index, or behind all of them.
+-- What is alike before the splice of an index, or after all of them.
 pub record InSpot (below above : List ℕ) (ps : List (Piece Amount NoLoad)) (n : ℕ) : Type 0 where
   pub mid : List ℕ
   pub alike : AreAlike below above (sums (take n ps)) mid

@@ -1,4 +1,4 @@
--- What a `sync` makes and answers.
+-- What a `sync` makes and returns.
 use Rattle.std.proofs.Common.{◌≡◌, ℕ, ◌≤◌, List, length, map, Option, Some, None, refl, sym, ap, ◌∙◌, subst, arith}
 use Rattle.cell_units.specs.declared.place.Bias.TheVariants.{Right}
 use Rattle.cell_units.specs.declared.place.Shift.{Shift}

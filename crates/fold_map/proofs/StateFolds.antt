@@ -233,7 +233,7 @@ to-last s o utf8 is = go (line_at s (row_end s.text o) Right == line_at s o Righ
   go true = (is, omega arith)
   go false = row-last s.text o utf8 is.0
 
--- two numbers, and whether a test tells them apart
+-- two numbers, and whether a test finds them different
 same-number : (m n : ℕ) → m ≡ n → (m == n) ≡ true
 same-number m n e = eq-eqb m n e
 

@@ -27,7 +27,7 @@ use Rattle.fold_map.proofs.StateFolds.{from-first, to-last}
 
 -- ---- refusals
 
--- where nothing is refused, want of memory is owed
+-- where nothing is refused, the error is out of memory
 pub owed-memory : {A : Type 0} (refusal : Option Refusal) (r : Result A Fault) → None ≡ refusal → IsErrAnd r (λ e. e ≡ NoMemory) → IfErr r (IsOwed refusal)
 owed-memory refusal (Ok x) none h = tt
 owed-memory refusal (Err e) none h = subst (λ (o : Option Refusal). IsOwed o e) none h
@@ -49,7 +49,7 @@ ordered-pending (Some f) s e = subst (λ (r : Reach). r.start ≤ r.end) (some-s
   some-same : (x y : Reach) → Some x ≡ Some y → x ≡ y
   some-same x y h = cc
 
--- at first, and right behind a `sync`
+-- at first, and right after a `sync`
 pub kept-none : (s : Source) → IsKept s s None
 kept-none s = record { below = refl; leads = refl }
 

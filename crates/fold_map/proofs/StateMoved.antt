@@ -42,7 +42,7 @@ module _ (s : Shift) where
   pub moved-ranges : (rs : List RangeMark) → map fold_of (moved_ranges s rs) ≡ moved_folds s.start s.end s.count (map fold_of rs)
   moved-ranges rs = sorted-folds (map (move_range s) (filter (is_kept s) rs)) ∙ ap (sort_by fold_le) (kept-folds rs)
 
--- where the byte behind a replaced range goes
+-- where the byte after a replaced range goes
 pub move-end : (a b n : ℕ) → a ≤ b → move b Right a b n ≡ a + n
 move-end a b n le = go (nat_lt b a) (b == a) (nat_le b b) (grind (arith, nat_tests)) (grind (arith, nat_tests)) where
   go : (c d e : Bool) → c ≡ false → e ≡ true → cond c b (cond (d && false) b (cond e (a + n) (b + n - (b - a)))) ≡ a + n

@@ -30,7 +30,7 @@ rejoined-steps k m h a b c d e few first second third fourth =
 pub refolded-steps : (k n h a b c : ℕ) → 5 * b ≤ 5 * a + (n + 5 * (200 * (h + 1))) → c ≤ b + 250 * (k + 1) * (h + 1) → 5 * c ≤ 5 * a + (n + 5 * (450 * (k + 1) * (h + 1)))
 refolded-steps k n h a b c first second = omega (arith, first, second, whole 250 k h, whole 450 k h, high k h)
 
--- one of m folds was sought before, and at most twelve places are looked up behind
+-- one of m folds was sought before, and at most twelve places are looked up after it
 pub folded-steps : (k m n h a b c d : ℕ) → m ≤ n → 5 * b ≤ 5 * a + (m + 5) → 5 * c ≤ 5 * b + (n + 5 * (450 * (k + 1) * (h + 1))) → d ≤ c + 12 * (h + 1)
     → 5 * d ≤ 5 * a + (2 * n + 5 * (463 * (k + 1) * (h + 1)))
 folded-steps k m n h a b c d few first second third = omega (arith, few, first, second, third, whole 450 k h, whole 463 k h, high k h)

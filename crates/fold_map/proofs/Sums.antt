@@ -1,4 +1,4 @@
--- What splices cover: the layer below up to a joined fold's end, and what is shown of it.
+-- What splices cover: the lower layer up to a joined fold's end, and what is shown of it.
 use Rattle.std.proofs.Common.{◌≡◌, ℕ, ◌+◌, ◌-◌, ◌<◌, ◌≤◌, Bool, false, cond, List, [], ◌∷◌, ◌++◌, length, take, refl, sym, ap, ◌∙◌, arith}
 use Rattle.std.specs.List.{count_by}
 use Rattle.std.proofs.lemmas.List.Sums.{sum_by-append}
@@ -41,7 +41,7 @@ module _ (text : List ℕ) (inlays : List Inlay) where
   abbrev below : Source
   below = record { text = text; inlays = inlays; folds = [] }
 
-  -- lines below don't fall
+  -- the lower layer's lines don't fall
   pub lines-rise : (o p : ℕ) (bias : Bias) → o ≤ p → p ≤ length text → line_at below o bias ≤ line_at below p bias
   lines-rise o p bias l u =
       omega (

@@ -1,5 +1,6 @@
--- How many steps calls on a layer with folds take at most, as costs of a height h that the tree of the folds can't exceed. There
--- are no more splices than folds, so theirs can't either. Calls of the lower layer count on a counter of their own.
+-- How many steps calls on a layer with folds take at most. They are costs of a height h that the tree of the folds
+-- can't exceed. There are no more splices than folds, so theirs can't either. Calls of the lower layer count on a
+-- counter of their own.
 use Rattle.std.specs.Prelude.{ℕ, ◌+◌, ◌*◌, ◌^◌, ◌<◌, ◌≤◌, ◌&&◌, nat_le, List, count_by, Option, Some, None}
 use Rattle.cell_units.specs.Layers.{Source, unfolded}
 use Rattle.cell_units.specs.Record.{Fold}
@@ -7,7 +8,8 @@ use Rattle.joined_folds.specs.Sweeps.{count_met}
 use Rattle.edit_patch.specs.Leads.{Reach}
 use Rattle.fold_map.specs.Synced.{end_after, folds_after, row_end_at, row_start_at}
 
--- A call may look at each of n folds twice, both times on a fifth as many nodes, and takes at most `cost h` steps beside.
+-- A call may look at each of n folds twice, both times on a fifth as many nodes. It takes at most `cost h` steps beside
+-- that.
 abbrev pub SearchesTwice : (ℕ → ℕ) → ℕ → ℕ → ℕ → Type 0
 SearchesTwice cost n old new = (h : ℕ) → n < 2 * 6 ^ (h + 1) → 5 * new ≤ 5 * old + (2 * n + 5 * cost h)
 

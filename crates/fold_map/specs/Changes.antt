@@ -13,8 +13,8 @@ use Rattle.fold_map.specs.Amounts.{amount_between}
 use Rattle.fold_map.specs.Positions.{position_of}
 use Rattle.fold_map.specs.Snapshots.{PlacesFit}
 
--- Layers that are the same but from one offset to another, of which the second went to `last`: positions before stay, and those
--- behind are as far from each other.
+-- Layers that are the same but from one offset to another, of which the second went to `last`. Positions before stay,
+-- and those after are as far from each other.
 pub record AreSameAround (old new : Source) (start end last : ℕ) : Type 0 where
   pub left : (o : ℕ) → o ≤ start → position_of new o Left ≡ position_of old o Left
   pub right : (o : ℕ) → o < start → position_of new o Right ≡ position_of old o Right
@@ -30,7 +30,7 @@ pub record IsChange (old new : Source) (c : Change) : Type 0 where
   pub alike : AreAlike old.folds new.folds c.start c.end c.last
   pub around : AreSameAround (unfolded old) (unfolded new) c.start c.end c.last
 
--- a joined fold behind a change, which is not before an offset once it has moved
+-- a joined fold after a change, which is not before an offset once it has moved
 pub record IsMovedNext (text : List ℕ) (base : ℕ) (c : Change) (j : JoinedFold) : Type 0 where
   pub behind : c.end ≤ j.start
   pub boundary : IsBoundary text (moved_on c.end c.last j.start)

@@ -1,4 +1,4 @@
--- The pieces of a line of the layer below, and parts of them.
+-- The pieces of a line of the lower layer, and parts of them.
 use Rattle.std.specs.Prelude.{ℕ, ◌≡◌, ◌+◌, ◌-◌, ◌<◌, ◌≤◌, ◌^◌, nat_lt, if◌then◌else◌, List, flat_map, length, take, drop, slice_get, Some}
 use Rattle.std.specs.List.{All}
 use Rattle.std.specs.Str.{IsCharBoundary}

@@ -18,7 +18,8 @@ use Rattle.fold_map.specs.Amounts.{line_at}
 use Rattle.fold_map.specs.Replaced.{shown_change}
 use Rattle.fold_map.specs.Snapshots.{with_folds}
 
--- The layer with the folds as they are now, what the last snapshot showed, and the replacement that leads from that to now.
+-- The layer with the folds as they are now, what the last snapshot showed, and the replacement that leads from that to
+-- now.
 pub record FoldState : Type 0 where
   pub current : Source
   pub shown : Source
@@ -29,7 +30,7 @@ pub record IsKept (now shown : Source) (pending : Option Reach) : Type 0 where
   pub below : unfolded now ≡ unfolded shown
   pub leads : LayerLeads None shown now pending
 
--- the refusal that is owed, and where there is none want of memory
+-- the refusal that is owed, and out of memory where there is none
 abbrev pub IsOwed : Option Refusal → Fault → Type 0
 IsOwed (Some refusal) fault = fault ≡ Refused refusal
 IsOwed None fault = fault ≡ NoMemory
@@ -45,8 +46,8 @@ with_fold f s = with_folds s (insert_by fold_le f s.folds)
 abbrev pub without : ℕ → Source → Source
 without id s = with_folds s (without_fold id s.folds)
 
--- What a fold that starts at an offset replaces of what is shown begins there, or at the start of its row where that is shown
--- on another line.
+-- What a fold that starts at an offset replaces of what is shown begins there. If its row starts on another line, it
+-- begins at the start of that row
 abbrev pub shown_from : Source → ℕ → ℕ
 shown_from s o = let row = row_start s.text o in if line_at s row Left == line_at s o Left then o else row
 

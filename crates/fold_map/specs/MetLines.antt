@@ -13,8 +13,7 @@ use Rattle.fold_map.specs.Maps.{FoldState, folded_up, opened_up, state_of}
 use Rattle.fold_map.specs.Snapshots.{fold_refusal}
 use Rattle.fold_map.specs.Synced.{Follows, IsSynced}
 
--- The places from the first to the last meet a line that begins at the last of them or before it,
--- and ends at the first or behind it.
+-- The line begins at the last of the places or before it, and ends at the first or after it: they meet it.
 pub record MeetsLine (s : Source) (first last line : ℕ) : Type 0 where
   pub there : line < length (shown_lines s)
   pub start : line_start (shown_text s) line ≤ last
@@ -24,7 +23,7 @@ pub record MeetsLine (s : Source) (first last line : ℕ) : Type 0 where
 abbrev pub SpansMeet : ℕ × ℕ → ℕ × ℕ → Type 0
 SpansMeet s t = (row : ℕ) × HasRow s row × HasRow t row
 
--- a line whose span meets the span of a line of the layer below that places of that meet
+-- a line whose span meets the span of a line of the lower layer that places of that meet
 pub record IsOverMet (s layer : Source) (first last line : ℕ) : Type 0 where
   pub there : line < length (shown_lines s)
   pub lower : ℕ
@@ -36,15 +35,15 @@ pub record HasRowOf (s : Source) (f : Fold) (line : ℕ) : Type 0 where
   pub there : line < length (shown_lines s)
   pub spans : SpansMeet (span_of s line) (row_of s.text f.start, row_of s.text f.end)
 
--- What is replaced meets exactly these lines of those before it, and what stands there then exactly
--- these of those after it.
+-- What is replaced meets exactly these lines of those before it, and what is there then exactly these of those after
+-- it.
 pub record MeetsJust (before after : Source) (s : Shift) (Old New : ℕ → Type 0) : Type 0 where
   pub before_it : (line : ℕ) → MeetsLine before s.start s.end line ↔ Old line
   pub after_it : (line : ℕ) → MeetsLine after s.start (s.start + s.count) line ↔ New line
 
 -- ---- one change since a `sync`, which left `state_of` of what it made
 
--- a `sync` of a map with a replacement for its answer
+-- a `sync` of a map that returns a replacement
 pub record Syncs (map : FoldState) (layer : Source) (shift below : Option Shift) (made : Source) (answer : Shift) : Type 0 where
   pub well_formed : IsWellFormed layer
   pub follows : Follows map.current layer (option_map reach_of shift) (option_map reach_of below)
@@ -65,7 +64,7 @@ OpenedMeets = (source layer made : Source) (f : Fold) (answer : Shift) → IsWel
     → Syncs (opened_up f (state_of source)) layer None None made answer
     → MeetsJust source made answer (HasRowOf source f) (HasRowOf made f)
 
--- the text of the layer below is replaced: the lines over those of its lines that this meets
+-- the text of the lower layer is replaced: the lines over those of its lines that this meets
 abbrev pub ReplacedMeets : Type 0
 ReplacedMeets = (source layer made : Source) (shift : Option Shift) (below answer : Shift)
     → IsWellFormed source

@@ -26,7 +26,7 @@ pub record IsBefore (p q : Position) : Type 0 where
   pub places : p.place ≤ q.place
   pub lines : p.line ≤ q.line
 
--- what hides the layer from one position to another, behind what is shown from a third on
+-- what hides the layer from one position to another, after what is shown from a third on
 abbrev pub hiding : Position → Position → Position → Piece Amount NoLoad
 hiding from start end =
     record {
@@ -36,7 +36,7 @@ hiding from start end =
       load = record {};
     }
 
--- a joined fold behind an offset stands at boundaries, and its placeholder at a place that is a u32
+-- a joined fold after an offset is at boundaries, and its placeholder at a place that is a u32
 pub record IsInText (s : Source) (base : ℕ) (j : JoinedFold) : Type 0 where
   pub base_at : IsBoundary s.text base
   pub start_at : IsBoundary s.text j.start

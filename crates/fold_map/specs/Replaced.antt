@@ -4,7 +4,8 @@ use Rattle.cell_units.specs.declared.place.Bias.TheVariants.{Left, Right}
 use Rattle.cell_units.specs.Layers.{Source, place_of, shown_text}
 use Rattle.edit_patch.specs.Leads.{Reach}
 
--- All from the left place of an offset to the right place of another. In its stead stands what isn't before or behind it then.
+-- All from the left place of an offset to the right place of another. It is replaced by what isn't before or after it
+-- then.
 abbrev pub shown_change : Source → Source → ℕ → ℕ → Reach
 shown_change before after start end =
     let first = place_of before start Left in

@@ -39,7 +39,7 @@ abbrev pub change_after : Source → Option Reach → Option Reach → Source �
 change_after layer shift None source = None
 change_after layer shift (Some below) source = Some (layer_change source (source_after layer shift source) below)
 
--- what a `sync` answers
+-- what a `sync` returns
 abbrev pub answer_of : Source → Option Reach → Option Reach → FoldState → Option Reach
 answer_of layer shift below s = with_pending s.pending (change_after layer shift below s.current)
 
@@ -55,14 +55,14 @@ pub record IsSynced (layer : Source) (shift below : Option Reach) (map : FoldSta
   pub answered : answer ≡ answer_of layer shift below map
   pub leads : LayerLeads shift map.shown made answer
 
--- where the end of a row goes that the replacement of the text is not behind
+-- where the end of a row goes that the replacement of the text is not after
 abbrev pub end_after : Option Reach → ℕ → ℕ
 end_after None end = end
 end_after (Some s) end = moved_on s.end (s.start + s.count) end
 
 -- ---- conditions
 
--- each fold stands at boundaries of the new text, once it is moved
+-- each fold is at boundaries of the new text, once it is moved
 abbrev pub StandAfter : List ℕ → Option Reach → List Fold → Type 0
 StandAfter text None folds = Unit {0}
 StandAfter text (Some s) folds = All (λ f. IsBoundary text f.start × IsBoundary text f.end) (moved_folds s.start s.end s.count folds)

@@ -1,7 +1,7 @@
 //! How much of a layer there is.
 use sum_core::{Count, Measure, Summary};
 
-/// How many bytes of the buffer a stretch of a layer has, how many bytes of the layer's text, and how many line feeds of it.
+/// How many bytes of the buffer a stretch of a layer has. And how many bytes and line feeds of the layer's text.
 #[derive(Clone, Copy, Debug, PartialEq, Eq)]
 pub(crate) struct Amount {
     pub buffer: u32,

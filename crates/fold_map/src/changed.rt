@@ -33,7 +33,7 @@ impl<L: Layer> FoldSnapshot<L> {
         ensures counted { steps.old ≤ steps.new }
         ensures steps { TakesAtMost way (length self.now.folds) steps.old steps.new }
     {
-        // The text's length is a u32.
+        // For the proof: the text's length is a u32.
         let _len = self.text_len();
         let found = self.splices.find_at(index, steps);
         joined_behind(found.before.lower.buffer, found.splice)
@@ -51,7 +51,7 @@ fn last_end(base: u32, joined: &[JoinedFold]) -> u32
     end
 }
 
-/// How much of a layer there is from before the inlays at one offset to behind those at another.
+/// How much of a layer there is from before the inlays at one offset to after those at another.
 fn gap_between<L: Layer>(layer: &L, start: u32, end: u32) -> Amount
     // The layer has no folds of its own, and the offsets are boundaries of its text, in order.
     requires bare { (L.source layer.now).folds ≡ [] }
@@ -67,14 +67,15 @@ fn gap_between<L: Layer>(layer: &L, start: u32, end: u32) -> Amount
     from.until(to)
 }
 
-/// How much of a layer is shown from an offset to the next joined fold, which a change has moved. Nothing is where there is none.
+/// How much of a layer is shown from an offset to the next joined fold, which a change has moved. Nothing is where
+/// there is none.
 fn gap_to<L: Layer>(layer: &L, base: u32, next: Option<JoinedFold>, change: Change) -> Amount
     requires bare { (L.source layer.now).folds ≡ [] }
     requires base { IsBoundary (L.source layer.now).text base }
     requires next { ForSome next (IsMovedNext (L.source layer.now).text base change) }
     ensures { ForSome next (IsGapTo (L.source layer.now) base change result) }
 {
-    // The text's length is a u32.
+    // For the proof: the text's length is a u32.
     let _len = layer.buffer_len();
     match next {
         None => Amount::zero(),
@@ -96,7 +97,7 @@ fn joined_in(
         let k = count_met window.start window.end now in
         TakesAtMost (meeting k) (length now) steps.old steps.new }
 {
-    // Each end is a u32.
+    // For the proof: each end is a u32.
     let _count = folds.len();
     let past = window.end.saturating_add(1);
     let met = folds.meeting(alloc, window.start, past, steps)?;
@@ -129,7 +130,7 @@ impl<L: Layer> FoldSnapshot<L> {
             let cost = rejoining (count_met change.start change.last now) in
             ChangesAtMost cost (length self.now.folds) (length now) steps.old steps.new }
     {
-        // The folds fit the text, and each offset and each place of the new layer is a u32.
+        // For the proof: the folds fit the text, and each offset and each place of the new layer is a u32.
         let _sizes = (self.text_len(), layer.buffer_len(), layer.length());
         let met = self.met(change, steps);
         let joined = joined_in(alloc, &folds, met.window, steps)?;

@@ -12,7 +12,7 @@ use joined_folds::JoinedFold;
 use splice_tree::Splice;
 use sum_core::NoLoad;
 
-/// How many joined folds end by an offset, where the last of them ends, and the one behind them.
+/// How many joined folds end by an offset, where the last of them ends, and the one after them.
 #[derive(Drop)]
 pub(crate) struct Cut {
     pub(crate) index: u32,
@@ -28,7 +28,7 @@ impl<L: Layer> FoldSnapshot<L> {
         ensures counted { steps.old ≤ steps.new }
         ensures steps { TakesAtMost way (length self.now.folds) steps.old steps.new }
     {
-        // The text's length is a u32.
+        // For the proof: the text's length is a u32.
         let _len = self.text_len();
         let found = self
             .splices
@@ -42,7 +42,7 @@ impl<L: Layer> FoldSnapshot<L> {
     }
 }
 
-/// The joined fold of a splice behind an offset.
+/// The joined fold of a splice after an offset.
 pub(crate) fn joined_behind(
     base: u32,
     splice: Option<&Splice<Amount, NoLoad>>,

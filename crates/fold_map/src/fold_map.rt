@@ -21,8 +21,8 @@ use std::marker::Model;
 
 /// A layer with folds, as it is now and as it was last shown.
 ///
-/// The bounds on the steps of a call are given for each h such that the number of folds is less than 2 * 6^(h + 1). The least
-/// such h is the greatest height of a tree of so many.
+/// Bounds on the steps of a call are given for each h such that the folds are fewer than 2 * 6^(h + 1). The least such
+/// h is the greatest height of a tree of so many.
 pub struct FoldMap<L: Layer> {
     current: FoldSnapshot<L>,
     shown: FoldSnapshot<L>,
@@ -53,7 +53,8 @@ impl<L: Layer> Model for FoldMap<L> {
 }
 
 impl<L: Layer> FoldMap<L> {
-    /// The layer without folds, which counts as shown. The only refusal is one holder too many of the layer.
+    /// The layer without folds, which counts as shown. It fails with `NoMemory` only where the count of holders of the
+    /// layer is full.
     pub fn new(alloc: Global, layer: L, steps: &mut Steps) -> Result<FoldMap<L>, NoMemory>
         requires bare { (L.source layer).folds ≡ [] }
         ensures ok { IfOk result (λ m. m ≡ state_of (L.source layer)) }
@@ -88,14 +89,16 @@ impl<L: Layer> FoldMap<L> {
         ensures len { result ≡ length self.now.current.folds }
         ensures lawful { IsWellFormed self.now.current }
     {
-        // With this length rattle knows that the text is UTF-8, and that the inlays and the folds fit it.
+        // For the proof: the text is UTF-8, and the inlays and the folds fit it.
         let _text = self.current.text_len();
         self.current.count()
     }
 
-    /// Folds the bytes of the buffer from `start` to `end`. In this order `IdInUse` where the id is there, `BadRange` where
-    /// the range is empty or backwards or an end of it is past the text's end or inside a character, and `TooLong` where
-    /// `ENTRY_LIMIT` folds are there.
+    /// Folds the bytes of the buffer from `start` to `end`. It is refused by the first of these that fits:
+    ///
+    /// - `IdInUse`: the id is there;
+    /// - `BadRange`: the range is empty or backwards, or an end of it is past the text's end or inside a character;
+    /// - `TooLong`: `ENTRY_LIMIT` folds are there.
     pub fn fold(
         &mut self,
         alloc: Global,
@@ -123,7 +126,7 @@ impl<L: Layer> FoldMap<L> {
         if let Some(refusal) = self.current.refusal_to_fold(id, start, end, steps) {
             return Err(Fault::Refused(refusal));
         }
-        // The folds fit the text.
+        // For the proof: the folds fit the text.
         let _len = self.current.text_len();
         let range = RangeMark { start, end, id };
         let next = self.current.with_fold(alloc, range, steps)?;
@@ -154,16 +157,18 @@ impl<L: Layer> FoldMap<L> {
         if !self.current.has_id(id, steps) {
             return Err(Fault::Refused(Refusal::UnknownId));
         }
-        // The folds fit the text, no two with one id.
+        // For the proof: the folds fit the text, no two with one id.
         let _len = self.current.text_len();
         let (next, range) = self.current.without_fold(alloc, id, steps)?;
         self.turn_to(next, range, steps);
         Ok(())
     }
 
-    /// Takes the layer as it is now, with the replacement of the buffer's text and that of the layer's text that led to it since
-    /// the last call, if there were any, and moves the folds. It answers the new snapshot, and the one replacement of what is
-    /// shown that leads from the last snapshot to it, or none where nothing changed.
+    /// Takes the layer as it is now, and moves the folds. With it come the replacements that led to it since the last
+    /// call, if there were any: of the buffer's text and of the layer's.
+    ///
+    /// Returns the new snapshot, and the one replacement of what is shown that leads to it from the last snapshot.
+    /// There is none where nothing changed. Places count bytes (*A layer with folds as a map*).
     pub fn sync(
         &mut self,
         alloc: Global,
@@ -219,7 +224,7 @@ impl<L: Layer> FoldMap<L> {
             let k = folds_met (option_map reach_of shift) (option_map reach_of below) current in
             TakesAtMost (syncing k) (length current.folds) steps.old steps.new }
     {
-        // The folds fit the text.
+        // For the proof: the folds fit the text.
         let _len = self.current.text_len();
         match below {
             None => Ok((self.current.over(layer)?, self.pending)),
@@ -250,7 +255,7 @@ impl<L: Layer> FoldMap<L> {
             let k = folds_met (option_map reach_of shift) (Some (reach_of below)) current in
             TakesAtMost (syncing k) (length current.folds) steps.old steps.new }
     {
-        // What is shown is within its limits, and the layer is lawful.
+        // For the proof: what is shown is within its limits, and the layer is lawful.
         let _sizes = (
             self.current.text_len(),
             self.shown.text_len(),
@@ -269,7 +274,7 @@ impl<L: Layer> FoldMap<L> {
         ensures steps { let count = length self.old.current.folds in
             ChangesAtMost (ways 12) count (length next.folds) steps.old steps.new }
     {
-        // What is shown is within its limits, before and after.
+        // For the proof: what is shown is within its limits, before and after.
         let _sizes = (
             self.current.text_len(),
             self.shown.text_len(),

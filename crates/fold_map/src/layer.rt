@@ -7,7 +7,8 @@ use crate::spots::{bytes_shown, spot_at};
 use cell_units::{Bias, Layer, NoMemory, Piece, Point, Steps};
 use std::alloc::Global;
 
-// Each call asks the lower layer itself, since the trait asks more of a layer than a call of a function over any layer may rest on.
+// Each call asks the lower layer itself. The trait asks more of a layer than a call of a function over any layer may
+// use.
 impl<L: Layer> Layer for FoldSnapshot<L> {
     ghost source = { λ s. s };
 
@@ -42,7 +43,7 @@ impl<L: Layer> Layer for FoldSnapshot<L> {
     }
 
     fn point(&self, place: u32) -> Point {
-        // Each place and each line of the lower layer is a u32.
+        // For the proof: each place and each line of the lower layer is a u32.
         let _length = self.layer.length();
         let _lines = self.layer.lines();
         let spot = spot_at(&self.splices, place, &mut Steps::new());
@@ -79,7 +80,7 @@ impl<L: Layer> Layer for FoldSnapshot<L> {
     }
 
     fn line_start(&self, line: u32) -> u32 {
-        // Each line of the lower layer is a u32.
+        // For the proof: each line of the lower layer is a u32.
         let _lines = self.layer.lines();
         let start = start_of(&self.splices, line, &mut Steps::new());
         let begin = self.layer.line_start(start.below);
@@ -87,7 +88,7 @@ impl<L: Layer> Layer for FoldSnapshot<L> {
     }
 
     fn pieces(&self, alloc: Global, line: u32) -> Result<Vec<Piece>, NoMemory> {
-        // Each place and each line of the lower layer is a u32, and so is each offset.
+        // For the proof: each place and each line of the lower layer is a u32, and so is each offset.
         let _len = self.layer.buffer_len();
         let _lines = self.layer.lines();
         let length = self.layer.length();

@@ -7,8 +7,8 @@ use cell_units::{Bias, Steps};
 use splice_tree::{Sides, SpliceTree};
 use sum_core::NoLoad;
 
-/// Where a display line starts: before the splice of the index or behind all, behind what the splices before it cover, on
-/// this line of the lower layer.
+/// Where a display line starts: before the splice of the index or after all. It is past what the splices before cover,
+/// on this line of the lower layer.
 #[derive(Drop)]
 pub(crate) struct LineStart {
     pub(crate) index: u32,

@@ -11,7 +11,8 @@ use crate::snapshot::FoldSnapshot;
 use cell_units::{Layer, Steps};
 use joined_folds::{JoinedFold, Window};
 
-/// A change of folds or of the lower layer: within the offsets from `start` to `end`, of which the last has become `last`.
+/// A change of folds or of the lower layer: within the offsets from `start` to `end`, of which the last has become
+/// `last`.
 #[derive(Clone, Copy)]
 pub(crate) struct Change {
     pub(crate) start: u32,
@@ -19,8 +20,8 @@ pub(crate) struct Change {
     pub(crate) last: u32,
 }
 
-/// The joined folds that a change meets, by their indices, where the one before them ends, and the window in which they are
-/// made anew.
+/// The joined folds that a change meets, by their indices, where the one before them ends, and the window in which they
+/// are made anew.
 #[derive(Drop)]
 pub(crate) struct Met {
     pub(crate) first: u32,
@@ -44,7 +45,7 @@ impl<L: Layer> FoldSnapshot<L> {
         requires within { change.end ≤ length self.now.text }
         requires reaches { moved_on change.end change.last (length self.now.text) < 2 ^ 32 }
 
-        // Where they stand among all joined folds, and in which window folds are to be joined anew.
+        // Where they are among all joined folds, and in which window folds are to be joined anew.
         ensures met { (js : List JoinedFold) → let s = self.now in
             AreAllJoined s.folds (length s.text) js → IsMetBy js change result }
 
@@ -52,7 +53,7 @@ impl<L: Layer> FoldSnapshot<L> {
         ensures counted { steps.old ≤ steps.new }
         ensures steps { TakesAtMost (ways 2) (length self.now.folds) steps.old steps.new }
     {
-        // The text's length is a u32.
+        // For the proof: the text's length is a u32.
         let _len = self.text_len();
         let front = self.cut_at(change.start, steps);
         let back = self.cut_at(change.end, steps);

@@ -24,7 +24,7 @@ impl<L: Layer> FoldSnapshot<L> {
         requires follows { Follows self.now (L.source layer) None None }
         ensures ok { IfOk result (λ s. s ≡ with_folds (L.source layer) self.now.folds) }
     {
-        // The folds fit the text.
+        // For the proof: the folds fit the text.
         let _len = self.text_len();
         Ok(FoldSnapshot {
             layer,
@@ -33,8 +33,8 @@ impl<L: Layer> FoldSnapshot<L> {
         })
     }
 
-    /// The folds over a layer that replacements have made, moved as that of the buffer's text does, and what is replaced of what
-    /// is shown.
+    /// The folds over a layer that replacements have made, moved as that of the buffer's text does, and what is
+    /// replaced of what is shown.
     pub(crate) fn moved(
         &self,
         alloc: Global,
@@ -58,7 +58,7 @@ impl<L: Layer> FoldSnapshot<L> {
             let k = folds_met replaced (Some (reach_of below)) self.now in
             TakesAtMost (syncing k) (length self.now.folds) steps.old steps.new }
     {
-        // The folds fit the text, and the new text's length is a u32.
+        // For the proof: the folds fit the text, and the new text's length is a u32.
         let _sizes = (self.text_len(), layer.buffer_len());
         let folds = self.moved_folds(alloc, shift, steps)?;
         let rows = rows_met(&self.layer, below.start, below.end);
@@ -93,7 +93,7 @@ impl<L: Layer> FoldSnapshot<L> {
         ensures steps { let k = touched (option_map reach_of shift) self.now.folds in
             TakesAtMost (shrinking k) (length self.now.folds) steps.old steps.new }
     {
-        // The folds are within the text.
+        // For the proof: the folds are within the text.
         let _len = self.text_len();
         let mut folds = self.folds.share()?;
         match shift {
@@ -120,7 +120,7 @@ fn rows_met<L: Layer>(layer: &L, start: u32, end: u32) -> Rows
     ensures start { result.start ≡ row_start_at (L.source layer.now) start }
     ensures end { result.end ≡ row_end_at (L.source layer.now) end }
 {
-    // The inlays and the folds fit the text.
+    // For the proof: the inlays and the folds fit the text.
     let _len = layer.buffer_len();
     let first = layer.point(start).row;
     let last = layer.point(end).row;
@@ -143,7 +143,7 @@ fn rows_of<L: Layer>(layer: &L, line: u32) -> Rows
     ensures end { let s = L.source layer.now in
         result.end ≡ line_end s.text (span_of s line).1 }
 {
-    // The inlays and the folds fit the text.
+    // For the proof: the inlays and the folds fit the text.
     let _len = layer.buffer_len();
     let span = layer.span(line);
     let first = layer.row_range(span.0);
@@ -159,7 +159,7 @@ fn rows_of<L: Layer>(layer: &L, line: u32) -> Rows
     }
 }
 
-/// Where the end of a row goes that a replacement is not behind, if there was one.
+/// Where the end of a row goes that a replacement is not after, if there was one.
 fn end_after(end: u32, shift: Option<Shift>) -> u32
     requires within { ForSome shift (λ s. s.end ≤ end) }
     requires reaches { end_after (option_map reach_of shift) end < 2 ^ 32 }

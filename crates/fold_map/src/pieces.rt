@@ -18,7 +18,7 @@ pub(crate) struct LineBelow {
 }
 
 impl LineBelow {
-    /// Copies what stands on the line from one place to another.
+    /// Copies what is on the line from one place to another.
     pub(crate) fn copy(
         &self,
         alloc: Global,
@@ -43,7 +43,7 @@ impl LineBelow {
         Ok(())
     }
 
-    /// These pieces, and behind them what stands on the line from one place to another.
+    /// These pieces, and after them what is on the line from one place to another.
     pub(crate) fn copied_behind(
         &self,
         alloc: Global,

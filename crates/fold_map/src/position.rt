@@ -1,4 +1,4 @@
-//! Positions of a layer, measured.
+//! Positions of a layer: an offset, with its place in bytes and its display line.
 ghost use Rattle.std.specs.Prelude.{◌≡◌};
 ghost use Rattle.cell_units.specs.Text.{IsBoundary};
 ghost use Rattle.fold_map.specs.Positions.{IsBefore, distance, position_of};
@@ -20,7 +20,7 @@ impl Position {
         requires { IsBoundary (L.source layer.now).text offset }
         ensures { result ≡ position_of (L.source layer.now) offset bias }
     {
-        // The inlays and the folds fit the text.
+        // For the proof: the inlays and the folds fit the text.
         let _len = layer.buffer_len();
         let place = layer.place(offset, bias);
         Position {

@@ -55,7 +55,7 @@ impl<L: Layer> FoldSnapshot<L> {
         requires { (L.source layer).folds ≡ [] }
         ensures { result ≡ L.source layer }
     {
-        // Each place of the layer is a u32.
+        // For the proof: each place of the layer is a u32.
         let _length = layer.length();
         FoldSnapshot {
             layer,
@@ -112,7 +112,7 @@ impl<L: Layer> FoldSnapshot<L> {
     fn is_boundary(&self, offset: u32) -> bool
         ensures { result ≡ is_boundary self.now.text offset }
     {
-        // The text is UTF-8.
+        // For the proof: the text is UTF-8.
         let _len = self.text_len();
         self.layer.on_boundary(offset)
     }
@@ -126,7 +126,7 @@ impl<L: Layer> FoldSnapshot<L> {
         start < end && is_first && is_last
     }
 
-    /// Why a fold isn't added to these, if it isn't.
+    /// Why a fold isn't added to these, if it isn't: the refusal of `FoldMap::fold`. Offsets count bytes.
     pub fn refusal_to_fold(
         &self,
         id: u32,
@@ -151,7 +151,7 @@ impl<L: Layer> FoldSnapshot<L> {
         None
     }
 
-    /// Where an offset stands in what is shown.
+    /// Where an offset is in what is shown.
     pub(crate) fn place_of(&self, offset: u32, bias: Bias, steps: &mut Steps) -> u32
         requires { IsBoundary self.now.text offset }
         ensures place { result ≡ place_of self.now offset bias }
@@ -169,7 +169,7 @@ impl<L: Layer> FoldSnapshot<L> {
         ensures counted { steps.old ≤ steps.new }
         ensures steps { TakesAtMost (ways 2) (length self.now.folds) steps.old steps.new }
     {
-        // The folds fit the text, and each place of the lower layer is a u32.
+        // For the proof: the folds fit the text, and each place of the lower layer is a u32.
         let _sizes = (self.text_len(), self.layer.length());
         let place = self.place_of(offset, bias, steps);
         let spot = spot_at(&self.splices, place, steps);

@@ -1,4 +1,4 @@
-//! The splices of joined folds.
+//! The splices of joined folds, one for each, in order.
 ghost use Rattle.std.specs.Prelude.{◌≡◌, ◌+◌, ◌-◌, ◌<◌, ◌^◌, [], length, IfOk};
 ghost use Rattle.cell_units.specs.Inlaid.{placeholder};
 ghost use Rattle.fold_map.specs.Positions.{AreInText, IsBefore, hiding};
@@ -15,7 +15,7 @@ use sum_core::NoLoad;
 /// How many bytes a placeholder has.
 const PLACEHOLDER_BYTES: u32 = 3;
 
-/// The splices of joined folds in order, the first of them behind the offset `base`.
+/// The splices of joined folds in order, the first of them after the offset `base`.
 pub(crate) fn splices_of<L: Layer>(
     alloc: Global,
     layer: &L,
@@ -41,7 +41,7 @@ pub(crate) fn splices_of<L: Layer>(
     Ok(splices)
 }
 
-/// What hides the layer from one position to another, behind what is shown from `from` on.
+/// What hides the layer from one position to another, after what is shown from `from` on.
 fn hiding(from: Position, start: Position, end: Position) -> Splice<Amount, NoLoad>
     requires first { IsBefore from start }
     requires second { IsBefore start end }

@@ -8,8 +8,8 @@ use cell_units::{Bias, Steps};
 use splice_tree::{Sides, SpliceTree};
 use sum_core::NoLoad;
 
-/// Where a place of what is shown lies: its place in the lower layer behind what these splices cover, which is where a
-/// placeholder begins if the place is strictly inside that.
+/// Where a place of what is shown lies: its place in the lower layer after what these splices cover. If the place is
+/// strictly inside a placeholder, that is where the placeholder begins.
 #[derive(Drop)]
 pub(crate) struct Spot {
     pub(crate) below: u32,

@@ -33,7 +33,7 @@ impl<L: Layer> FoldSnapshot<L> {
         requires accepted { fold_refusal self.now range.id range.start range.end ≡ None }
         requires fits { PlacesFit (with_fold (fold_of range) self.now) }
 
-        // The fold stands among the others in their order.
+        // The fold is among the others in their order.
         ensures ok { IfOk result (λ s. s ≡ with_fold (fold_of range) self.now) }
 
         // The work: the id is sought, the fold is put among the others, and those that meet it are joined anew.
@@ -42,7 +42,7 @@ impl<L: Layer> FoldSnapshot<L> {
             let cost = refolding (count_met range.start range.end after) in
             SearchesAndTakes cost (length after) steps.old steps.new }
     {
-        // The folds fit the text, and their number is a u32.
+        // For the proof: the folds fit the text, and their number is a u32.
         let _sizes = (self.text_len(), self.count());
         let mut folds = self.folds.share()?;
         let Ok(()) = folds.insert(alloc, range, steps) else {
@@ -62,7 +62,7 @@ impl<L: Layer> FoldSnapshot<L> {
         requires there { list_any (λ f. f.id == id) self.now.folds ≡ true }
         requires fits { PlacesFit (without id self.now) }
 
-        // The others stay. The fold that is answered was there, and has the id.
+        // The others stay. The fold that is returned was there, and has the id.
         ensures ok { IfOk result (λ r. r.0 ≡ without id self.now) }
         ensures fold { IfOk result (λ r. Contains self.now.folds (fold_of r.1)) }
         ensures id { IfOk result (λ r. r.1.id ≡ id) }
@@ -73,7 +73,7 @@ impl<L: Layer> FoldSnapshot<L> {
             let cost = refolding (count_met f.start f.end (without id self.now).folds) in
             SearchesAndTakes cost (length self.now.folds) steps.old steps.new }
     {
-        // The folds fit the text.
+        // For the proof: the folds fit the text.
         let _len = self.text_len();
         let mut folds = self.folds.share()?;
         let Ok(range) = folds.remove(alloc, id, steps) else {
@@ -106,7 +106,7 @@ impl<L: Layer> FoldSnapshot<L> {
             let cost = rejoining (count_met range.start range.end now) in
             ChangesAtMost cost (length self.now.folds) (length now) steps.old steps.new }
     {
-        // The text and its inlays are lawful.
+        // For the proof: the text and its inlays are lawful.
         let _len = self.text_len();
         let layer = self.layer.share()?;
         let change = Change {
@@ -140,7 +140,7 @@ impl<L: Layer> FoldSnapshot<L> {
         requires end { IsBoundary self.now.text end }
         requires order { start ≤ end }
 
-        // From the left place of the start to the right place of the end. What stands there then is counted.
+        // From the left place of the start to the right place of the end. What is there then is counted.
         ensures change { reach_of result ≡ shown_change self.now next.now start end }
 
         // The work: two places and two lengths are looked up.
@@ -156,15 +156,15 @@ impl<L: Layer> FoldSnapshot<L> {
         Shift::new(first, past, count)
     }
 
-    /// Where what a fold replaces of what is shown begins: at the fold's start, or at that of its row where this is shown on
-    /// another line.
+    /// Where what a fold replaces of what is shown begins. It is at the fold's start, or at that of its row where this
+    /// is shown on another line.
     fn shown_from(&self, start: u32, steps: &mut Steps) -> u32
         requires { IsBoundary self.now.text start }
         ensures from { result ≡ shown_from self.now start }
         ensures counted { steps.old ≤ steps.new }
         ensures steps { TakesAtMost (ways 4) (length self.now.folds) steps.old steps.new }
     {
-        // The text is UTF-8.
+        // For the proof: the text is UTF-8.
         let _len = self.text_len();
         let row = self.layer.row_ends(start).0;
         let first = self.line_of(row, Bias::Left, steps);
@@ -179,7 +179,7 @@ impl<L: Layer> FoldSnapshot<L> {
         ensures counted { steps.old ≤ steps.new }
         ensures steps { TakesAtMost (ways 4) (length self.now.folds) steps.old steps.new }
     {
-        // The text is UTF-8.
+        // For the proof: the text is UTF-8.
         let _len = self.text_len();
         let row = self.layer.row_ends(end).1;
         let last = self.line_of(row, Bias::Right, steps);
@@ -207,7 +207,7 @@ impl<L: Layer> FoldSnapshot<L> {
         ensures steps { let count = length self.now.folds in
             ChangesAtMost (ways 12) count (length next.now.folds) steps.old steps.new }
     {
-        // The text is UTF-8.
+        // For the proof: the text is UTF-8.
         let _len = self.text_len();
         let first = self.shown_from(range.start, steps);
         let last = self.shown_to(range.end, steps);

@@ -1,4 +1,4 @@
--- The lines that what the maps answer meets are those that the operation touches.
+-- The lines that what the maps return meets are those that the operation touches.
 use Rattle.std.proofs.Common.{◌≡◌, ◌==◌, ℕ, suc, ◌+◌, ◌<◌, ◌≤◌, ◌↔◌, ◌&&◌, ◌||◌, nat_le, nat_lt, not, cond, Bool, true, false, IsTrue, count_by, find, List, [], ◌∷◌, length, Option, option_map, Some, None, refl, sym, ap, ◌∙◌, subst, arith}
 use Rattle.std.specs.List.{Contains, list_any}
 use Rattle.std.proofs.lemmas.Bool.{eqb-true}
@@ -120,7 +120,7 @@ accepted r f is ok =
     all-three : (x y z : Bool) → x ≡ true → IsTrue y → IsTrue z → (x && (y && z)) ≡ true
     all-three x y z e f g = λ i. e i && (f i && g i)
 
--- ---- what is said of an answer
+-- ---- what is said of what is returned
 
 abbrev Meets : Operation → Record → Option Shift → Type 0
 Meets operation r answer = MeetsTouched (touched operation r) r (operated operation r) answer
@@ -153,7 +153,7 @@ module _ (added-touches : AddedTouches) (removed-touches : RemovedTouches) (repl
         let w = (lawful-operated r is operation ok).source in
         record { text = w.text; inlays = w.inlays; folds = no_entries fold_le (λ g. g.id) (IsFoldOf r'.text) }
 
-    -- nothing is touched, and nothing is answered
+    -- nothing is touched, and nothing is returned
     pub none-meets : (t : Touched) → touched operation r ≡ t → MeetsTouched t r r' None → (answer : Option Shift) → option_map reach_of answer ≡ None → Meets operation r answer
     none-meets t e m None none = subst (λ (x : Touched). MeetsTouched x r r' None) (sym e) m
     none-meets t e m (Some s) none = absurd (cc none)
@@ -169,7 +169,7 @@ module _ (added-touches : AddedTouches) (removed-touches : RemovedTouches) (repl
           (record { order = omega arith; within = new-in shift old new (reach_of s) leads; ordered = order'; in_text = within'; meets = just.after_it }) in
           subst (λ (t : Touched). MeetsTouched t r r' (Some s)) (sym e) (subst (λ (t : Touched). MeetsRun t r r' s) e run)
 
-      -- what the map of inlays answers touches the rows
+      -- what the map of inlays returns touches the rows
       pub over-meet : (shift : Option Shift) (below s : Shift) (change : Reach) → reach_of below ≡ change
           → TouchesRows (inlaid_of r) layer change (row_range r.text a b) (row_range r'.text a' b')
           → Follows old layer (option_map reach_of shift) (Some (reach_of below))

@@ -111,7 +111,7 @@ module _ (inlays : InlayState) (folds : FoldState) (text : List ℕ) (belong : B
     settled = λ e. refl;
   }
 
-  -- so they do once both maps are told
+  -- so they do once both maps have been given it
   pub belong-made : {X Y : Type 0} (made : Source) (below : Option Shift) → inlaid.IsSynced text moved inlays made (option_map reach_of below)
       → (inlays' : InlayState) → inlays' ≡ inlays_shown text moved inlays → (folds' : FoldState) (r : Result X Y) → OnOk r (folds' ≡ folded.synced made moved folds)
       → OnOk r (BelongTogether text inlays' folds')

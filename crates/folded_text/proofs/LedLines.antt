@@ -68,7 +68,7 @@ feeds-hidden k bytes =
       count-cons is_feed 0xAF (take k bytes),
     )
 
--- ---- in front of a place
+-- ---- before a place
 
 first-at : (d t : Token) (ts : List Token) (k : ℕ) → get_or (take (suc k) (at_places (t ∷ ts))) 0 d ≡ t
 first-at d (Byte o b) ts k = refl
@@ -79,7 +79,7 @@ module _ (e d : List Token) where
   abbrev Same : List Token → List Token → ℕ → Type 0
   Same xs ys k = take (feeds (take k (flat_map bytes_of xs))) (lines (ys ++ d)) ≡ take (feeds (take k (flat_map bytes_of xs))) (lines (xs ++ e))
 
-  -- with one token in front
+  -- with one token before them
   front-step : (x : Token) (xs ys : List Token) (k : ℕ) → suc k ≤ length (at_places (x ∷ xs)) → suc k ≤ length (at_places (x ∷ ys))
       → take (suc k) (at_places (x ∷ ys)) ≡ take (suc k) (at_places (x ∷ xs))
       → ((j : ℕ) → j ≤ length (at_places xs) → j ≤ length (at_places ys) → take j (at_places ys) ≡ take j (at_places xs) → Same xs ys j)
@@ -100,7 +100,7 @@ module _ (e d : List Token) where
       taken-next (Hidden o) (feeds (take (suc (suc (suc k))) (flat_map bytes_of (Hidden o ∷ xs)))) (feeds (take k (flat_map bytes_of xs))) (ys ++ d) (xs ++ e)
       (feeds-hidden k (flat_map bytes_of xs)) (next k (omega (arith, le)) (omega (arith, le')) (ap (drop 3) h))
 
-  -- lists of tokens with the same places up to one have the same lines up to it, whatever comes behind
+  -- lists of tokens with the same places up to one have the same lines up to it, whatever comes after
   fronts-same : (xs ys : List Token) (k : ℕ) → k ≤ length (at_places xs) → k ≤ length (at_places ys) → take k (at_places ys) ≡ take k (at_places xs) → Same xs ys k
   fronts-same xs ys zero le le' h = refl
   fronts-same [] ys (suc k) le le' h = absurd (omega (arith, le))
@@ -111,10 +111,10 @@ module _ (e d : List Token) where
       ∙ front-step x xs ys k le (subst (λ (t : Token). suc k ≤ length (at_places (t ∷ ys))) head le') (ap (λ (t : Token). take (suc k) (at_places (t ∷ ys))) (sym head) ∙ h)
       (λ j l l' g. fronts-same xs ys j l l' g)
 
--- ---- behind a place
+-- ---- after a place
 
--- What is behind a place: what is left of a placeholder that the place is inside of, and then tokens. Their lines but the first are those
--- behind the line of the place.
+-- What is after a place: what is left of a placeholder that the place is inside of, and then tokens. Their lines but
+-- the first are those after the line of the place.
 record Beyond (p : ℕ) (xs : List Token) : Type 0 where
   tail : List Token
   rest : ℕ
@@ -299,7 +299,7 @@ rest-back (suc zero) lt = refl
 rest-back (suc (suc zero)) lt = refl
 rest-back (suc (suc (suc r))) lt = absurd (omega (arith, lt))
 
--- from the front, with what is left in front
+-- from the start, with what is left before it
 same-behind : (ts us : List Token) (r r' : ℕ) → r < 3 → r' < 3 → Rest r' ++ at_places us ≡ Rest r ++ at_places ts → us ≡ ts
 same-behind ts us r r' lt lt' e =
     let turned : (xs : List Token) (q : ℕ) → q < 3 → reverse (Rest q ++ at_places xs) ≡ at_places (reverse xs) ++ Rest q = λ (xs : List Token) (q : ℕ) l.
@@ -320,7 +320,7 @@ texts-are s formed = two (display_lines s.text s.inlays s.folds) ∙ ap (λ (ts 
   two [] = refl
   two (l ∷ ls) = ap (λ k. text_of l ∷ k) (two ls)
 
--- what stands behind a place, by tokens without their offsets
+-- what comes after a place, by tokens without their offsets
 behind-erased : (p : ℕ) (xs : List Token) (b : Beyond p xs) → map erased (drop p (at_places xs)) ≡ Rest b.rest ++ at_places (map erased b.tail)
 behind-erased p xs b =
     ap (map erased) b.places

@@ -53,7 +53,7 @@ same-run f n k f' n' k' some e =
 
 -- ---- places that meet the lines of rows
 
--- The places from the first to the last meet just the lines whose spans meet the rows from that of one offset to that of another.
+-- The places from the first to the last meet just the lines whose spans meet the rows of two offsets or one between.
 pub record MeetsRowLines (s : Source) (first last a b : ℕ) : Type 0 where
   pub order : first ≤ last
   pub within : last ≤ length (shown_text s)

@@ -1,4 +1,4 @@
--- What stands at places tells the bytes there.
+-- What is at places gives the bytes there.
 use Rattle.std.proofs.Common.{◌≡◌, ℕ, zero, suc, ◌+◌, ◌-◌, ◌<◌, ◌≤◌, List, [], ◌∷◌, ◌++◌, flat_map, get_or, length, map, reverse, take, drop, Option, Some, refl, sym, ap, ◌∙◌, inl, inr, ◌⊎◌, arith, length-append}
 use Rattle.std.proofs.lemmas.Bool.{cases_lt}
 use Rattle.std.proofs.lemmas.List.{append-nil, drop_at, length-drop, length-map, length-reverse, length-take, map-append, map-id, reverse-append, reverse-reverse, take-append-drop, take-append-le, take_at}
@@ -12,7 +12,7 @@ use Rattle.edit_patch.specs.LayerLeads.{LayerLeads, token_after, token_places}
 use Rattle.edit_patch.specs.Leads.{LeadsAt, Reach}
 use Rattle.edit_patch.proofs.TokenPlaces.{at_places, length-at_places}
 
--- ---- from the front
+-- ---- from the start
 
 -- a token has as many places as bytes
 size-places : (t : Token) → length (token_places t) ≡ length (bytes_of t)

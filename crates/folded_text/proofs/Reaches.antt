@@ -1,4 +1,4 @@
--- A replacement of a text with inlays that an inlay map answers reaches over what was replaced of the text.
+-- A replacement of a text with inlays that an inlay map returns reaches over what was replaced of the text.
 use Rattle.std.proofs.Common.{◌≡◌, ℕ, ◌+◌, ◌-◌, ◌<◌, ◌≤◌, List, [], length, map, Option, Some, None, refl, sym, ap, ◌∙◌, subst, inl, inr, ◌⊎◌, arith}
 use Rattle.std.proofs.lemmas.Bool.{cases_lt}
 use Rattle.cell_units.specs.declared.place.Bias.TheVariants.{Left, Right}
@@ -19,7 +19,7 @@ use Rattle.fold_map.proofs.MapTokens.{bare, layer-is, place-size}
 use Rattle.fold_map.proofs.Places.{low-apart}
 use Rattle.fold_map.proofs.StateSynced.{row-end-behind, row-end-within, row-start-by, rows-order}
 
--- ---- places before and behind what other inlays replace of what is shown
+-- ---- places before and after what other inlays replace of what is shown
 
 module _ (text : List ℕ) (is js : List Inlay) (p : Reach) (leads : LayerLeads None (inlay_source text is) (inlay_source text js) (Some p)) where
   abbrev old : Source
@@ -34,7 +34,7 @@ module _ (text : List ℕ) (is js : List Inlay) (p : Reach) (leads : LayerLeads 
   bare-leads : Leads (map (token_after None)) (bare text is) (bare text js) p
   bare-leads = subst (λ (q : List Token × List Token). Leads (map (token_after None)) q.0 q.1 p) (λ i. (layer-is text is i, layer-is text js i)) leads
 
-  -- a place that isn't behind its start stays
+  -- a place that isn't after its start stays
   left-stays : (o : ℕ) → o ≤ n → place_of old o Left ≤ p.start → place_of new o Left ≡ place_of old o Left
   left-stays o le h =
       let w = bare-leads.within in
@@ -47,7 +47,7 @@ module _ (text : List ℕ) (is js : List Inlay) (p : Reach) (leads : LayerLeads 
       ap (λ k. place_of new k Right) (sym on)
       ∙ right-behind None text text is js p bare-leads 0 o o (omega arith) le (omega arith) (omega (arith, le)) (omega arith) h (λ q l. omega (arith, l)) o (omega arith) le
 
--- ---- what is answered reaches from the place of the start to that of the end
+-- ---- what is returned reaches from the place of the start to that of the end
 
 -- a replacement of what is shown reaches over that of the text from one offset to another
 pub record ReachesOver (v : Source) (a b : ℕ) (r : Reach) : Type 0 where

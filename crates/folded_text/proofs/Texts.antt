@@ -53,7 +53,7 @@ is-replaced old new put a b r utf8 range text is =
     subst (λ (p : List ℕ × Reach). IsReplaced old p.0 p.1) (λ i. (sym text i, sym is i))
     (record { put = put; utf8 = utf8; range = range; text = refl; count = refl })
 
--- inlays, moved by it, stand at boundaries of the new text
+-- inlays, moved by it, are at boundaries of the new text
 pub inlays-stand : (old new : List ℕ) (r : Option Reach) → IsReplacedIfAny old new r → IsUtf8 old → (inlays : List Inlay) → AreInlays old inlays → inlaid.StandAfter new r inlays
 inlays-stand old new None is utf8 inlays are = tt
 inlays-stand old new (Some s) is utf8 inlays are = told-stand old new is.put s (told-is old new s is) utf8 is.utf8 inlays are
@@ -79,7 +79,7 @@ folds-moved old new (Some s) is utf8 folds are =
           (λ f h. (goes f.start Right h.start, goes f.end Left h.end))
           (λ f h k. record { start = h.0; end = h.1; some = ltb-true f.start f.end k }) folds are
 
--- so they stand at its boundaries
+-- so they are at its boundaries
 pub folds-stand : (text : List ℕ) (r : Option Reach) (folds : List Fold) → AreFolds text (folds_after r folds) → StandAfter text r folds
 folds-stand text None folds are = tt
 folds-stand text (Some s) folds are =

@@ -1,4 +1,4 @@
--- What the map of folds asks for, where the map of inlays answers to one operation on a text all of which was shown.
+-- What the map of folds asks for, where the map of inlays is given one operation on a text all of which was shown.
 use Rattle.std.proofs.Common.{◌≡◌, ◌==◌, ℕ, ◌≤◌, find, List, length, Option, option_map, Some, None, refl, sym, ap, ◌∙◌, subst, arith}
 use Rattle.cell_units.specs.declared.place.Bias.TheVariants.{Right}
 use Rattle.cell_units.specs.declared.place.Shift.{Shift}

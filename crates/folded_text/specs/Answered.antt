@@ -1,4 +1,4 @@
--- What the maps of inlays and folds answer to one operation on a text all of which was shown.
+-- What the maps of inlays and folds return for one operation on a text all of which was shown.
 use Rattle.std.specs.Prelude.{◌≡◌, ◌≤◌, ◌+◌, ◌==◌, length, find, option_map, Option, Some, None}
 use Rattle.cell_units.specs.declared.place.Shift.{Shift}
 use Rattle.cell_units.specs.Lawful.{HasLawfulEntries, IsAllowed, IsWellFormed, source_of}
@@ -55,16 +55,16 @@ folds_told (AddFold f) r = folded_up f (folds_settled r)
 folds_told (RemoveFold id) r = folds_without r (find (λ f. f.id == id) r.folds)
 folds_told _ r = folds_settled r
 
--- ---- what both answer
+-- ---- what both return
 
--- The map of inlays shows the text with the inlays of the record after the operation, and answers `below`, as its `sync` ensures it
--- after the replacement of the text.
+-- The map of inlays shows the text with the inlays of the record after the operation. It returns `below`, as its `sync`
+-- ensures it after the replacement of the text.
 pub record IsLaid (operation : Operation) (r : Record) (shift below : Option Shift) : Type 0 where
   pub shift_is : option_map reach_of shift ≡ text_shift operation
   pub synced : inlaid.IsSynced (operated operation r).text (option_map reach_of shift) (inlays_told operation r) (inlaid_of (operated operation r))
       (option_map reach_of below)
 
--- what the map of folds asks then, once it was told of the operation
+-- what the map of folds asks then, once it was given the operation
 abbrev pub FollowsLaid : Operation → Record → Option Shift → Option Shift → Type 0
 FollowsLaid operation r shift below =
     Follows (folds_told operation r).current (inlaid_of (operated operation r)) (option_map reach_of shift) (option_map reach_of below)
@@ -78,8 +78,8 @@ pub record IsAnswered (operation : Operation) (r : Record) (shift below answer :
 
 -- ---- lines
 
--- The lines that a replacement of what is shown meets are those that are touched, before it and after it: one run, with as many
--- lines in front of it and behind it.
+-- The lines that a replacement of what is shown meets are those that are touched, before it and after it. They are one
+-- run, with as many lines before it and after it.
 pub record MeetsRun (touched : Touched) (r r' : Record) (s : Shift) : Type 0 where
   pub run : TouchesOneRun touched r r'
   pub first : first_met (source_of r) s ≡ run.front
@@ -97,17 +97,18 @@ MeetsTouched EachLine r r' None = Unit {0}
 
 -- ---- laws
 
--- what the map of inlays answers is what the map of folds asks for
+-- what the map of inlays returns is what the map of folds asks for
 abbrev pub AnswersSuffice : Type 0
 AnswersSuffice = (operation : Operation) (r : Record) (shift below : Option Shift) → HasLawfulEntries r → IsAllowed operation r
     → length (operated operation r).text ≤ LAID_LIMIT → IsLaid operation r shift below → FollowsLaid operation r shift below
 
--- the lines that what is answered meets are those that the operation touches
+-- the lines that what is returned meets are those that the operation touches
 abbrev pub AnswersMeet : Type 0
 AnswersMeet = (operation : Operation) (r : Record) (shift below answer : Option Shift) → HasLawfulEntries r → IsAllowed operation r
     → IsAnswered operation r shift below answer → MeetsTouched (touched operation r) r (operated operation r) answer
 
--- Whatever a replacement came of that leads from layer to layer, the lines that it doesn't meet have pieces of the same texts.
+-- Whatever a replacement came of that leads from layer to layer, the lines that it doesn't meet have pieces of the same
+-- texts.
 abbrev pub LeadsFollow : Type 0
 LeadsFollow = (shift : Option Reach) (old new : Source) (answer : Option Shift) → IsWellFormed old → IsWellFormed new
     → LayerLeads shift old new (option_map reach_of answer) → LinesFollow old new answer

@@ -11,8 +11,8 @@ use Rattle.inlay_map.specs.Maps.{InlayState}
 use Rattle.fold_map.specs.Maps.{FoldState}
 use Rattle.fold_map.specs.Synced as folded
 
--- The inlays are those of the text, and the folds are over what was shown of these last. What is pending of the inlays leads from
--- that to what is there.
+-- The inlays are those of the text, and the folds are over what was shown of these last. What is pending of the inlays
+-- leads from that to what is there.
 pub record BelongTogether (buffer : List ℕ) (inlays : InlayState) (folds : FoldState) : Type 0 where
   pub text : inlays.current.text ≡ buffer
   pub same : inlays.current.text ≡ inlays.shown.text
@@ -60,8 +60,8 @@ inlays_shown text shift inlays = inlaid.synced text shift inlays
 abbrev pub folds_shown : List ℕ → Option Reach → InlayState → FoldState → FoldState
 folds_shown text shift inlays folds = folded.synced (inlaid.source_after text shift inlays.current) shift folds
 
--- The snapshot shows the text with the inlays and the folds, moved. The answer is the one replacement that leads to it from what
--- was shown last, or none.
+-- The snapshot shows the text with the inlays and the folds, moved. What is returned is the one replacement that leads
+-- to it from what was shown last, or none.
 abbrev pub IsShown : List ℕ → Option Reach → InlayState → FoldState → Source → Option Reach → Type 0
 IsShown text shift inlays folds =
     folded.IsSynced (inlaid.source_after text shift inlays.current) shift (inlaid.answer_of text shift inlays) folds

@@ -9,8 +9,8 @@ use inlay_map::{InlayMap, InlaySnapshot};
 use std::alloc::Global;
 use text_rope::Rope;
 
-/// Shows a text with its inlays and folds, after the replacement that led to it, if there was one. It gives the snapshot, and what
-/// of it is new.
+/// Shows a text with its inlays and folds, after the replacement that led to it, if there was one. Returns the
+/// snapshot, and what of it is new.
 pub fn show(
     alloc: Global,
     inlays: &mut InlayMap,
@@ -35,10 +35,10 @@ pub fn show(
     ensures err { OnErr result (folds.new ≡ folds.old) }
     ensures counted { steps.old ≤ steps.new }
 {
-    // The text is within its limit, and the inlays and the folds fit it.
+    // For the proof: the text is within its limit, and the inlays and the folds fit it.
     let _sizes = (rope.len(), inlays.len(), folds.len());
     let (layer, below) = inlays.sync(alloc, rope, shift, steps)?;
-    // The inlays do so then.
+    // For the proof: the inlays fit it then.
     let _len = layer.buffer_len();
     folds.sync(alloc, layer, shift, below, steps)
 }

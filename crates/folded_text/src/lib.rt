@@ -1,5 +1,5 @@
-//! A text under the maps of its inlays and its folds, which change together: what the tests of the fold map stand over, and how
-//! those maps are joined.
+//! A text under the maps of its inlays and its folds, which change together. The tests of the fold map use it, and it
+//! shows how those maps are joined.
 #![tactic(auto)]
 
 mod callers;

@@ -42,7 +42,8 @@ impl Drop for FoldedText {
     }
 }
 
-/// The text with another in the place of a range, and the replacement that leads to it. It is refused as the rope refuses it.
+/// The text with another in the place of a range, and the replacement that leads to it. It is refused as the rope
+/// refuses it.
 fn replaced(
     alloc: Global,
     rope: &Rope,
@@ -55,7 +56,7 @@ fn replaced(
     ensures range { OnOk result (IsRange rope.now start end) }
     ensures small { IfOk result (λ new. length new.0 ≤ TEXT_LIMIT) }
 
-    // The cleaned text stands in the place of the range, and its bytes are counted.
+    // The cleaned text is in the place of the range, and its bytes are counted.
     ensures text { let made = replaced_text rope.now start end (clean text.now) in
         IfOk result (λ new. new.0 ≡ made) }
     ensures shift { let put = put_at start end (clean text.now) in
@@ -89,7 +90,8 @@ impl FoldedText {
         })
     }
 
-    /// Adds an inlay, which is shown from the next snapshot on. It is refused as the map of inlays refuses it.
+    /// Adds an inlay at an offset in bytes, which is shown from the next snapshot on. It is refused as
+    /// `InlayMap::insert` says.
     pub fn insert(
         &mut self,
         alloc: Global,
@@ -113,13 +115,13 @@ impl FoldedText {
         ensures unchanged { OnErr result (self.new ≡ self.old) }
         ensures counted { steps.old ≤ steps.new }
     {
-        // The inlays stand within the text, at boundaries.
+        // For the proof: the inlays are within the text, at boundaries.
         let _inlays = self.inlays.len();
         self.inlays.insert(alloc, id, offset, bias, text, steps)?;
         Ok(())
     }
 
-    /// Takes the inlay of an id away. It is shown up to the next snapshot.
+    /// Takes the inlay of an id away. It is shown up to the next snapshot. `UnknownId` where there is none.
     pub fn remove(&mut self, alloc: Global, id: u32, steps: &mut Steps) -> Result<(), Fault>
         // What is there after it, what is accepted, and what stays.
         ensures ok { (i : Inlay) → Contains self.old.inlays.current.inlays i → i.id ≡ id →
@@ -134,13 +136,13 @@ impl FoldedText {
         ensures unchanged { OnErr result (self.new ≡ self.old) }
         ensures counted { steps.old ≤ steps.new }
     {
-        // The inlays stand within the text, no two with one id.
+        // For the proof: the inlays are within the text, no two with one id.
         let _inlays = self.inlays.len();
         self.inlays.remove(alloc, id, steps)?;
         Ok(())
     }
 
-    /// Folds a range, which is hidden from the next snapshot on. It is refused as the map of folds refuses it.
+    /// Folds a range of bytes, which is hidden from the next snapshot on. It is refused as `FoldMap::fold` says.
     pub fn fold(
         &mut self,
         alloc: Global,
@@ -162,13 +164,13 @@ impl FoldedText {
         ensures unchanged { OnErr result (self.new ≡ self.old) }
         ensures counted { steps.old ≤ steps.new }
     {
-        // The text is within its limit, and the folds fit it.
+        // For the proof: the text is within its limit, and the folds fit it.
         let _sizes = (self.rope.len(), self.folds.len());
         self.folds.fold(alloc, id, start, end, steps)?;
         Ok(())
     }
 
-    /// Takes the fold of an id off. What it hides is hidden up to the next snapshot.
+    /// Takes the fold of an id off. What it hides is hidden up to the next snapshot. `UnknownId` where there is none.
     pub fn unfold(&mut self, alloc: Global, id: u32, steps: &mut Steps) -> Result<(), Fault>
         // What is there after it, what is accepted, and what stays.
         ensures ok { (f : Fold) → Contains self.old.folds.current.folds f → f.id ≡ id →
@@ -183,13 +185,13 @@ impl FoldedText {
         ensures unchanged { OnErr result (self.new ≡ self.old) }
         ensures counted { steps.old ≤ steps.new }
     {
-        // The text is within its limit, and the folds fit it.
+        // For the proof: the text is within its limit, and the folds fit it.
         let _sizes = (self.rope.len(), self.folds.len());
         self.folds.unfold(alloc, id, steps)?;
         Ok(())
     }
 
-    /// Shows what is there. It gives the snapshot, and what of it is new.
+    /// Shows what is there. Returns the snapshot, and what of it is new.
     pub fn show(
         &mut self,
         alloc: Global,
@@ -212,7 +214,8 @@ impl FoldedText {
         self.follow(alloc, rope, None, steps)
     }
 
-    /// Puts a text in the place of a range, and shows what is there then. It is refused as the rope refuses it.
+    /// Puts a text in the place of a range of bytes, and shows what is there then. It is refused as `Rope::replace`
+    /// says.
     pub fn replace(
         &mut self,
         alloc: Global,
@@ -267,7 +270,7 @@ impl FoldedText {
             let made = folds_shown rope replaced was.inlays was.folds in
             OnOk result (self.new.folds ≡ made) }
 
-        // The snapshot shows them so, and the answer leads to it from what was shown last.
+        // The snapshot shows them so, and what is returned leads to it from what was shown last.
         ensures shown { let was = self.old in let replaced = option_map reach_of shift in
             IfOk result (λ made. let answer = option_map reach_of made.1 in
             IsShown rope replaced was.inlays was.folds made.0 answer) }

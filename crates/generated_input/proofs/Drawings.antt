@@ -5,7 +5,7 @@ use Rattle.std.proofs.lemmas.List.{append-nil}
 use Rattle.std.proofs.lemmas.List.Concat.{flat_map-cons}
 use Rattle.generated_input.specs.Drawing.{Drawing, Drawn, times}
 
--- the next one, and then those behind it
+-- the next one, and then those after it
 times-next : {A : Type 0} (count done : ℕ) (drawing : Drawing A) (state : ℕ) → done < count → times (count - done) drawing state
     ≡ record {
       value = (drawing state).value ∷ (times (count - (done + 1)) drawing (drawing state).state).value;
@@ -25,8 +25,8 @@ times-end {A} count drawing state =
     let e : 0 ≡ count - count = omega arith in
     subst (λ (n : ℕ). times n drawing state ≡ record { value = []; state = state }) e refl
 
--- what is written by now and what is drawn from here on, as it is written, are all that is to be written, and so the states.
--- `writing n` writes those that come when n were drawn
+-- what is written by now and what is drawn from here on, as it is written, are all that is to be written. So it is with
+-- the states. `writing n` writes those that come when n were drawn
 pub record LeadsOn {A : Type 0} (writing : ℕ → List A → List ℕ) (drawing : Drawing A) (count done : ℕ) (before : List ℕ) (start : ℕ) (now : List ℕ) (state : ℕ) : Type 0 where
   pub written : now ++ writing done (times (count - done) drawing state).value ≡ before ++ writing 0 (times count drawing start).value
   pub behind : (times (count - done) drawing state).state ≡ (times count drawing start).state
@@ -63,12 +63,12 @@ leads_to_end {A} writing drawing count done before start now state all none lead
     let nothing : writing count (times (count - count) drawing state).value ≡ [] = ap (λ (drawn : Drawn (List A)). writing count drawn.value) end ∙ none in
     (sym (ap (λ (l : List ℕ). now ++ l) nothing ∙ append-nil now) ∙ at_end.written, ap (λ (drawn : Drawn (List A)). drawn.state) (sym end) ∙ at_end.behind)
 
--- words with one space between neighbours, behind so many words of the same line
+-- words with one space between neighbours, after so many words of the same line
 abbrev pub joined_behind : ℕ → List (List ℕ) → List ℕ
 joined_behind zero words = join_with_byte 32 words
 joined_behind (suc n) words = flat_map (λ word. 32 ∷ word) words
 
--- a word with the space that stands before it
+-- a word with the space that is before it
 abbrev pub word_behind : ℕ → List ℕ → List ℕ
 word_behind zero word = word
 word_behind (suc n) word = 32 ∷ word

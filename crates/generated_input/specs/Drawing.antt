@@ -1,7 +1,7 @@
--- Drawing from a state: what is drawn, and the state behind it.
+-- Drawing from a state: what is drawn, and the state after it.
 use Rattle.std.specs.Prelude.{ℕ, ◌+◌, ◌*◌, ◌/◌, ◌%◌, ◌^◌, zero, suc, List, [], ◌∷◌}
 
--- what is drawn from a state, and the state behind it
+-- what is drawn from a state, and the state after it
 pub record Drawn (A : Type 0) : Type 0 where
   pub value : A
   pub state : ℕ
@@ -14,11 +14,11 @@ abbrev pub give : {A : Type 0} → A → Drawing A
 give value state = record { value = value; state = state }
 
 infixl 1 ◌>>=◌
--- a drawing, and behind it one that is told what the first one drew. `do` stands for it
+-- a drawing, and after it one that is given what the first one drew. `do` is written for it
 abbrev pub ◌>>=◌ : {A B : Type 0} → Drawing A → (A → Drawing B) → Drawing B
 ◌>>=◌ first rest state = rest (first state).value (first state).state
 
--- the state behind a draw
+-- the state after a draw
 abbrev pub next : ℕ → ℕ
 next state = (state * 6364136223846793005 + 1442695040888963407) % 2 ^ 64
 
@@ -26,7 +26,7 @@ next state = (state * 6364136223846793005 + 1442695040888963407) % 2 ^ 64
 unfoldable pub draw : ℕ → Drawing ℕ
 draw m state = record { value = (next state / 2 ^ 33) % m; state = next state }
 
--- the same drawing so many times, one behind the other
+-- the same drawing so many times, one after the other
 unfoldable pub times : {A : Type 0} → ℕ → Drawing A → Drawing (List A)
 times zero drawing = give []
 times (suc n) drawing = do

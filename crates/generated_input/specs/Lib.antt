@@ -1,3 +1,4 @@
+-- What the crate promises
 pub mod Drawing
 pub mod Made
 pub mod Laws

@@ -29,7 +29,7 @@ text_lines count = do
   lines ← times count line
   give (concat lines)
 
--- a line of the script, and how long the text is behind it
+-- a line of the script, and how long the text is after it
 pub record ScriptLine : Type 0 where
   pub bytes : List ℕ
   pub text_length : ℕ

@@ -1,4 +1,4 @@
-//! A text and a script.
+//! What is made from a number: a text and a script.
 
 /// The text and the script made from a number.
 #[derive(Debug, Drop)]

@@ -26,12 +26,12 @@ impl Generator {
         Generator { state }
     }
 
-    /// The next number, which is below `bound`: the upper 31 bits of the next state of a linear congruential generator (Knuth's MMIX),
-    /// modulo the bound.
+    /// The next number, which is below `bound`: the upper 31 bits of the next state of a linear congruential generator
+    /// (Knuth's MMIX), modulo the bound.
     pub fn draw(&mut self, bound: u64) -> u64
         requires { 0 < bound }
 
-        // The number and the state behind it are those of a draw below the bound.
+        // The number and the state after it are those of a draw below the bound.
         ensures value { result ≡ (draw bound self.old.state).value }
         ensures state { self.new.state ≡ (draw bound self.old.state).state }
 

@@ -5,8 +5,8 @@ ghost use Rattle.cell_units.specs.Record.{line_count};
 ghost use Rattle.generated_input.specs.Made.{made_of};
 ghost use Rattle.generated_input.specs.Laws.{IsPlain, script_limit};
 
-/// What is made from any number is ASCII without carriage returns and within the limits. The text has 20,000 lines and the
-/// script 400, each with a line feed at its end. It does nothing.
+/// What is made from any number is ASCII without carriage returns and within the limits. The text has 20,000 lines and
+/// the script 400, each with a line feed at its end. It does nothing.
 pub fn made_laws()
     ensures plain { (number : ℕ) → IsPlain (made_of number).text
         × IsPlain (made_of number).script }

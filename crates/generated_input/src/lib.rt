@@ -1,8 +1,8 @@
-//! The text and the script that the program makes from a number, for trying it without files, and the generator that both are
-//! drawn from.
+//! The text and the script that the program makes from a number, for trying it without files, and the generator that
+//! both are drawn from.
 //!
-//! The crate promises that they are exactly those of `specs/Made.antt`, that both are ASCII without carriage returns, and
-//! that both are within the program's limits.
+//! The crate promises that they are exactly those of `specs/Made.antt`, that both are ASCII without carriage returns,
+//! and that both are within the program's limits.
 #![tactic(auto)]
 
 mod files;

@@ -13,7 +13,7 @@ use std::alloc::Global;
 /// How many lines the script has.
 const COMMANDS: u64 = 400;
 
-/// The text and the script that are made from a number.
+/// The text and the script that are made from a number (*Made*).
 pub fn made(alloc: Global, number: u32) -> Result<Made, NoMemory>
     ensures made { IfOk result (λ m. (m.text.items ≡ (made_of number).text)
         × (m.script.items ≡ (made_of number).script)) }

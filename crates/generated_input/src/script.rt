@@ -126,7 +126,7 @@ impl Generator {
         Ok(())
     }
 
-    /// Appends the line of a number for a text of so many bytes, and says how many the text has behind it.
+    /// Appends the line of a number for a text of so many bytes, and returns how many bytes the text has after it.
     fn command(
         &mut self,
         alloc: Global,

@@ -42,7 +42,7 @@ module _ (text : List ℕ) where
   abbrev own : ℕ → Inlay → Stretch
   own base i = record { gap = i.offset - base; old = length (clean i.text); new = 0 }
 
-  -- no place is carried further than it stands
+  -- no place is carried further than it is
   pub lower-le : (base : ℕ) (is : List Inlay) (y : ℕ) → to_lower Left (stretches base is) y ≤ y
   lower-le base [] y = omega arith
   lower-le base (i ∷ is) y = go (is_behind Left (own base i) y) refl (lower-le i.offset is (y - (i.offset - base + length (clean i.text)))) where
@@ -51,7 +51,7 @@ module _ (text : List ℕ) where
     go true e r = omega (arith, after Left (own base i) (map flipped (stretches i.offset is)) y e, r, end_reached Left (own base i) y e)
     go false e r = omega (arith, at Left (own base i) (map flipped (stretches i.offset is)) y e)
 
-  -- ---- what stands at a place
+  -- ---- what is at a place
 
   at-text : (o y : ℕ) (bs : List ℕ) (rest : List Token) (t : Token) → y < length bs → slice_get (text_tokens o bs ++ rest) y ≡ Some t → offset_of t ≡ o + y
   at-text o y [] rest t lt e = absurd (omega (arith, lt))
@@ -90,7 +90,7 @@ module _ (text : List ℕ) where
     none zero p = cc
     none (suc k) p = cc
 
-  -- the offset of what stands at a place is the one that the place is carried back to
+  -- the offset of what is at a place is the one that the place is carried back to
   pub offset-is : (base : ℕ) (is : List Inlay) (y : ℕ) (t : Token) → IsSpread text base is → base ≤ length text
       → slice_get (parts_from text base is ++ closing ∷ []) y ≡ Some t → base + to_lower Left (stretches base is) y ≡ offset_of t
   offset-is base [] y t s le e = elim (cases_lt y (length (drop base text))) [

@@ -1,4 +1,4 @@
--- What is shown, cut before an inlay: how much stands in front of it, by the splices of the inlays before it.
+-- What is shown, cut before an inlay: how much is before it, by the splices of the inlays before it.
 use Rattle.std.proofs.Common.{◌≡◌, ℕ, zero, suc, ◌+◌, ◌-◌, ◌≤◌, List, [], ◌∷◌, ◌++◌, length, map, take, drop, count_by, refl, sym, ap, ◌∙◌, arith, append_assoc, length-append}
 use Rattle.std.proofs.lemmas.List.{length-drop, length-map, length-take, take_all}
 use Rattle.std.proofs.lemmas.List.Concat.{flat_map-append}
@@ -68,7 +68,7 @@ length-text o [] = refl
 length-text o (b ∷ bs) = ap suc (length-text (o + 1) bs)
 
 module _ (text : List ℕ) where
-  -- before the inlay of the index n, or behind all
+  -- before the inlay of the index n, or after all
   pub record IsCut (base : ℕ) (is : List Inlay) (n : ℕ) : Type 0 where
     pub front : List Token
     pub whole : parts_from text base is ≡ front ++ parts_from text (base_at base is n) (drop n is)

@@ -1,4 +1,4 @@
--- Where the line feed of a number stands in what is shown.
+-- Where the line feed of a number is in what is shown.
 use Rattle.std.proofs.Common.{◌≡◌, ℕ, zero, suc, ◌+◌, ◌-◌, ◌<◌, ◌≤◌, List, ◌++◌, length, take, drop, count_by, get_or, Some, sym, ap, ◌∙◌, inl, inr, arith, append_assoc, length-append}
 use Rattle.std.specs.List.{slice_get}
 use Rattle.std.proofs.lemmas.Bool.{cases_lt}
@@ -21,7 +21,7 @@ use Rattle.inlay_map.proofs.RowsShown.{InSpot, in-spot}
 use Rattle.inlay_map.proofs.ShownFeeds.{count-between}
 use Rattle.inlay_map.proofs.Spread.{IsSpread}
 
--- a feed in a middle part is one of the whole, behind those of the front
+-- a feed in a middle part is one of the whole, after those of the prefix
 pub behind-in : (front mid rest : List ℕ) (feeds place : ℕ) → IsBehindFeed mid feeds place → IsBehindFeed (front ++ (mid ++ rest)) (count_by is_feed front + feeds) (length front + place)
 behind-in front mid rest feeds place b =
     let some = b.some in
@@ -41,7 +41,7 @@ behind-in front mid rest feeds place b =
           ∙ ap (λ k. count_by is_feed front + k) b.row;
     }
 
--- a line but the first starts behind its feed
+-- a line but the first starts after its feed
 start-behind : (text : List ℕ) (row : ℕ) → 0 < row → row < line_count text → IsBehindFeed text row (line_start text row)
 start-behind text zero some lt = absurd (omega arith)
 start-behind text (suc row) some lt =

@@ -30,7 +30,7 @@ get-inlay (n ∷ ns) (suc k) m e = get-inlay ns k m e
 pub inlay-fits : (text : List ℕ) (is : List Inlay) (k : ℕ) (i : Inlay) → AreInlays text is → slice_get is k ≡ Some i → IsInlayOf text i
 inlay-fits text is k i are e = subst (IsInlayOf text) (get_or_from_slice_get is k i i e) (are.each k i (slice_get_within is k i e))
 
--- it stands at its own offset, which is not before that of the one before it
+-- it is at its own offset, which is not before that of the one before it
 pub record IsPlaced (text : List ℕ) (base : ℕ) (is : List Inlay) (k : ℕ) (i : Inlay) : Type 0 where
   pub order : base_at base is k ≤ i.offset
   pub end : end_at text is k ≡ i.offset
@@ -43,7 +43,7 @@ placed text base (j ∷ js) (suc k) i s e =
     let r = placed text j.offset js k i s.3 e in
     record { order = r.order; end = r.end }
 
--- the first inlay at an offset or behind it
+-- the first inlay at an offset or after it
 abbrev reaches : ℕ → Mark (List ℕ) → Bool
 reaches o m = nat_le o m.offset
 

@@ -43,7 +43,7 @@ same-move s (Byte o b ∷ ts) = ap (λ l. token_after (Some s) (Byte o b) ∷ l)
 same-move s (InlayByte o id b ∷ ts) = ap (λ l. token_after (Some s) (InlayByte o id b) ∷ l) (same-move s ts)
 same-move s (Hidden o ∷ ts) = ap (λ l. token_after (Some s) (Hidden o) ∷ l) (same-move s ts)
 
--- where the byte behind a replaced range goes
+-- where the byte after a replaced range goes
 move-end : (a b n : ℕ) → a ≤ b → move b Right a b n ≡ a + n
 move-end a b n le = go (nat_lt b a) (b == a) (nat_le b b) (grind (arith, nat_tests)) (grind (arith, nat_tests)) where
   go : (c d e : Bool) → c ≡ false → e ≡ true → cond c b (cond (d && false) b (cond e (a + n) (b + n - (b - a)))) ≡ a + n
@@ -73,7 +73,7 @@ module _ (xs ys ys' rest : List ℕ) (old new : List Inlay) where
   whole : (inlays : List Inlay) (zs : List ℕ) → layer_places (inlay_source zs inlays) ≡ at_places (shown_right inlays zs)
   whole inlays zs = ap (λ l. at_places (show_each (shown inlays []) 0 l ++ inlays_at inlays (length zs))) (take_all (length zs) zs (omega arith))
 
-  -- the bytes `ys` become others, and the inlays others, but not before these bytes; what is behind them is moved
+  -- the bytes `ys` become others, and the inlays others, but not before these bytes; what comes after them is moved
   pub parts-lead : (moves : Token → Token) → ((t : Token) → token_places (moves t) ≡ map moves (token_places t))
       → ((k : ℕ) → k < length xs → inlays_at new k ≡ inlays_at old k)
       → shown_behind new (length (xs ++ ys')) rest ≡ map moves (shown_behind old (length (xs ++ ys)) rest)
@@ -106,7 +106,7 @@ module _ (xs ys ys' rest : List ℕ) (old new : List Inlay) where
             ap (λ l. length (at_places l)) (same-front moves places xs ys ys' rest old new before behind),
           )
 
--- two lists of what stands behind an offset, where one is the other moved
+-- two lists of what comes after an offset, where one is the other moved
 behind-moved : (moves : Token → Token) (a b n : ℕ) (rest : List ℕ) (old new : List Inlay) → a ≤ b
     → ((c : ℕ) → Byte (a + n) c ≡ moves (Byte b c))
     → ((k : ℕ) → b < k → inlays_at new (k + n - (b - a)) ≡ map moves (inlays_at old k))

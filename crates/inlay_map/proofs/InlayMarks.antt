@@ -45,7 +45,7 @@ position-inlay id ms = λ i. cond (nat_lt (go ms i) (sym (length-map ms inlay_of
   go [] = refl
   go (n ∷ ns) = ap (λ k. cond (not (n.id == id)) (1 + k) 0) (go ns)
 
--- what follows from two facts on an answer
+-- what follows from two facts on a result
 pub both-ok : {T E : Type 0} (A B C : T → Type 0) (r : Result T E) → ((x : T) → A x → B x → C x) → IfOk r A → IfOk r B → IfOk r C
 both-ok A B C (Ok x) f a b = f x a b
 both-ok A B C (Err e) f a b = tt

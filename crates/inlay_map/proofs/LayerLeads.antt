@@ -10,14 +10,14 @@ use Rattle.edit_patch.specs.LayerLeads.{token_places}
 use Rattle.edit_patch.specs.Leads.{Leads, Reach}
 
 module _ (inlays : List Inlay) where
-  -- what a text shows before the inlays at its end, and behind them
+  -- what a text shows before the inlays at its end, and after them
   abbrev pub shown_left : List ℕ → List Token
   shown_left xs = show_each (shown inlays []) 0 xs
 
   abbrev pub shown_right : List ℕ → List Token
   shown_right xs = shown_left xs ++ inlays_at inlays (length xs)
 
-  -- what the rest of a text shows behind the inlays at its start, which is at the offset
+  -- what the rest of a text shows after the inlays at its start, which is at the offset
   abbrev pub shown_behind : ℕ → List ℕ → List Token
   shown_behind o [] = []
   shown_behind o (c ∷ cs) = Byte o c ∷ (show_each (shown inlays []) (o + 1) cs ++ inlays_at inlays (o + 1 + length cs))
@@ -40,8 +40,8 @@ module _ (inlays : List Inlay) where
       ∙ ap (λ l. shown_left xs ++ l) (append_assoc (here ++ Byte o c ∷ []) tail (inlays_at inlays (o + 1 + length cs)) ∙ append_assoc here (Byte o c ∷ []) (tail ++ inlays_at inlays (o + 1 + length cs)))
       ∙ sym (append_assoc (shown_left xs) here (shown_behind o (c ∷ cs)))
 
--- The bytes `ys` between a front and a rest become others, and the inlays others, but not before these bytes; what is
--- behind them is moved.
+-- The bytes `ys` between a prefix and a rest become others, and the inlays others, but not before these bytes. What
+-- comes after them is moved.
 module _ (moved : Token → Token) (places : (t : Token) → token_places (moved t) ≡ map moved (token_places t)) (xs ys ys' rest : List ℕ) (inlays inlays' : List Inlay)
     (before : (k : ℕ) → k < length xs → inlays_at inlays' k ≡ inlays_at inlays k)
     (behind : shown_behind inlays' (length (xs ++ ys')) rest ≡ map moved (shown_behind inlays (length (xs ++ ys)) rest)) where

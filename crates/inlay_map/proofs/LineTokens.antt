@@ -1,4 +1,4 @@
--- What stands on a display line, by the places at which it starts and ends.
+-- What is on a display line, by the places at which it starts and ends.
 use Rattle.std.proofs.Common.{◌≡◌, ℕ, zero, suc, ◌+◌, ◌-◌, ◌<◌, ◌≤◌, Bool, true, false, cond, List, [], ◌∷◌, ◌++◌, length, take, drop, count_by, get_or, Some, refl, sym, ap, ◌∙◌, subst, arith}
 use Rattle.std.specs.List.{slice_get}
 use Rattle.cell_units.specs.Text.{is_feed, line_feed, row_of}
@@ -158,7 +158,7 @@ line-tokens text is line s le =
     ∙ (λ i. take (size i) (drop (from i) (sym (tokens-are text is s) i)))
     ∙ (λ i. part_of (inlay_source text is) (line_start (sym same i) line) (line_end (sym same i) line))
 
--- so a line begins with what stands at the place where it starts, and is in the row of that
+-- so a line begins with what is at the place where it starts, and is in the row of that
 pub span-is : (text : List ℕ) (is : List Inlay) (line : ℕ) (t : Token) → IsSpread text 0 is → line ≤ count_by is_feed (shown_text (inlay_source text is)) → line < length (display_lines text is [])
     → slice_get (folded text is []) (line_start (shown_text (inlay_source text is)) line) ≡ Some t
     → span_of (inlay_source text is) line ≡ (row_of text (offset_of t), row_of text (offset_of t))

@@ -72,7 +72,7 @@ left-same text old new o same =
 abbrev pub IsOrdered : Option Reach → Type 0
 IsOrdered pending = (s : Reach) → pending ≡ Some s → s.start ≤ s.end
 
--- at first, and right behind a `sync`
+-- at first, and right after a `sync`
 pub kept-none : (s : Source) → IsKept s s None
 kept-none s = record { text = refl; leads = refl }
 
@@ -131,7 +131,7 @@ none-counted id (i ∷ is) e = go (i.id == id) e (none-counted id is) (count-con
   go true h rest sum = absurd (cc)
   go false h rest sum = omega (arith, sum, rest h)
 
--- ---- what a `sync` answers
+-- ---- what a `sync` returns
 
 -- where nothing comes after it, a pending replacement stays alone
 pub pending-alone : (p : Option Reach) → p ≡ with_pending p None
@@ -162,7 +162,7 @@ leads-moved s rope shown current pending none are order leads ordered kept =
     rises : place_of current s.start Left ≤ place_of current s.end Right
     rises = omega (arith, places-left_first current s.start, places-rise current s.start s.end Right order leads.within)
 
--- what stands before the replacement is shown where it was
+-- what is before the replacement is shown where it was
 pub left-moved : (s : Reach) (text rope : List ℕ) (is : List Inlay) → AreInlays text is → s.start ≤ s.end → Leads unmoved text rope s
     → place_of (inlay_source rope (moved_inlays s.start s.end s.count is)) s.start Left ≡ place_of (inlay_source text is) s.start Left
 left-moved s text rope is are order leads =

@@ -1,4 +1,4 @@
--- How much text stands before inlays, as their splices are measured one behind the other.
+-- How much text is before inlays, as their splices are measured one after the other.
 use Rattle.std.proofs.Common.{◌≡◌, ℕ, zero, suc, ◌+◌, ◌-◌, ◌<◌, ◌≤◌, min, List, [], ◌∷◌, length, take, Some, refl, sym, ap, ◌∙◌, arith, add-one}
 use Rattle.std.specs.List.{slice_get}
 use Rattle.std.proofs.lemmas.List.{length-take}
@@ -24,7 +24,7 @@ use Rattle.inlay_map.proofs.SpliceLists.{length-splices}
 use Rattle.inlay_map.proofs.SpotsFound.{gap-some}
 use Rattle.inlay_map.proofs.Spread.{IsSpread}
 
--- an amount from the text's start tells its own end
+-- an amount from the text's start gives its own end
 pub own-end : (text : List ℕ) (base : ℕ) (before : Amount) → before ≡ amount_between text 0 base → (before.bytes ≡ base) × (before ≡ amount_between text 0 before.bytes)
 own-end text base before is =
     let bytes : before.bytes ≡ base = omega (arith, ap (λ (a : Amount). a.bytes) is) in
@@ -41,7 +41,7 @@ behind-is text before end row is le at =
       λ i. record { bytes = end - before.bytes; feeds = feeds i },
     )
 
--- the text up to an inlay is what the one behind it has before its gap
+-- the text up to an inlay is what the next one has before its gap
 end-next : (text : List ℕ) (base : ℕ) (is : List Inlay) (n : ℕ) → n < length is → end_at text is n ≡ base_at base is (suc n)
 end-next text base [] n lt = absurd (omega arith)
 end-next text base (i ∷ is) zero lt = refl
@@ -66,7 +66,7 @@ next-before s at before p spread short is got =
       λ i. record { bytes = bytes i; feeds = feeds i },
     )
 
--- what stands before a splice of a list that begins as the splices of the inlays do
+-- what is before a splice of a list that begins as the splices of the inlays do
 pub before-old : (s : Source) (old : List (Piece Amount NoLoad)) (start index : ℕ) (before : Sides Amount) → IsSpread s.text 0 s.inlays → start ≤ length old → index ≡ min start (length old)
     → before ≡ total (none nothing) (both together) (piece_sum together) (take index old) → take start old ≡ take start (splices_from s.text 0 s.inlays) → before.lower ≡ before_at s start
 before-old s old start index before spread le at is front =

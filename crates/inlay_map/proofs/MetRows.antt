@@ -162,7 +162,7 @@ module _ (v : Source) (none : v.folds ≡ []) (are : AreInlays v.text v.inlays) 
         | inl less ↦ absurd (omega (arith, at, lt, row_of-le v.text o a (omega (arith, less))))
       ]
 
-      -- a row that starts behind an offset is behind the offset's
+      -- a row that starts after an offset is after the offset's
       high : (o : ℕ) → row_of v.text o ≡ row → row < line_count v.text → row ≤ row_of v.text b → line_start v.text row ≤ b
       high o at there le =
           let s : line_start v.text (row_of v.text b) ≤ b = (line_of_offset v.text b within).0 in

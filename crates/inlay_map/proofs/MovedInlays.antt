@@ -27,11 +27,11 @@ use Rattle.mark_tree.proofs.Moved.{move-before, move-behind, move-within}
 use Rattle.inlay_map.specs.Splices.{inlay_of, without_at}
 use Rattle.inlay_map.proofs.InlayMarks.{moved-marks}
 
--- an inlay but for where it stands
+-- an inlay but for where it is
 abbrev HasText : Inlay → Type 0
 HasText i = IsUtf8 i.text × (0 < length i.text) × (length i.text ≤ INLAY_LIMIT)
 
--- inlays that stand at boundaries again fit the new text
+-- inlays that are at boundaries again fit the new text
 pub moved-are : (s : Shift) (text new : List ℕ) (is : List Inlay) → AreInlays text is → All (λ i. IsBoundary new i.offset) (moved_inlays s.start s.end s.count is)
     → AreInlays new (moved_inlays s.start s.end s.count is)
 moved-are s text new is are at =
@@ -118,7 +118,7 @@ contained-found id is i few c same = go is c.0 few (contained is c.0 i c.1 c.2) 
     further true sum rest = absurd (omega (arith, sum, less, some-counted id js k i e same))
     further false sum rest = rest (omega (arith, sum, less)) e
 
--- the inlay of the id, which stands at the index that a search finds
+-- the inlay of the id, which is at the index that a search finds
 pub record IsAt (id : ℕ) (is : List Inlay) (index : ℕ) : Type 0 where
   pub inlay : Inlay
   pub stands : slice_get is index ≡ Some inlay

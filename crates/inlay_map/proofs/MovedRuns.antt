@@ -1,4 +1,4 @@
--- The run of inlays that a replacement of the text meets, and the splices before it and behind it.
+-- The run of inlays that a replacement of the text meets, and the splices before it and after it.
 use Rattle.std.proofs.Common.{◌≡◌, ℕ, ◌+◌, ◌-◌, ◌≤◌, not, nat_le, List, length, map, take, drop, ◌∙◌, arith}
 use Rattle.std.specs.List.{position_or_len}
 use Rattle.std.proofs.lemmas.List.{length-map}
@@ -19,7 +19,7 @@ use Rattle.inlay_map.proofs.MovedSplices.{above-found, apart, below-found, moved
 use Rattle.inlay_map.proofs.Spread.{IsSpread, spread}
 use Rattle.inlay_map.proofs.StepSums.{met-is}
 
--- the index of the first inlay at an offset or behind it
+-- the index of the first inlay at an offset or after it
 abbrev pub first_from : ℕ → List Inlay → ℕ
 first_from o is = position_or_len (λ i. nat_le o i.offset) is
 
@@ -31,7 +31,7 @@ pub record IsRun (s : Shift) (v : Source) (new : List ℕ) (from to : ℕ) (move
   pub front : take from (splices_from v.text 0 v.inlays) ≡ take from (splices_from new 0 moved)
   pub rest : (gap : Amount) → with_first_gap gap (drop to (splices_from v.text 0 v.inlays)) ≡ with_first_gap gap (drop to (splices_from new 0 moved))
 
--- that from the first inlay at the start to the first one behind the end
+-- that from the first inlay at the start to the first one after the end
 pub run-is : (s : Shift) (v : Source) (new : List ℕ) → AreInlays v.text v.inlays → Leads unmoved v.text new (reach_of s)
     → IsRun s v new (first_from s.start v.inlays) (first_from (s.end + 1) v.inlays) (moved_inlays s.start s.end s.count v.inlays)
 run-is s v new are leads =

@@ -27,7 +27,7 @@ use Rattle.inlay_map.proofs.Spread.{IsSpread}
 
 -- ---- the inlays themselves
 
--- an inlay behind what was replaced
+-- an inlay after what was replaced
 abbrev pub shifted_inlay : Shift → Inlay → Inlay
 shifted_inlay s i = record { offset = i.offset + s.count - (s.end - s.start); bias = i.bias; id = i.id; text = i.text }
 
@@ -78,7 +78,7 @@ module _ (s : Shift) (order : s.start ≤ s.end) where
     above [] c d = tt
     above (j ∷ js) c d = (shift-le i j a.0 c.0 ∙ d.0, above js c.1 d.1)
 
--- all of the one list stand before all of the other
+-- all of the one list are before all of the other
 cross : (m : ℕ) (xs ys : List Inlay) → sorting.Every (λ x. x.offset < m) xs → sorting.Every (λ y. m ≤ y.offset) ys → sorting.Every (λ x. sorting.Every (λ y. inlay_le x y ≡ true) ys) xs
 cross m [] ys a b = tt
 cross m (x ∷ xs) ys a b = (above ys b, cross m xs ys a.1 b) where
@@ -86,7 +86,7 @@ cross m (x ∷ xs) ys a b = (above ys b, cross m xs ys a.1 b) where
   above [] c = tt
   above (z ∷ zs) c = (before-le x z (omega (arith, a.0, c.0)), above zs c.1)
 
--- what is before stays, what is met is sorted by itself, what is behind is shifted
+-- what is before stays, what is met is sorted by itself, what is after is shifted
 moved-parts : (s : Shift) (xs mid ys : List Inlay) → s.start ≤ s.end → sorting.Every (λ i. i.offset < s.start) xs → sorting.Every (λ i. s.start ≤ i.offset) mid → sorting.Every (λ i. i.offset < s.end + 1) mid
     → sorting.Every (λ i. s.end + 1 ≤ i.offset) ys → sorting.IsSorted inlay_le (xs ++ (mid ++ ys))
     → moved_inlays s.start s.end s.count (xs ++ (mid ++ ys)) ≡ xs ++ (sort_by inlay_le (map (move_inlay s.start s.end s.count) mid) ++ map (shifted_inlay s) ys)
@@ -110,7 +110,7 @@ moved-parts s xs mid ys order a b c d up =
     (cross (s.start + s.count + 1) moved behind (sorting.every-weaker (λ i. (s.start ≤ i.offset) × (i.offset < s.start + s.count + 1)) (λ i. i.offset < s.start + s.count + 1) (λ i e. e.1) moved within) above)
     ∙ ap (λ l. sort_by inlay_le moved ++ l) (sorting.sort-sorted inlay_le behind (shifted-sorted s order ys d (sorting.sorted-right inlay_le mid ys (sorting.sorted-right inlay_le xs (mid ++ ys) up)))))
 
--- What stands before the run stays, and what stands behind it is shifted.
+-- What is before the run stays, and what is after it is shifted.
 pub record Apart (s : Shift) (is : List Inlay) (i j : ℕ) : Type 0 where
   pub front : take i (moved_inlays s.start s.end s.count is) ≡ take i is
   pub behind : drop j (moved_inlays s.start s.end s.count is) ≡ map (shifted_inlay s) (drop j is)
@@ -185,7 +185,7 @@ module _ (s : Shift) (old new : List ℕ) (leads : Leads unmoved old new (reach_
   abbrev shift : ℕ → ℕ
   shift o = o + s.count - (s.end - s.start)
 
-  -- the rows behind it
+  -- the rows after it
   rows-behind : (o p : ℕ) → s.start ≤ s.end → s.end ≤ o → o ≤ p → row_of new (shift p) - row_of new (shift o) ≡ row_of old p - row_of old o
   rows-behind o p order low le =
       let from : (q : ℕ) → s.end ≤ q → row_of new (shift q) ≡ count_by is_feed (take (q - s.end) (drop s.end old)) + row_of new (s.start + s.count) =
@@ -215,7 +215,7 @@ module _ (s : Shift) (old new : List ℕ) (leads : Leads unmoved old new (reach_
   behind-regapped gap base after (i ∷ is) order e spread =
       ap (λ l. record { gap = gap; old = (splice_of old base i).old; new = (splice_of old base i).new; load = record {} } ∷ l) (behind-same i.offset is order (omega (arith, e.0)) spread.3)
 
--- The splices before the run are those of the new text, and those behind it too, but for the gap before the first.
+-- The splices before the run are those of the new text, and those after it too, but for the gap before the first.
 pub moved-front : (s : Shift) (old new : List ℕ) (is moved : List Inlay) (i : ℕ) → Leads unmoved old new (reach_of s)
     → take i moved ≡ take i is → Every (λ k. k.offset < s.start) (take i is) → take i (splices_from old 0 is) ≡ take i (splices_from new 0 moved)
 moved-front s old new is moved i leads front low =

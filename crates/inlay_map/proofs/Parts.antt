@@ -9,11 +9,11 @@ use Rattle.cell_units.specs.Folded.{shown}
 use Rattle.cell_units.proofs.ShownMoved.{show_each-append, show_each-same}
 use Rattle.inlay_map.proofs.Spread.{IsSpread}
 
--- the bytes of a text, of which the first stands at the offset
+-- the bytes of a text, of which the first is at the offset
 abbrev pub text_tokens : ℕ → List ℕ → List Token
 text_tokens o bs = show_each (λ k b. Byte k b ∷ []) o bs
 
--- what is shown from the offset `base` on, where the inlays stand there or behind
+-- what is shown from the offset `base` on, where the inlays are there or later
 abbrev pub parts_from : List ℕ → ℕ → List Inlay → List Token
 parts_from text base [] = text_tokens base (drop base text)
 parts_from text base (i ∷ is) = text_tokens base (take (i.offset - base) (drop base text)) ++ (inlay_bytes i ++ parts_from text i.offset is)

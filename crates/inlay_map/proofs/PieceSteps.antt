@@ -7,11 +7,11 @@ use Rattle.cell_units.specs.Inlaid.{Token, Byte, InlayByte, Hidden, offset_of}
 use Rattle.cell_units.specs.Pieces.{is_one_piece, piece_before, pieces_of}
 use Rattle.inlay_map.proofs.Parts.{text_tokens}
 
--- behind a token of a run comes another piece, or nothing but the token that closes the part
+-- after a token of a run comes another piece, or nothing but the token that closes the part
 abbrev pub Closes : Token → Token → List Token → Type 0
 Closes t u us = (is_one_piece t u ≡ false) ⊎ (us ≡ [])
 
--- tokens that begin with one that closes a run, which stands at the offset
+-- tokens that begin with one that closes a run, which is at the offset
 pub record Closed (t : Token) (o : ℕ) (rest : List Token) : Type 0 where
   pub head : Token
   pub more : List Token

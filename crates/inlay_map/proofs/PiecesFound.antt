@@ -149,7 +149,7 @@ part-none v place = ap (λ n. pieces_of (take n (drop place (folded v.text v.inl
   go [] = refl
   go (t ∷ ts) = refl
 
--- A line stands between two boundaries, and its pieces are those of what stands there.
+-- A line lies between two boundaries, and its pieces are those of what is there.
 pub record IsRange (v : Source) (line : ℕ) : Type 0 where
   pub start : IsBoundary (shown_text v) (line_start (shown_text v) line)
   pub end : IsBoundary (shown_text v) (line_end (shown_text v) line)

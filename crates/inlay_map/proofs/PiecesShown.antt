@@ -56,7 +56,8 @@ text-inner : (o : ℕ) (bs : List ℕ) (rest : List Token) → 0 < length bs →
 text-inner o [] rest lt = absurd (omega (arith, lt))
 text-inner o (b ∷ bs) rest lt = record { head = Byte o b; more = []; is = refl; at = refl; closes = inr refl }
 
--- A run of the text from `o` on, of which at most `m` tokens are taken and one more: its piece, and the part behind it.
+-- A run of the text from `o` on, of which at most `m` tokens are taken and one more. It has its piece, and the part
+-- after it.
 pub text-part : (o m : ℕ) (xs : List ℕ) (rest : List Token) → 0 < m → 0 < length xs → Closed (Byte 0 0) (o + length xs) rest
     → pieces_of (take (m + 1) (text_tokens o xs ++ rest))
     ≡ record { kind = Kinds.Buffer; text = take (min (length xs) m) xs; start = o; end = o + min (length xs) m } ∷ pieces_of (take (m + 1 - min (length xs) m) (drop (min (length xs) m) (text_tokens o xs ++ rest)))
@@ -193,7 +194,7 @@ module _ (text : List ℕ) where
       same-kind (InlayByte p k e) o id b d = refl
       same-kind (Hidden p) o id b d = refl
 
-  -- behind an inlay comes a byte of the text, the next inlay, or the end
+  -- after an inlay comes a byte of the text, the next inlay, or the end
   behind-inlay : (id o : ℕ) (js : List Inlay) → o ≤ length text → IsSpread text o js → ((j : Inlay) → slice_get js 0 ≡ Some j → (id ≢ j.id) × (0 < length (clean j.text)))
       → Closed (InlayByte 0 id 0) o (parts_from text o js ++ closing ∷ [])
   behind-inlay id o [] le s next = go (drop o text) (length-drop o text) where

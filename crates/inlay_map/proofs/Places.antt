@@ -1,4 +1,4 @@
--- Where an offset stands among inlays: as the splices carry it, and by the definition.
+-- Where an offset is among inlays: as the splices carry it, and by the definition.
 use Rattle.std.proofs.Common.{◌≡◌, ℕ, suc, ◌+◌, ◌-◌, ◌*◌, ◌^◌, ◌<◌, ◌≤◌, ◌&&◌, Bool, true, false, cond, nat_le, nat_lt, List, [], ◌∷◌, map, filter, sum_by, length, refl, sym, ap, ◌∙◌, arith}
 use Rattle.std.proofs.lemmas.Bool.Decides.{nat_tests}
 use Rattle.std.proofs.lemmas.List.Sums.{sum_by-cons}
@@ -19,7 +19,7 @@ use Rattle.inlay_map.specs.Amounts.{bytes_of}
 use Rattle.inlay_map.specs.Splices.{splice_of, splices_from}
 use Rattle.inlay_map.proofs.Spread.{IsSpread, spread}
 
--- the inlay stands before a place by its offset
+-- the inlay is before a place by its offset
 abbrev pub stands_before : Bias → ℕ → Inlay → Bool
 stands_before Left x i = nat_lt i.offset x
 stands_before Right x i = nat_le i.offset x
@@ -84,7 +84,7 @@ module _ (text : List ℕ) where
         ∙ none_further bias x i is s.3 test in
         omega (arith, left, right, le)
 
-  -- as the splices carry an offset, so it stands by the definition
+  -- as the splices carry an offset, so it is by the definition
   pub carried-place : (bias : Bias) (x : ℕ) (is : List Inlay) → IsSpread text 0 is → x ≤ length text → to_upper bias (map (measured bytes_of) (splices_from text 0 is)) x ≡ place_of (inlay_source text is) x bias
   carried-place Left x is s le =
       let same : x - 0 ≡ x = omega arith in

@@ -73,7 +73,7 @@ known-id s id e = ap {B = Option Refusal} (λ (b : Bool). cond b None (Some Unkn
 pub unknown-id : (s : Source) (id : ℕ) → list_any (λ i. i.id == id) s.inlays ≡ false → Some UnknownId ≡ remove_refusal s id
 unknown-id s id e = ap {B = Option Refusal} (λ (b : Bool). cond b None (Some UnknownId)) (sym e)
 
--- where nothing is refused, want of memory is owed
+-- where nothing is refused, the error is out of memory
 pub owed-memory : {A : Type 0} (refusal : Option Refusal) (r : Result A Fault) → None ≡ refusal → IsErrAnd r (λ e. e ≡ NoMemory) → IfErr r (IsOwed refusal)
 owed-memory refusal (Ok x) none h = tt
 owed-memory refusal (Err e) none h = subst (λ (o : Option Refusal). IsOwed o e) none h

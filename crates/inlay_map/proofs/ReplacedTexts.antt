@@ -33,7 +33,7 @@ module _ (text s : List ℕ) (a b : ℕ) (range : IsRange text a b) where
       ∙ length-append (take a text ++ s) (drop b text)
       ∙ (λ i. start i + length-drop b text i)
 
-  -- how long the new text is tells how much was put in
+  -- the length of the new text gives how much was put in
   pub length-put : length made - (length text - (b - a)) ≡ length s
   length-put = omega (arith, length-made, range.0, range.2.0)
 
@@ -48,7 +48,7 @@ module _ (text s : List ℕ) (a b : ℕ) (range : IsRange text a b) where
         ∙ drop_at (take a text ++ s) (drop b text) (a + length s) start;
   }
 
-  -- inlays that stand at boundaries stand at boundaries again
+  -- inlays that are at boundaries are at boundaries again
   put-stand : IsUtf8 text → IsUtf8 s → (n : ℕ) → n ≡ length s → (inlays : List Inlay) → AreInlays text inlays
       → All (λ i. IsBoundary made i.offset) (moved_inlays a b n inlays)
   put-stand utf8 spelled n e inlays are =
@@ -67,7 +67,7 @@ pub told-leads : (old new s : List ℕ) (r : Reach) → IsTold old new s r → L
 told-leads old new s r is =
     subst (λ (t : List ℕ). Leads unmoved old t r) (sym is.text) (put-leads old s r.start r.end is.range r.count is.count)
 
--- the inlays, moved by it, stand at boundaries of the new text
+-- the inlays, moved by it, are at boundaries of the new text
 pub told-stand : (old new s : List ℕ) (r : Reach) → IsTold old new s r → IsUtf8 old → IsUtf8 s
     → (inlays : List Inlay) → AreInlays old inlays → All (λ i. IsBoundary new i.offset) (moved_inlays r.start r.end r.count inlays)
 told-stand old new s r is utf8 spelled inlays are =
@@ -77,7 +77,7 @@ told-stand old new s r is utf8 spelled inlays are =
 reach-is : (a b : ℕ) (r : Reach) → r.start ≡ a → r.end ≡ b → record { start = a; end = b; count = r.count } ≡ r
 reach-is a b r start end = λ i. record { start = sym start i; end = sym end i; count = r.count }
 
--- What is told of it where the count is reckoned from the lengths of both texts.
+-- What is said of it where the count is reckoned from the lengths of both texts.
 pub told : (old new s : List ℕ) (a b bytes after : ℕ) (r : Reach) → IsRange old a b → new ≡ replaced_text old a b s
     → bytes ≡ length old → after ≡ length new → r.start ≡ a → r.end ≡ b → r.count ≡ after - (bytes - (b - a)) → IsTold old new s r
 told old new s a b bytes after r range text was is start end count =

@@ -70,7 +70,7 @@ module _ (text : List ℕ) (short : length text ≤ LAID_LIMIT) where
   get-drop (p ∷ ps) zero = refl
   get-drop (p ∷ ps) (suc n) = get-drop ps n
 
-  -- the new gap of the splice behind a run fits it
+  -- the new gap of the splice after a run fits it
   pub gap-fits : (is : List Inlay) (old : Splices) (to last : ℕ) (gap : Amount) → IsSpread text 0 is → with_first_gap gap (drop to old) ≡ drop last (splices_from text 0 is)
       → (p : Piece Amount NoLoad) → slice_get old to ≡ Some p → AmountFits (together gap p.old) × AmountFits (together gap p.new)
   gap-fits is old to last gap s behind p e =

@@ -30,7 +30,7 @@ module _ (text : List ℕ) where
   ends-in base (i ∷ is) zero s le = (s.0, s.1)
   ends-in base (i ∷ is) (suc n) s le = ends-in i.offset is n s.3 s.1
 
-  -- What stands behind the inlay before that of the index n: the text up to this one, and then the rest.
+  -- What comes after the inlay before that of the index n: the text up to this one, and then the rest.
   pub record IsRest (base : ℕ) (is : List Inlay) (n : ℕ) : Type 0 where
     pub tail : List Token
     pub whole : parts_from text (base_at base is n) (drop n is) ≡ text_tokens (base_at base is n) (take (end_at text is n - base_at base is n) (drop (base_at base is n) text)) ++ tail
@@ -70,7 +70,7 @@ module _ (text : List ℕ) where
   feeds-next base (j ∷ js) zero i e = omega (arith, ap (λ (k : Inlay). count_by is_feed (clean k.text)) (some-same j i e))
   feeds-next base (j ∷ js) (suc n) i e = omega (arith, feeds-next j.offset js n i e)
 
--- What is shown in three parts: what stands before the spot, the text there, and the rest.
+-- What is shown in three parts: what is before the spot, the text there, and the rest.
 pub record InSpot (text : List ℕ) (is : List Inlay) (n : ℕ) : Type 0 where
   pub front : List ℕ
   pub tail : List ℕ

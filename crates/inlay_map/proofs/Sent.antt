@@ -1,4 +1,5 @@
--- What snapshots of inlays and of folds hold may go to another thread: of the types of their parts, as a set for `search`.
+-- What snapshots of inlays and of folds hold may go to another thread: of the types of their parts, as a set for
+-- `search`.
 use denote.Param.Send.{sendable}
 use Rattle.std.proofs.Crossing.{crosses}
 use Rattle.sum_core.proofs.load.NoLoad.TheSendSync as load

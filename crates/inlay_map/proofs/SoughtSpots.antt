@@ -1,4 +1,4 @@
--- The spot at which a place or a line is sought, in a source without folds: its numbers, and what stands there.
+-- The spot at which a place or a line is sought, in a source without folds: its numbers, and what is there.
 use Rattle.std.proofs.Common.{◌≡◌, ℕ, zero, suc, ◌+◌, ◌-◌, ◌<◌, ◌≤◌, ◌^◌, List, [], ◌++◌, length, take, drop, count_by, Option, Some, None, refl, sym, ap, ◌∙◌, arith, length-append}
 use Rattle.std.specs.List.{slice_get}
 use Rattle.std.proofs.lemmas.List.{length-drop, length-take}
@@ -30,7 +30,7 @@ use Rattle.inlay_map.proofs.RowsShown.{InSpot, bytes-next, feeds-next, in-spot, 
 use Rattle.inlay_map.proofs.ShownFeeds.{count-between}
 use Rattle.inlay_map.proofs.Spread.{IsSpread, spread}
 
--- The numbers of a spot: how much stands before it, and how long the text there is.
+-- The numbers of a spot: how much is before it, and how long the text there is.
 pub record AreNumbers (v : Source) (spot : Spot) : Type 0 where
   pub base : spot.before.lower.bytes ≡ base_at 0 v.inlays spot.index
   pub row : spot.before.lower.feeds ≡ row_of v.text (base_at 0 v.inlays spot.index)
@@ -138,7 +138,7 @@ module _ (v : Source) (none : v.folds ≡ []) (are : AreInlays v.text v.inlays) 
       brief = omega (arith, clean-not_longer i.text, (inlay-fits v.text v.inlays spot.index i are e).short);
     }
 
-  -- where more is shown than up to the end of the text there, an inlay stands behind it
+  -- where more is shown than up to the end of the text there, an inlay comes after it
   pub there-bytes : (spot : Spot) → AreNumbers v spot → spot.before.upper.bytes + spot.gap.bytes < length (shown_text v) → IsThere v spot
   there-bytes spot n lt = there spot (λ e. omega (arith, lt, n.upper, n.end, n.base, long spot, ap (λ (t : List ℕ). length t) ((in' spot).none e)))
 
@@ -179,7 +179,7 @@ module _ (v : Source) (none : v.folds ≡ []) (are : AreInlays v.text v.inlays) 
         row_of-le v.text (base_at 0 v.inlays spot.index) (end_at v.text v.inlays spot.index) (in' spot).order,
       )
 
-  -- what is sought doesn't stand before the spot
+  -- what is sought isn't before the spot
   pub from-left : (target : ℕ) (spot : Spot) → IsSpot v bytes_of target Left spot → spot.before.upper.bytes ≤ target
   from-left target spot is = go spot.index refl where
     go : (n : ℕ) → spot.index ≡ n → spot.before.upper.bytes ≤ target

@@ -25,7 +25,7 @@ module _ (text : List ℕ) where
   splices-take base [] (suc k) = refl
   splices-take base (i ∷ is) (suc k) = ap (λ l. splice_of text base i ∷ l) (splices-take i.offset is k)
 
-  -- but for the gap before the first, it doesn't matter what stands before them
+  -- but for the gap before the first, it doesn't matter what comes before them
   pub rest-same : (gap : Amount) (b c : ℕ) (is : List Inlay) → with_first_gap gap (splices_from text b is) ≡ with_first_gap gap (splices_from text c is)
   rest-same gap b c [] = refl
   rest-same gap b c (i ∷ is) = refl
@@ -37,14 +37,14 @@ module _ (text : List ℕ) where
     some-same x y p = cc
   splice-get base (j ∷ js) (suc k) i e = splice-get j.offset js k i e
 
-  -- a list of splices is its front, a run, and the rest
+  -- a list of splices is its prefix, a run, and the rest
   pub in-runs : {X : Type 0} (xs : List X) (from n : ℕ) → take from xs ++ (take n (drop from xs) ++ drop (from + n) xs) ≡ xs
   in-runs xs from n =
       ap (λ l. take from xs ++ (take n (drop from xs) ++ l)) (sym (drop-drop n from xs))
       ∙ ap (λ l. take from xs ++ l) (take-append-drop n (drop from xs))
       ∙ take-append-drop from xs
 
--- the offset behind which an inlay stands is that of the one before it
+-- the offset after which an inlay comes is that of the one before it
 pub base-behind : (base : ℕ) (is : List Inlay) (k : ℕ) (i : Inlay) → slice_get is k ≡ Some i → base_at base is (suc k) ≡ i.offset
 base-behind base [] k i e = absurd (cc)
 base-behind base (j ∷ js) zero i e = ap (λ x. x.offset) (some-same j i e) where
@@ -56,7 +56,7 @@ base-behind base (j ∷ js) (suc k) i e = base-behind j.offset js k i e
 pub run-front : (text : List ℕ) (is new : List Inlay) (k : ℕ) → take k new ≡ take k is → take k (splices_from text 0 is) ≡ take k (splices_from text 0 new)
 run-front text is new k e = splices-take text 0 is k ∙ ap (splices_from text 0) (sym e) ∙ sym (splices-take text 0 new k)
 
--- and those behind it are so but for the first gap
+-- and those after it are so but for the first gap
 pub run-rest : (text : List ℕ) (is new : List Inlay) (a b : ℕ) (gap : Amount) → drop b new ≡ drop a is
     → with_first_gap gap (drop a (splices_from text 0 is)) ≡ with_first_gap gap (drop b (splices_from text 0 new))
 run-rest text is new a b gap e =

@@ -1,4 +1,4 @@
--- The point of a place whose line begins in the text that it stands in.
+-- The point of a place whose line begins in the text that it is in.
 use Rattle.std.proofs.Common.{◌≡◌, ℕ, ◌+◌, ◌-◌, ◌<◌, ◌≤◌, [], ◌∙◌, length, ap, arith, refl}
 use Rattle.cell_units.specs.declared.limits.TheConstants.{LAID_LIMIT}
 use Rattle.cell_units.specs.declared.place.Point.{Point}

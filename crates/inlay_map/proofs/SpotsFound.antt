@@ -44,7 +44,7 @@ module _ (text : List ℕ) where
   end-past base (i ∷ is) zero e = absurd (cc)
   end-past base (i ∷ is) (suc n) e = end-past i.offset is n e
 
-  -- behind all it is the rest of the text
+  -- after all it is the rest of the text
   pub gap-none : (is : List Inlay) (n : ℕ) → IsSpread text 0 is → slice_get (splices_from text 0 is) n ≡ None
       → amount_between text (sum_before text 0 is n).lower.bytes (length text) ≡ amount_between text (base_at 0 is n) (end_at text is n)
   gap-none is n s e =
@@ -52,7 +52,7 @@ module _ (text : List ℕ) where
       let base : (sum_before text 0 is n).lower.bytes ≡ base_at 0 is n = omega (arith, c.offset) in
       λ i. amount_between text (base i) (sym (end-past 0 is n e) i)
 
-  -- what stands before a spot is an amount of the text from its start
+  -- what is before a spot is an amount of the text from its start
   pub before-is : (is : List Inlay) (n : ℕ) → IsSpread text 0 is → (sum_before text 0 is n).lower ≡ amount_between text 0 (sum_before text 0 is n).lower.bytes
   before-is is n s =
       let c = cut-at text 0 is n s (omega arith) in

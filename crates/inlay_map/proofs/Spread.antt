@@ -20,7 +20,7 @@ use Rattle.splice_tree.specs.Splices.{piece_sum}
 use Rattle.inlay_map.specs.Amounts.{AmountFits, nothing, together}
 use Rattle.inlay_map.specs.Splices.{splices_from}
 
--- each inlay stands at the offset of the one before it or behind, and within the text
+-- each inlay is at the offset of the one before it or later, and within the text
 abbrev pub IsSpread : List ℕ → ℕ → List Inlay → Type 0
 IsSpread text base [] = Unit {0}
 IsSpread text base (i ∷ is) = (base ≤ i.offset) × (i.offset ≤ length text) × (length i.text ≤ INLAY_LIMIT) × IsSpread text i.offset is

@@ -1,5 +1,5 @@
--- How many steps calls on a text with inlays take at most, as costs of a height h that neither the text's tree nor the
--- inlays' can exceed.
+-- How many steps calls on a text with inlays take at most. They are costs of a height h that neither the text's tree
+-- nor the inlays' can exceed.
 use Rattle.std.specs.Prelude.{ℕ, ◌+◌, ◌*◌, ◌&&◌, ◌^◌, ◌<◌, ◌≤◌, nat_le, List, length, count_by, Option, Some, None}
 use Rattle.cell_units.specs.Layers.{Source}
 use Rattle.cell_units.specs.Record.{Inlay}
@@ -26,11 +26,11 @@ SearchesOnce cost text n old new = (h : ℕ) → IsHeight h text n → 5 * new �
 abbrev pub Resplices : (ℕ → ℕ) → ℕ → Source → ℕ → ℕ → Type 0
 Resplices cost m s old new = (h : ℕ) → IsHeight h s.text (length s.inlays) → m < 2 * 6 ^ (h + 1) → new ≤ old + cost h
 
--- a splice is measured behind the one before it: its inlay, and the row of that
+-- a splice is measured after the one before it: its inlay, and the row of that
 abbrev pub measuring : ℕ → ℕ
 measuring h = 2 * (h + 1)
 
--- k splices are measured and put in place, with the gap behind them
+-- k splices are measured and put in place, with the gap after them
 abbrev pub resplicing : ℕ → ℕ → ℕ
 resplicing k h = 164 * (k + 1) * (h + 1)
 

@@ -14,7 +14,8 @@ pub record IsInlaid (s : Source) : Type 0 where
   pub inlays : AreInlays s.text s.inlays
   pub folds : s.folds ≡ []
 
--- What was shown last and what is now have one text, and the replacement that is pending leads from the one to the other.
+-- What was shown last and what is now have one text, and the replacement that is pending leads from the one to the
+-- other.
 pub record IsKept (now shown : Source) (pending : Option Reach) : Type 0 where
   pub text : now.text ≡ shown.text
   pub leads : LayerLeads None shown now pending

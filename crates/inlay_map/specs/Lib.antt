@@ -1,3 +1,6 @@
+-- What the crate promises: all but those named next
+-- What its parts say to each other: Spots
+
 pub mod Amounts
 pub mod Bounds
 pub mod InlaidShifts

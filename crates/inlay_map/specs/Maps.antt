@@ -18,7 +18,8 @@ use Rattle.edit_patch.specs.LayerLeads.{LayerLeads}
 use Rattle.edit_patch.specs.Leads.{Reach}
 use Rattle.inlay_map.specs.InlaidShifts.{inlaid_shift, inlay_shift}
 
--- The text with its inlays as they are now, what the last snapshot showed, and the replacement that leads from that to now.
+-- The text with its inlays as they are now, what the last snapshot showed, and the replacement that leads from that to
+-- now.
 pub record InlayState : Type 0 where
   pub current : Source
   pub shown : Source
@@ -38,7 +39,7 @@ add_refusal source id offset text =
 abbrev pub remove_refusal : Source → ℕ → Option Refusal
 remove_refusal source id = if list_any (λ i. i.id == id) source.inlays then None else Some UnknownId
 
--- the refusal that is owed, and where there is none want of memory
+-- the refusal that is owed, and out of memory where there is none
 abbrev pub IsOwed : Option Refusal → Fault → Type 0
 IsOwed (Some refusal) fault = fault ≡ Refused refusal
 IsOwed None fault = fault ≡ NoMemory
@@ -72,7 +73,7 @@ abbrev pub inlays_after : Option Reach → List Inlay → List Inlay
 inlays_after None inlays = inlays
 inlays_after (Some s) inlays = moved_inlays s.start s.end s.count inlays
 
--- after a replacement they stand at boundaries of the new text
+-- after a replacement they are at boundaries of the new text
 abbrev pub StandAfter : List ℕ → Option Reach → List Inlay → Type 0
 StandAfter text None inlays = Unit {0}
 StandAfter text (Some s) inlays = All (λ i. IsBoundary text i.offset) (moved_inlays s.start s.end s.count inlays)
@@ -86,7 +87,7 @@ abbrev pub shift_after : List ℕ → Option Reach → Source → Option Reach
 shift_after text None source = None
 shift_after text (Some s) source = Some (inlaid_shift source (source_after text (Some s) source) s)
 
--- what a `sync` answers
+-- what a `sync` returns
 abbrev pub answer_of : List ℕ → Option Reach → InlayState → Option Reach
 answer_of text shift s = with_pending s.pending (shift_after text shift s.current)
 

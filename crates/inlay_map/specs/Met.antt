@@ -12,8 +12,7 @@ use Rattle.edit_patch.specs.Leads.{Leads, Reach, unmoved}
 use Rattle.inlay_map.specs.InlaidShifts.{inlaid_shift, inlay_shift}
 use Rattle.inlay_map.specs.Maps.{source_after}
 
--- The places from the first to the last meet a line that begins at the last of them or before it, and ends at the first or
--- behind it.
+-- The line begins at the last of the places or before it, and ends at the first or after it: they meet it.
 pub record MeetsLine (s : Source) (first last line : ℕ) : Type 0 where
   pub there : line < length (shown_lines s)
   pub start : line_start (shown_text s) line ≤ last
@@ -27,7 +26,7 @@ MeetsRow s first last row = (line : ℕ) × MeetsLine s first last line × HasRo
 abbrev pub MeetsRows : Source → ℕ → ℕ → RowRange → Type 0
 MeetsRows s first last rows = (row : ℕ) → MeetsRow s first last row ↔ ((rows.first ≤ row) × (row ≤ rows.last))
 
--- What is replaced meets exactly the rows before it, and what stands there then exactly the rows after it.
+-- What is replaced meets exactly the rows before it, and what is there then exactly the rows after it.
 pub record TouchesRows (before after : Source) (s : Reach) (old new : RowRange) : Type 0 where
   pub before_it : MeetsRows before s.start s.end old
   pub after_it : MeetsRows after s.start (s.start + s.count) new

@@ -10,18 +10,18 @@ use Rattle.splice_tree.specs.Splices.{Piece, with_first_gap}
 use Rattle.inlay_map.specs.declared.amount.Amount.{Amount}
 use Rattle.inlay_map.specs.Amounts.{amount_between, amount_of, nothing}
 
--- the inlay that a mark stands for
+-- the inlay of a mark
 abbrev pub inlay_of : Mark (List ℕ) → Inlay
 inlay_of m = record { offset = m.offset; bias = m.bias; id = m.id; text = m.load }
 
 abbrev pub inlay_with : ℕ → Bias → ℕ → List ℕ → Inlay
 inlay_with offset bias id text = record { offset = offset; bias = bias; id = id; text = text }
 
--- an inlay behind the offset `base`
+-- an inlay after the offset `base`
 abbrev pub splice_of : List ℕ → ℕ → Inlay → Piece Amount NoLoad
 splice_of text base i = record { gap = amount_between text base i.offset; old = nothing; new = amount_of (clean i.text); load = record {} }
 
--- inlays in order, the first of them behind the offset `base`
+-- inlays in order, the first of them after the offset `base`
 abbrev pub splices_from : List ℕ → ℕ → List Inlay → List (Piece Amount NoLoad)
 splices_from text base [] = []
 splices_from text base (i ∷ is) = splice_of text base i ∷ splices_from text i.offset is
@@ -34,13 +34,13 @@ splices_of s = splices_from s.text 0 s.inlays
 abbrev pub AreSameButForGap : List (Piece Amount NoLoad) → List (Piece Amount NoLoad) → Type 0
 AreSameButForGap ps qs = (gap : Amount) → with_first_gap gap ps ≡ with_first_gap gap qs
 
--- the offset behind which the inlay of an index stands: that of the one before it
+-- the offset after which the inlay of an index comes: that of the one before it
 abbrev pub base_at : ℕ → List Inlay → ℕ → ℕ
 base_at base is zero = base
 base_at base [] (suc k) = base
 base_at base (i ∷ is) (suc k) = base_at i.offset is k
 
--- how much text stands before the gap of the inlay of an index
+-- how much text is before the gap of the inlay of an index
 abbrev pub before_at : Source → ℕ → Amount
 before_at s at = amount_between s.text 0 (base_at 0 s.inlays at)
 

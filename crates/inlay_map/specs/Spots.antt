@@ -1,5 +1,5 @@
--- Where a place or a line of what is shown lies: in the text before an inlay, in what the inlay shows, or in the text behind
--- all inlays.
+-- Where a place or a line of what is shown lies. It is in the text before an inlay, in what the inlay shows, or in the
+-- text after all inlays.
 use Rattle.std.specs.Prelude.{◌≡◌, ℕ, zero, suc, ◌+◌, ◌-◌, ◌<◌, ◌≤◌, List, [], ◌∷◌, length, take, drop, slice_get, Some}
 use Rattle.cell_units.specs.declared.place.Bias.{Bias}
 use Rattle.cell_units.specs.declared.piece.Piece.{Piece}
@@ -20,7 +20,7 @@ use Rattle.inlay_map.specs.declared.spot.Spot.{Spot}
 use Rattle.inlay_map.specs.Amounts.{amount_between, nothing, together}
 use Rattle.inlay_map.specs.Splices.{base_at, splices_from}
 
--- how much stands before the inlay of an index and behind the one before it: of the text, and of what is shown
+-- how much is before the inlay of an index and after the one before it: of the text, and of what is shown
 abbrev pub sum_before : List ℕ → ℕ → List Inlay → ℕ → Sides Amount
 sum_before text base is n = total (none nothing) (both together) (piece_sum together) (take n (splices_from text base is))
 
@@ -38,7 +38,7 @@ pub record IsSpot (s : Source) (number : Amount → ℕ) (target : ℕ) (bias : 
   pub short : 0 < spot.index → IsShort bias target (number spot.before.upper)
   pub reaching : spot.index < length s.inlays → IsReaching bias target (number (sum_before s.text 0 s.inlays (spot.index + 1)).upper)
 
--- what stands from one place to another, and the token behind that
+-- what lies from one place to another, and the token after that
 abbrev pub part_of : Source → ℕ → ℕ → List Token
 part_of s place end = take (end + 1 - place) (drop place (folded s.text s.inlays s.folds))
 
@@ -50,7 +50,7 @@ pub record IsRowAt (s : Source) (place line : ℕ) : Type 0 where
   pub there : line < length (shown_lines s)
   pub start : line_start (shown_text s) line ≤ place
 
--- The offset of what stands at a place. Where an offset has this place, it is that one.
+-- The offset of what is at a place. Where an offset has this place, it is that one.
 pub record IsOffsetAt (s : Source) (place offset : ℕ) : Type 0 where
   pub back : (o : ℕ) (bias : Bias) → o ≤ length s.text → place_of s o bias ≡ place → offset ≡ o
   pub token : (t : Token) → slice_get (folded s.text s.inlays s.folds) place ≡ Some t → offset ≡ offset_of t

@@ -92,7 +92,7 @@ impl Inlaid {
         self.rope.len()
     }
 
-    /// How much text there is up to an offset, behind this much.
+    /// How much text there is up to an offset, after this much.
     fn amount_behind(&self, before: Amount, end: u32, steps: &mut Steps) -> Amount
         // `before` is all text up to an offset, which is at the end or before it.
         requires before { before ≡ amount_between self.now.text 0 before.bytes }
@@ -191,7 +191,7 @@ impl Inlaid {
         self.rope.slice(alloc, start, end, steps)
     }
 
-    /// How much text there is behind this much.
+    /// How much text there is after this much.
     pub(crate) fn behind(&self, before: Amount) -> Amount
         requires within { before.bytes ≤ length self.now.text }
         requires before { before ≡ amount_between self.now.text 0 before.bytes }
@@ -204,7 +204,7 @@ impl Inlaid {
     }
 }
 
-/// The splices of a run of inlays, and how much text stands before the last of them.
+/// The splices of a run of inlays, and how much text is before the last of them.
 #[derive(Drop)]
 struct Measured {
     splices: Vec<Splice<Amount, NoLoad>>,
@@ -212,7 +212,7 @@ struct Measured {
 }
 
 impl Inlaid {
-    /// The splice that belongs to the inlay of an index. The one before it stands behind that much text.
+    /// The splice that belongs to the inlay of an index. The one before it is after that much text.
     fn splice_at(&self, at: u32, before: Amount, steps: &mut Steps) -> Splice<Amount, NoLoad>
         // There is such an inlay, and `before` is all text up to the inlay before it.
         requires within { at < length self.now.inlays }
@@ -225,7 +225,7 @@ impl Inlaid {
         ensures counted { steps.old ≤ steps.new }
         ensures steps { TakesInlaid measuring self.now steps.old steps.new }
     {
-        // What the text and its inlays have is within their limits.
+        // For the proof: the text and its inlays are within their limits.
         let _len = self.len();
         match self.marks.get(at, steps) {
             None => unreachable!(),
@@ -238,7 +238,7 @@ impl Inlaid {
         }
     }
 
-    /// The splices of the inlays from one index to another, the first of which stands behind that much text and its gap.
+    /// The splices of the inlays from one index to another, the first of which comes after that much text and its gap.
     fn splices_in(
         &self,
         alloc: Global,
@@ -261,7 +261,7 @@ impl Inlaid {
         ensures counted { steps.old ≤ steps.new }
         ensures steps { TakesInlaid (λ h. (to - from) * measuring h) self.now steps.old steps.new }
     {
-        // The text is within its limit.
+        // For the proof: the text is within its limit.
         let _len = self.len();
         let mut splices = Vec::with_capacity(alloc, (to - from) as usize)?;
         let mut reached = before;
@@ -276,7 +276,8 @@ impl Inlaid {
         })
     }
 
-    /// The gap before the inlay of an index, and nothing where there is none. The one before it stands behind that much text.
+    /// The gap before the inlay of an index, and nothing where there is none. The one before it is after that much
+    /// text.
     fn gap_at(&self, at: u32, before: Amount, steps: &mut Steps) -> Amount
         // An inlay has the index, or all are before it, and `before` is all text up to the inlay before it.
         requires within { at ≤ length self.now.inlays }
@@ -297,8 +298,8 @@ impl Inlaid {
         }
     }
 
-    /// All splices, from those that belonged to other inlays: `run.count` inlays have come in the place of those from index
-    /// `run.start` to `run.end`, and no others have come or gone.
+    /// All splices, from those that belonged to other inlays. `run.count` inlays have come in the place of those from
+    /// index `run.start` to `run.end`, and no others have come or gone.
     pub(crate) fn respliced(
         &self,
         alloc: Global,
@@ -306,7 +307,7 @@ impl Inlaid {
         run: Shift,
         steps: &mut Steps,
     ) -> Result<SpliceTree<Amount, NoLoad>, NoMemory>
-        // Only the splices of the run are other ones, and the gap behind it.
+        // Only the splices of the run are other ones, and the gap after it.
         requires within { run.end ≤ length old.now }
         requires reaches { run.start + run.count ≤ length self.now.inlays }
         requires front { take run.start old.now ≡ take run.start (splices_of self.now) }
@@ -321,7 +322,7 @@ impl Inlaid {
         ensures steps { let m = length old.now in
             Resplices (resplicing run.count) m self.now steps.old steps.new }
     {
-        // The inlays fit the text, so that their splices are within their limits.
+        // For the proof: the inlays fit the text, so that their splices are within their limits.
         let _len = self.len();
         let last = run.start + run.count;
         // The text before the run is as it was.
@@ -335,7 +336,7 @@ impl Inlaid {
 }
 
 impl Inlaid {
-    /// The index of the first inlay at an offset or behind it, and how many there are where none is.
+    /// The index of the first inlay at an offset or after it, and how many there are where none is.
     pub(crate) fn index_from(&self, offset: u32, steps: &mut Steps) -> u32
         ensures index { result ≡ position_or_len (λ i. nat_le offset i.offset) self.now.inlays }
         ensures counted { steps.old ≤ steps.new }
@@ -383,7 +384,7 @@ impl Inlaid {
         }
     }
 
-    /// Takes the inlay of an index off the text, and answers its offset.
+    /// Takes the inlay of an index off the text, and returns its offset.
     pub(crate) fn take(
         &mut self,
         alloc: Global,
@@ -456,7 +457,7 @@ impl Inlaid {
         shift: Shift,
         steps: &mut Steps,
     ) -> Result<Inlaid, NoMemory>
-        // The replacement ends within the new text, and each inlay, once moved, stands at a boundary of that.
+        // The replacement ends within the new text, and each inlay, once moved, is at a boundary of that.
         requires within { shift.start + shift.count ≤ length rope }
         requires boundaries { StandAfter rope (Some (reach_of shift)) self.now.inlays }
 
@@ -468,7 +469,7 @@ impl Inlaid {
         ensures steps { let inlays = self.now.inlays in
             TakesAtMost (moving (met (reach_of shift) inlays)) (length inlays) steps.old steps.new }
     {
-        // The texts before and after are within their limit, and so is each inlay's place.
+        // For the proof: the texts before and after are within their limit, and so is each inlay's place.
         let _len = self.len();
         let _after = rope.len();
         let mut marks = self.marks.share()?;
@@ -476,18 +477,18 @@ impl Inlaid {
         Ok(Inlaid { rope, marks })
     }
 
-    /// Adds an inlay, and answers its index.
+    /// Adds an inlay, and returns its index.
     pub(crate) fn add(
         &mut self,
         alloc: Global,
         mark: Mark<InlayText>,
         steps: &mut Steps,
     ) -> Result<u32, NoMemory>
-        // It stands in the text, and its id is new.
+        // It is in the text, and its id is new.
         requires fits { IsInlayOf self.old.text (inlay_of mark) }
         requires room { HasRoom (λ i. i.id) mark.id self.old.inlays }
 
-        // The inlays after it, and where it stands among them.
+        // The inlays after it, and where it is among them.
         ensures ok { let inlays = insert_by inlay_le (inlay_of mark) self.old.inlays in
             OnOk result (self.new ≡ inlay_source self.old.text inlays) }
         ensures put { IfOk result (λ at. IsPut (inlay_of mark) self.old.inlays self.new.inlays at) }
@@ -497,7 +498,7 @@ impl Inlaid {
         ensures counted { steps.old ≤ steps.new }
         ensures steps { TakesAtMost adding (length self.old.inlays + 1) steps.old steps.new }
     {
-        // What the text and its inlays have is within their limits.
+        // For the proof: the text and its inlays are within their limits.
         let _len = self.len();
         self.marks.put(alloc, mark, steps)
     }

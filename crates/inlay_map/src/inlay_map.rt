@@ -51,7 +51,8 @@ impl Model for InlayMap {
 }
 
 impl InlayMap {
-    /// The text without inlays, which counts as shown. The only refusal is one holder too many of the text.
+    /// The text without inlays, which counts as shown. It fails with `NoMemory` only where the count of holders of the
+    /// text is full.
     pub fn new(alloc: Global, rope: Rope, steps: &mut Steps) -> Result<InlayMap, NoMemory>
         ensures ok { IfOk result (λ m. m ≡ state_of rope) }
         ensures steps { steps.new ≡ steps.old }
@@ -80,20 +81,23 @@ impl InlayMap {
         })
     }
 
-    /// The number of inlays. They stand within the text, at boundaries.
+    /// The number of inlays. They are within the text, at boundaries.
     pub fn len(&self) -> u32
         ensures len { result ≡ length self.now.current.inlays }
         ensures lawful { IsInlaid self.now.current }
     {
-        // The snapshot keeps in its type that its inlays are lawful.
+        // For the proof: the inlays of the snapshot are lawful, as its type keeps.
         let _text = self.current.text_len();
         self.current.count()
     }
 
-    /// Adds an inlay: a text that is shown at an offset of the buffer. At an insertion of text there it stays (Left) or goes
-    /// behind (Right). In this order `IdInUse` where its id is there, `BadRange` where the offset is past the text's end or
-    /// inside a character, `BadText` where the inlay's text is empty, and `TooLong` where that has more than `INLAY_LIMIT`
-    /// bytes or `ENTRY_LIMIT` inlays are there.
+    /// Adds an inlay: a text that is shown at an offset of the buffer, in bytes. At an insertion of text there it stays
+    /// (Left) or goes after it (Right). It is refused by the first of these that fits:
+    ///
+    /// - `IdInUse`: its id is there;
+    /// - `BadRange`: the offset is past the text's end or inside a character;
+    /// - `BadText`: the inlay's text is empty;
+    /// - `TooLong`: that has more than `INLAY_LIMIT` bytes, or `ENTRY_LIMIT` inlays are there.
     pub fn insert(
         &mut self,
         alloc: Global,
@@ -117,7 +121,7 @@ impl InlayMap {
         if let Some(refusal) = self.current.refusal_to_add(id, offset, text, steps) {
             return Err(Fault::Refused(refusal));
         }
-        // The text is UTF-8.
+        // For the proof: the text is UTF-8.
         let _len = self.current.text_len();
         let mark = Mark {
             offset,
@@ -145,7 +149,7 @@ impl InlayMap {
         ensures steps { let s = self.old.current in
             SearchesOnce changing s.text (length s.inlays) steps.old steps.new }
     {
-        // The inlays stand within the text, no two with one id.
+        // For the proof: the inlays are within the text, no two with one id.
         let _len = self.current.text_len();
         let Some(at) = self.current.find_id(id, steps) else {
             return Err(Fault::Refused(Refusal::UnknownId));
@@ -155,9 +159,11 @@ impl InlayMap {
         Ok(())
     }
 
-    /// Takes the text as it is now, with the replacement that led to it since the last call, if there was one, and moves the
-    /// inlays. It answers the new snapshot, and the one replacement of what is shown that leads from the last snapshot to
-    /// it, or none where nothing changed.
+    /// Takes the text as it is now, and moves the inlays. With it comes the replacement that led to it since the last
+    /// call, if there was one.
+    ///
+    /// Returns the new snapshot, and the one replacement of what is shown that leads to it from the last snapshot.
+    /// There is none where nothing changed. Places count bytes (*The text with inlays as a map*).
     pub fn sync(
         &mut self,
         alloc: Global,
@@ -165,11 +171,11 @@ impl InlayMap {
         shift: Option<Shift>,
         steps: &mut Steps,
     ) -> Result<(InlaySnapshot, Option<Shift>), NoMemory>
-        // The replacement leads from the text that the map has to the new one, and each inlay stands at a boundary of that.
+        // The replacement leads from the text that the map has to the new one, and each inlay is at a boundary of that.
         requires leads { LeadsIfAny unmoved self.old.current.text rope (option_map reach_of shift) }
         requires boundaries { StandAfter rope (option_map reach_of shift) self.old.current.inlays }
 
-        // What is answered, and what the map has after it.
+        // What is returned, and what the map has after it.
         ensures synced { let replaced = option_map reach_of shift in
             IfOk result (λ r. IsSynced rope replaced self.old r.0 (option_map reach_of r.1)) }
         ensures ok { OnOk result (self.new ≡ synced rope (option_map reach_of shift) self.old) }
@@ -181,7 +187,7 @@ impl InlayMap {
             let k = met_by (option_map reach_of shift) inlays in
             TakesInlaid (syncing k) (inlay_source rope inlays) steps.old steps.new }
     {
-        // The text has its inlays within it, and there are no folds.
+        // For the proof: the text has its inlays within it, and there are no folds.
         let _len = self.current.text_len();
         let (next, answer) = self.after(alloc, rope, shift, steps)?;
         let shown = next.share()?;
@@ -200,11 +206,11 @@ impl InlayMap {
         shift: Option<Shift>,
         steps: &mut Steps,
     ) -> Result<(InlaySnapshot, Option<Shift>), NoMemory>
-        // It leads from the text that the map has to the new one, and the inlays, moved, stand at boundaries of that.
+        // It leads from the text that the map has to the new one, and the inlays, moved, are at boundaries of that.
         requires leads { LeadsIfAny unmoved self.now.current.text rope (option_map reach_of shift) }
         requires boundaries { StandAfter rope (option_map reach_of shift) self.now.current.inlays }
 
-        // The new text with the inlays, moved. The answer covers what was pending, and what is replaced now.
+        // The new text with the inlays, moved. The result covers what was pending, and what is replaced now.
         ensures snapshot { let replaced = option_map reach_of shift in
             IfOk result (λ r. r.0 ≡ source_after rope replaced self.now.current) }
         ensures answer { let replaced = option_map reach_of shift in
@@ -233,11 +239,11 @@ impl InlayMap {
         shift: Shift,
         steps: &mut Steps,
     ) -> Result<(InlaySnapshot, Shift), NoMemory>
-        // It leads from the text that the map has to the new one, and the inlays, moved, stand at boundaries of that.
+        // It leads from the text that the map has to the new one, and the inlays, moved, are at boundaries of that.
         requires leads { Leads unmoved self.now.current.text rope (reach_of shift) }
         requires boundaries { StandAfter rope (Some (reach_of shift)) self.now.current.inlays }
 
-        // The new text with the inlays, moved. The answer covers what was pending, and what is replaced now.
+        // The new text with the inlays, moved. The result covers what was pending, and what is replaced now.
         ensures snapshot { let replaced = Some (reach_of shift) in
             IfOk result (λ r. r.0 ≡ source_after rope replaced self.now.current) }
         ensures answer { let replaced = Some (reach_of shift) in
@@ -249,11 +255,11 @@ impl InlayMap {
             let k = met (reach_of shift) inlays in
             TakesInlaid (syncing k) (inlay_source rope inlays) steps.old steps.new }
     {
-        // What is shown is within its limits.
+        // For the proof: what is shown is within its limits.
         let _current = self.current.text_len();
         let _shown = self.shown.text_len();
         let next = self.current.moved(alloc, rope, shift, steps)?;
-        // And so it is afterwards.
+        // For the proof: what is shown afterwards is within its limits too.
         let _next = next.text_len();
         let moved = self.current.shift_over(&next, shift, steps);
         let answer = with_pending(self.pending, moved);
@@ -275,7 +281,7 @@ impl InlayMap {
         ensures steps { let before = self.old.current in
             ChangesAtMost (ways 3) (length before.inlays) (length next.inlays) steps.old steps.new }
     {
-        // What is shown is within its limits, before and after.
+        // For the proof: what is shown is within its limits, before and after.
         let _current = self.current.text_len();
         let _next = next.text_len();
         let _shown = self.shown.text_len();

@@ -1,4 +1,4 @@
-//! What an inlay carries.
+//! What an inlay carries: its text as it was given, and as it is shown.
 ghost use Rattle.std.specs.Prelude.{◌≡◌, IfOk};
 ghost use Rattle.cell_units.specs.Text.{clean};
 
@@ -8,8 +8,8 @@ use std::marker::Model;
 use std::sync::Arc;
 use sum_core::Load;
 
-/// A text as it was given and as it is shown, with line breaks that are line feeds. Contracts see it as it was given. All
-/// copies share it.
+/// A text as it was given and as it is shown, with line breaks that are line feeds. Contracts see it as it was given.
+/// All copies share it.
 #[derive(Drop)]
 pub(crate) struct InlayText {
     texts: Arc<Texts>,

@@ -44,7 +44,7 @@ impl Layer for InlaySnapshot {
     }
 
     fn back(&self, place: u32, _bias: Bias) -> Option<u32> {
-        // There are no folds.
+        // For the proof: there are no folds.
         let _len = self.text_len();
         let mut steps = Steps::new();
         let offset = self.offset_at(place, &mut steps);
@@ -71,7 +71,7 @@ impl Layer for InlaySnapshot {
     }
 
     fn span(&self, line: u32) -> (u32, u32) {
-        // The inlays stand in order within the text, and there are no folds.
+        // For the proof: the inlays are in order within the text, and there are no folds.
         let _len = self.text_len();
         let mut steps = Steps::new();
         let start = self.row_start(line, &mut steps);

@@ -26,7 +26,7 @@ impl InlaySnapshot {
     pub(crate) fn lines(&self) -> u32
         ensures { result ≡ length (shown_lines self.now) }
     {
-        // The text and its inlays are within their limits, so the number of lines is a u32.
+        // For the proof: the text and its inlays are within their limits, so the number of lines is a u32.
         let _len = self.inlaid.len();
         let sum = self.splices.sum();
         self.inlaid.line_count() + (sum.upper.feeds - sum.lower.feeds)
@@ -38,7 +38,7 @@ impl InlaySnapshot {
         ensures row { IsRowAt self.now place result }
         ensures counted { steps.old ≤ steps.new }
     {
-        // What is shown is within its limits, so each place and line is a u32.
+        // For the proof: what is shown is within its limits, so each place and line is a u32.
         let _len = self.text_len();
         let spot = self.find::<ByBytes>(place, Bias::Left, steps);
         let rest = place - spot.before.upper.bytes;
@@ -52,13 +52,13 @@ impl InlaySnapshot {
         spot.before.upper.feeds + spot.gap.feeds + feeds_in(front)
     }
 
-    /// The point of a place whose line begins in the text that it stands in, behind the inlay before it. `None` elsewhere.
+    /// The point of a place whose line begins in the text that it is in, after the inlay before it. `None` elsewhere.
     pub(crate) fn point_in_text(&self, place: u32, steps: &mut Steps) -> Option<Point>
         requires { place ≤ length (shown_text self.now) }
         ensures point { ForSome result (λ p. p ≡ point_of (shown_text self.now) place) }
         ensures counted { steps.old ≤ steps.new }
     {
-        // What is shown is within its limits, so each place and line is a u32.
+        // For the proof: what is shown is within its limits, so each place and line is a u32.
         let _len = self.text_len();
         let spot = self.find::<ByBytes>(place, Bias::Left, steps);
         let rest = place - spot.before.upper.bytes;
@@ -85,7 +85,7 @@ impl InlaySnapshot {
         if line == 0 {
             return 0;
         }
-        // What is shown is within its limits, so each place and line is a u32.
+        // For the proof: what is shown is within its limits, so each place and line is a u32.
         let _len = self.text_len();
         let spot = self.find::<ByFeeds>(line, Bias::Left, steps);
         let rest = line - spot.before.upper.feeds;
@@ -98,12 +98,12 @@ impl InlaySnapshot {
         spot.before.upper.bytes + spot.gap.bytes + behind
     }
 
-    /// The offset of what stands at a place.
+    /// The offset of what is at a place.
     pub(crate) fn offset_at(&self, place: u32, steps: &mut Steps) -> u32
         ensures offset { IsOffsetAt self.now place result }
         ensures counted { steps.old ≤ steps.new }
     {
-        // The inlays stand within the text, so each offset is a u32.
+        // For the proof: the inlays are within the text, so each offset is a u32.
         let _len = self.inlaid.len();
         self.splices.to_lower::<ByBytes>(place, Bias::Left, steps)
     }
@@ -120,7 +120,7 @@ impl InlaySnapshot {
             slice_get (shown_lines self.now) line ≡ Some pieces.items) }
         ensures counted { steps.old ≤ steps.new }
     {
-        // A line stands between two boundaries of what is shown.
+        // For the proof: what is shown is lawful, so a line lies between two boundaries of it.
         let _len = self.text_len();
         let mut place = self.row_start(line, steps);
         let end = self.row_end(line, steps);
@@ -139,7 +139,7 @@ impl InlaySnapshot {
         ensures end { result ≡ line_end (shown_text self.now) line }
         ensures counted { steps.old ≤ steps.new }
     {
-        // The text and its inlays are within their limits, so each line has a next one that is a u32.
+        // For the proof: the text and its inlays are within their limits, so each line has a next one that is a u32.
         let _len = self.inlaid.len();
         let lines = self.lines();
         if line + 1 < lines {
@@ -168,7 +168,7 @@ impl InlaySnapshot {
         // The work.
         ensures counted { steps.old ≤ steps.new }
     {
-        // What is shown is within its limits and UTF-8.
+        // For the proof: what is shown is within its limits and UTF-8.
         let _len = self.text_len();
         let spot = self.find::<ByBytes>(place, Bias::Right, steps);
         let rest = place - spot.before.upper.bytes;
@@ -195,7 +195,7 @@ impl InlaySnapshot {
     }
 }
 
-/// The place right behind the line feed of a number, counted from 1.
+/// The place right after the line feed of a number, counted from 1.
 fn behind_feed(text: &str, feeds: u32) -> usize
     requires some { 0 < feeds }
     requires within { feeds ≤ count_by is_feed text.now }

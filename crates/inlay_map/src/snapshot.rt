@@ -88,8 +88,8 @@ impl InlaySnapshot {
         self.inlaid.count()
     }
 
-    /// The offset, bias, id and text of an inlay, as it was given, by its place among them, counted from 0. `None` exactly where
-    /// there is none.
+    /// The offset, bias, id and text of an inlay, as it was given, by its place among them, counted from 0. `None`
+    /// exactly where there is none.
     pub fn get(&self, at: u32, steps: &mut Steps) -> Option<(u32, Bias, u32, &str)>
         ensures inlay { MatchOption result (length self.now.inlays ≤ at) (λ i.
             slice_get self.now.inlays at ≡ Some (inlay_with i.0 i.1 i.2 i.3.now)) }
@@ -117,7 +117,7 @@ impl InlaySnapshot {
         self.inlaid.has_id(id, steps)
     }
 
-    /// Why an inlay isn't added to these, if it isn't.
+    /// Why an inlay isn't added to these, if it isn't: the refusal of `InlayMap::insert`. The offset counts bytes.
     pub fn refusal_to_add(
         &self,
         id: u32,
@@ -130,7 +130,7 @@ impl InlaySnapshot {
         ensures steps { let s = self.now in
             SearchesOnce (ways 2) s.text (length s.inlays) steps.old steps.new }
     {
-        // The text is UTF-8.
+        // For the proof: the text is UTF-8.
         let _len = self.inlaid.len();
         if self.inlaid.has_id(id, steps) {
             return Some(Refusal::IdInUse);
@@ -151,14 +151,14 @@ impl InlaySnapshot {
         None
     }
 
-    /// Where an offset stands in what is shown: before the inlays at it (Left) or behind them (Right).
+    /// Where an offset is in what is shown: before the inlays at it (Left) or after them (Right).
     pub(crate) fn place(&self, offset: u32, bias: Bias, steps: &mut Steps) -> u32
         requires { offset ≤ length self.now.text }
         ensures place { result ≡ place_of self.now offset bias }
         ensures counted { steps.old ≤ steps.new }
         ensures steps { TakesAtMost way (length self.now.inlays) steps.old steps.new }
     {
-        // The text and the inlays are within their limits, so each place is a u32.
+        // For the proof: the text and the inlays are within their limits, so each place is a u32.
         let _len = self.inlaid.len();
         self.splices.to_upper::<ByBytes>(offset, bias, steps)
     }
@@ -174,7 +174,7 @@ impl InlaySnapshot {
         requires fits { IsInlayOf self.now.text (inlay_of mark) }
         requires room { HasRoom (λ i. i.id) mark.id self.now.inlays }
 
-        // It stands among the others in their order.
+        // It is among the others in their order.
         ensures ok { let inlays = insert_by inlay_le (inlay_of mark) self.now.inlays in
             IfOk result (λ s. s ≡ inlay_source self.now.text inlays) }
 
@@ -210,7 +210,7 @@ impl InlaySnapshot {
         Shift::new(start, end, last - start)
     }
 
-    /// The same without the inlay of an index, and the offset at which that stood.
+    /// The same without the inlay of an index, and the offset at which that was.
     pub(crate) fn removed(
         &self,
         alloc: Global,
@@ -230,7 +230,7 @@ impl InlaySnapshot {
         ensures counted { steps.old ≤ steps.new }
         ensures steps { TakesInlaid putting self.now steps.old steps.new }
     {
-        // The number of inlays is within its limit.
+        // For the proof: the number of inlays is within its limit.
         let _len = self.text_len();
         let mut inlaid = self.inlaid.share()?;
         let offset = inlaid.take(alloc, at, steps)?;
@@ -246,7 +246,7 @@ impl InlaySnapshot {
         shift: Shift,
         steps: &mut Steps,
     ) -> Result<InlaySnapshot, NoMemory>
-        // The replacement leads to the new text, and each inlay, once moved, stands at a boundary of that.
+        // The replacement leads to the new text, and each inlay, once moved, is at a boundary of that.
         requires leads { Leads unmoved self.now.text rope (reach_of shift) }
         requires boundaries { StandAfter rope (Some (reach_of shift)) self.now.inlays }
 
@@ -259,7 +259,7 @@ impl InlaySnapshot {
             let k = met (reach_of shift) inlays in
             TakesInlaid (relaying k) (inlay_source rope inlays) steps.old steps.new }
     {
-        // The text is within its limit.
+        // For the proof: the text is within its limit.
         let _len = self.inlaid.len();
         let first = self.inlaid.index_from(shift.start, steps);
         let last = self.inlaid.index_from(shift.end + 1, steps);
@@ -295,7 +295,7 @@ impl InlaySnapshot {
         ensures steps { let was = length self.now.inlays in let is = length next.now.inlays in
             ChangesAtMost (ways 3) was is steps.old steps.new }
     {
-        // The text is within its limit, and so is the end of what is put into it.
+        // For the proof: the text is within its limit, and so is the end of what is put into it.
         let _len = next.inlaid.len();
         let start = self.place(shift.start, Bias::Left, steps);
         let end = self.place(shift.end, Bias::Right, steps);

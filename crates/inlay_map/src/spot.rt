@@ -8,8 +8,8 @@ use cell_units::{Bias, Steps};
 use splice_tree::Sides;
 use sum_core::Count;
 
-/// Where a place or a line of what is shown lies: the inlay of the index or the text before it, what stands before these,
-/// and how much text there is before the inlay.
+/// Where a place or a line of what is shown lies: the inlay of the index or the text before it. It has what is before
+/// these, and how much text there is before the inlay.
 #[derive(Drop)]
 pub(crate) struct Spot {
     pub(crate) index: u32,
@@ -23,7 +23,7 @@ impl InlaySnapshot {
         ensures spot { IsSpot self.now M.number target bias result }
         ensures counted { steps.old ≤ steps.new }
     {
-        // The text and its inlays are within their limits, so each sum of sizes is a u32.
+        // For the proof: the text and its inlays are within their limits, so each sum of sizes is a u32.
         let _len = self.inlaid.len();
         let found = self.splices.find_upper::<M>(target as u64, bias, steps);
         let gap = match found.splice {

@@ -52,7 +52,7 @@ module _ (folds : List Fold) where
       go (inl x) = absurd (false≢true (sym is.1 ∙ inside_by folds s r.0 r.1 x r.3))
       go (inr x) = (r.0, r.1, (let l = r.2 in omega (arith, x, l)))
 
-  -- the folds that pass a test and start at an offset or behind it
+  -- the folds that pass a test and start at an offset or after it
   abbrev from_on : (Fold → Bool) → ℕ → Fold → Bool
   from_on q from f = leb from f.start && q f
 

@@ -81,7 +81,7 @@ module _ (folds : List Fold) where
     go (inr x) (inl y) (inl z) next = a.0.shows.2 o y z ∙ sym (λ i. and_from (ltb j.start o) (ltb o j.end) (lt-ltb j.start o y) (lt-ltb o j.end z) i || inside_joined js o)
     go (inr x) (inl y) (inr z) next = next z u ∙ sym (λ i. and_right (ltb j.start o) (ltb o j.end) (le-ltb o j.end z) i || inside_joined js o)
 
-  -- ---- behind the last one
+  -- ---- after the last one
 
   pub covered_past : (n o : ℕ) → EndBy folds n → n ≤ o → covered folds o ≡ false
   covered_past n o e h = go (cases_Bool (covered folds o)) where

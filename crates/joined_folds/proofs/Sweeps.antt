@@ -51,7 +51,7 @@ pub record Swept (folds : List Fold) (w : Window) (rest : List RangeMark) (joine
   pub all : (f : Fold) → Meets folds w f → (f.end ≤ now.end) ⊎ Contains rest (range_of f)
   pub in_order : AllPairs InOrder rest
 
--- the next one is put behind the others, if it is not empty
+-- the next one is put after the others, if it is not empty
 put-open : (folds : List Fold) (from : ℕ) (joined : List JoinedFold) (now : JoinedFold) (to : ℕ) → AreJoined folds from joined now.start → now.start ≤ now.end
     → (now.start < now.end → covered folds now.start ≡ true) → inside folds now.start ≡ false → ((o : ℕ) → now.start < o → o < now.end → inside folds o ≡ true)
     → inside folds now.end ≡ false → now.end ≤ to → IsBare folds now.end to → AreJoined folds from (with_one joined now) to
@@ -110,7 +110,7 @@ module _ (folds : List Fold) (w : Window) (win : IsWindow folds w) where
         go (inl z) = s.reaches o x z
         go (inr z) = inside_by folds o (fold_of r) met.fold (omega (arith, l, z)) (omega (arith, y, z))
 
-    -- ---- one that starts behind it
+    -- ---- one that starts after it
 
     module _ (behind : now.end ≤ r.start) where
       -- a fold that starts before this one has ended

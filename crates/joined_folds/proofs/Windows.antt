@@ -56,7 +56,7 @@ module _ (folds : List Fold) where
   end-open p [] to a out = out
   end-open p (j ∷ js) to a out = end-open j.end js to a.1 a.0.shows.3
 
-  -- the last one, where it ends behind an offset by which all of them begin
+  -- the last one, where it ends after an offset by which all of them begin
   last-one : (p : ℕ) (js : List JoinedFold) (to b : ℕ) → AreJoined folds p js to → All (λ j. j.start ≤ b) js → p ≤ b → b < last_end p js
       → (s : ℕ) × (s ≤ b) × ShowsOnePlaceholder folds s (last_end p js)
   last-one p [] to b a starts l u = absurd (omega (arith, l, u))
@@ -85,7 +85,7 @@ last-bound p (j ∷ js) b l a = last-bound j.end js b (All-head (λ (i : JoinedF
 -- ---- from the old folds to the new ones
 
 module _ (old new : List Fold) (start end last : ℕ) (alike : AreAlike old new start end last) where
-  -- up to an offset that is in the window's front
+  -- up to an offset that is in the window's prefix
   front-stays : (p : ℕ) (js : List JoinedFold) (q : ℕ) → q ≤ start → inside new q ≡ false → AreJoined old p js q → AreJoined new p js q
   front-stays p [] q l out a = (a.0, λ k x y. alike.covered_before k (omega (arith, l, y)) ∙ a.1 k x y)
   front-stays p (j ∷ js) q l out a = (record { order = a.0.order; some = a.0.some; bare = bare; shows = (hides, start_open, reaches, end_open (cases_lt j.end q)) }, front-stays j.end js q l out a.1) where

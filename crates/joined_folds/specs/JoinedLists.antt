@@ -10,7 +10,7 @@ use Rattle.joined_folds.specs.declared.joined_fold.JoinedFold.{JoinedFold}
 abbrev pub IsBare : List Fold → ℕ → ℕ → Type 0
 IsBare folds from to = (k : ℕ) → from ≤ k → k < to → covered folds k ≡ false
 
--- the next joined fold behind an offset: no fold hides a byte up to its start, and it shows one placeholder
+-- the next joined fold after an offset: no fold hides a byte up to its start, and it shows one placeholder
 pub record IsNext (folds : List Fold) (from : ℕ) (j : JoinedFold) : Type 0 where
   pub order : from ≤ j.start
   pub some : j.start < j.end
@@ -22,7 +22,7 @@ abbrev pub AreJoined : List Fold → ℕ → List JoinedFold → ℕ → Type 0
 AreJoined folds from [] to = (from ≤ to) × IsBare folds from to
 AreJoined folds from (j ∷ js) to = IsNext folds from j × AreJoined folds j.end js to
 
--- no fold ends behind the offset
+-- no fold ends after the offset
 abbrev pub EndBy : List Fold → ℕ → Type 0
 EndBy folds n = All (λ f. f.end ≤ n) folds
 
@@ -71,7 +71,8 @@ inside_joined js o = list_any (λ j. nat_lt j.start o && nat_lt o j.end) js
 abbrev pub covered_joined : List JoinedFold → ℕ → Bool
 covered_joined js o = list_any (λ j. nat_le j.start o && nat_lt o j.end) js
 
--- an offset is strictly inside one of them exactly where it is strictly inside a fold, and so with the bytes that they hide
+-- an offset is strictly inside one of them exactly where it is strictly inside a fold, and so with the bytes that they
+-- hide
 abbrev pub SameTests : Type 0
 SameTests = (folds : List Fold) (n : ℕ) (js : List JoinedFold) (o : ℕ) → AreAllJoined folds n js
     → (inside folds o ≡ inside_joined js o) × (covered folds o ≡ covered_joined js o)

@@ -9,7 +9,7 @@ use Rattle.joined_folds.specs.declared.window.Window.{Window}
 use Rattle.joined_folds.specs.JoinedLists.{AreJoined}
 use Rattle.joined_folds.specs.Windows.{IsWindow}
 
--- the fold that a range stands for, and the range of a fold
+-- the fold of a range, and the range of a fold
 abbrev pub fold_of : RangeMark → Fold
 fold_of r = record { start = r.start; end = r.end; id = r.id }
 
@@ -42,7 +42,8 @@ with_one joined one = if nat_lt one.start one.end then joined ++ one ∷ [] else
 abbrev pub count_met : ℕ → ℕ → List Fold → ℕ
 count_met start end folds = count_by (λ f. nat_le f.start end && nat_lt start f.end) folds
 
--- a window has no more joined folds than folds that meet it or start at its end, but for the one that reaches over its start
+-- a window has no more joined folds than folds that meet it or start at its end. Only the one that reaches over its
+-- start may come on top
 abbrev pub FewInWindow : Type 0
 FewInWindow = (folds : List Fold) (w : Window) (js : List JoinedFold) → All (λ f. f.start < f.end) folds → IsWindow folds w
     → AreJoined folds w.from js w.to → length js ≤ count_met w.start w.end folds + 1

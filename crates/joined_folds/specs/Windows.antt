@@ -9,8 +9,8 @@ use Rattle.joined_folds.specs.declared.joined_fold.JoinedFold.{JoinedFold}
 use Rattle.joined_folds.specs.declared.window.Window.{Window}
 use Rattle.joined_folds.specs.JoinedLists.{AreAllJoined, AreJoined, EndBy, first_start, last_end}
 
--- Joined folds may reach over the ends of a window: the one over its start begins at `from`, the one over its end ends at
--- `to`. Where none does, these are the window's own ends.
+-- Joined folds may reach over the ends of a window. The one over its start begins at `from`, and the one over its end
+-- ends at `to`. Where none does, these are the window's own ends.
 pub record IsWindow (folds : List Fold) (w : Window) : Type 0 where
   pub before : w.from ≤ w.start
   pub order : w.start ≤ w.end
@@ -24,8 +24,8 @@ pub record IsWindow (folds : List Fold) (w : Window) : Type 0 where
 
 -- ---- changes
 
--- Folds changed within a window alone. Before its start they hide what they hid, and so they do from its end on, which went
--- from `end` to `last`.
+-- Folds changed within a window alone. Before its start they hide what they hid, and so they do from its end on, which
+-- went from `end` to `last`.
 pub record AreAlike (old new : List Fold) (start end last : ℕ) : Type 0 where
   pub order : start ≤ end
   pub reach : start ≤ last
@@ -35,7 +35,7 @@ pub record AreAlike (old new : List Fold) (start end last : ℕ) : Type 0 where
   pub covered_behind : (d : ℕ) → covered new (last + d) ≡ covered old (end + d)
   pub inside_behind : (d : ℕ) → 0 < d → inside new (last + d) ≡ inside old (end + d)
 
--- an offset behind the window goes with its end
+-- an offset after the window goes with its end
 abbrev pub moved_on : ℕ → ℕ → ℕ → ℕ
 moved_on end last o = o - end + last
 
@@ -47,15 +47,16 @@ abbrev pub window_of : ℕ → ℕ → ℕ → List JoinedFold → Window
 window_of start end last met =
     record { from = min start (first_start start met); start = start; end = last; to = moved_on end last (max end (last_end end met)) }
 
--- Joined folds in three parts: those that end by the window's start, those that meet it, and those that start behind its end.
+-- Joined folds in three parts: those that end by the window's start, those that meet it, and those that start after its
+-- end.
 pub record AreParted (start end : ℕ) (before met behind : List JoinedFold) : Type 0 where
   pub front : All (λ j. j.end ≤ start) before
   pub met_ends : All (λ j. start < j.end) met
   pub met_starts : All (λ j. j.start ≤ end) met
   pub back : All (λ j. end < j.start) behind
 
--- A change within a window leaves the joined folds that don't meet it. With others in the place of those that do, they are
--- again all joined folds.
+-- A change within a window leaves the joined folds that don't meet it. With others in the place of those that do, they
+-- are again all joined folds.
 abbrev pub OthersStay : Type 0
 OthersStay = (old new : List Fold) (start end last n : ℕ) (front met back : List JoinedFold)
     → AreAlike old new start end last → AreAllJoined old n (front ++ (met ++ back)) → end ≤ n → EndBy new (moved_on end last n)

@@ -3,9 +3,9 @@ ghost use Rattle.joined_folds.specs.JoinedLists.{EachIsJoined, EachIsListed, Eac
 ghost use Rattle.joined_folds.specs.Sweeps.{FewInWindow, MeetingAreMet};
 ghost use Rattle.joined_folds.specs.Windows.{AddedIsAlike, MovedIsAlike, OthersStay, RemovedIsAlike};
 
-/// A list of joined folds has the maximal chains of folds that overlap, each of them, and nothing else; there is one such
-/// list. Each fold lies within one of them, they hide what the folds hide, and there are no more of them than folds. It does
-/// nothing.
+/// A list of joined folds has the maximal chains of folds that overlap, each of them, and nothing else; there is one
+/// such list. Each fold lies within one of them, they hide what the folds hide, and there are no more of them than
+/// folds. It does nothing.
 pub fn joined_laws()
     ensures joined { EachIsJoined }
     ensures listed { EachIsListed }
@@ -15,7 +15,7 @@ pub fn joined_laws()
     ensures few { NoMoreThanFolds }
 {}
 
-/// A change of folds within a window leaves the joined folds that don't meet it: of a fold that is added or removed the
+/// A change of folds within a window leaves the joined folds that don't meet it. Of a fold that is added or removed the
 /// window is its range, and of a replacement of text any range that has it within. It does nothing.
 pub fn window_laws()
     ensures others_stay { OthersStay }
@@ -24,8 +24,8 @@ pub fn window_laws()
     ensures moved { MovedIsAlike }
 {}
 
-/// From which ranges of a tree the joined folds of a window are made, and that there are no more of them than of these, and one.
-/// It does nothing.
+/// From which ranges of a tree the joined folds of a window are made. And that they are at most one more than these. It
+/// does nothing.
 pub fn sweep_laws()
     ensures met { MeetingAreMet }
     ensures few { FewInWindow }

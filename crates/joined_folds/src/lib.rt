@@ -1,7 +1,7 @@
 //! Joined folds: the folds of a text that overlap in a chain, as one list of ranges in order.
 //!
-//! A change of folds leaves the joined folds outside of a window as they are. Within it they are made anew from the folds
-//! that meet it alone, however many a joined fold has that reaches over its ends.
+//! A change of folds leaves the joined folds outside of a window as they are. Within it they are made anew from the
+//! folds that meet it alone, however many a joined fold has that reaches over its ends.
 #![tactic(auto)]
 
 mod joined_fold;

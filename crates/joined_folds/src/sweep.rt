@@ -43,7 +43,7 @@ pub fn joined_within(
     Ok(joined)
 }
 
-/// Puts one behind the others, unless it is empty.
+/// Puts one after the others, unless it is empty.
 fn put(joined: &mut Vec<JoinedFold>, one: JoinedFold) -> Result<(), NoMemory>
     ensures ok { OnOk result (joined.new.items ≡ with_one joined.old.items one) }
 {

@@ -1,4 +1,4 @@
-//! What no contract says: that the sweep gives its answer.
+//! What no contract says: that the sweep returns what it should.
 
 use crate::{JoinedFold, Window, joined_within};
 use cell_units::NoMemory;

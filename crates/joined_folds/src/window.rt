@@ -1,7 +1,8 @@
 //! Where joined folds are made anew.
 
-/// A range of a buffer, from offset `start` to offset `end`, in which joined folds are made anew. The one that reaches over
-/// its start begins at `from`, the one that reaches over its end ends at `to`; where none does, these are the same offsets.
+/// A range of a buffer, from offset `start` to offset `end`, in which joined folds are made anew. The one that reaches
+/// over its start begins at `from`, and the one that reaches over its end ends at `to`. Where none does, these are the
+/// same offsets.
 #[derive(Clone, Copy, Debug, PartialEq, Eq)]
 pub struct Window {
     pub from: u32,

@@ -12,7 +12,7 @@ use Rattle.display_sheet.specs.Sheets.{marks_in}
 use Rattle.display_sheet.specs.declared.wraps.Wrapped.{Wrapped}
 use Rattle.kept_sheet.specs.Kept.{AreLinesAt, all_at_width, cuts_in, lines_in}
 
--- the cuts of lines are those of the lines that stand at their places
+-- the cuts of lines are those of the lines that are at their places
 cuts-at : (width : ℕ) (now : List (List Element)) (places : List (Option ℕ)) (es : List (List Element)) → AreLinesAt now places es →
     AreCutsAt now width places (map (λ e. cuts_of e width) es)
 cuts-at width now [] [] at = tt
@@ -35,7 +35,7 @@ all-wraps : (width : ℕ) (wraps : List Wrapped) → list_all (λ w. eqb w.mark 
 all-wraps width [] = refl
 all-wraps width (w ∷ wraps) = ap (λ (b : Bool). eqb w.mark width && b) (all-wraps width wraps)
 
--- of a record whose lines stand so
+-- of a record whose lines are wrapped so
 pub settled-by : (r : Record) (wraps : List Wrapped) (width : ℕ) → marks_in wraps ≡ map (λ m. m.width) r.marks → width ≡ r.width →
     list_all (λ w. eqb w.mark width) wraps ≡ all_at_width r
 settled-by r wraps width marks same =

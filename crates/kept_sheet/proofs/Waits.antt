@@ -8,7 +8,7 @@ use Rattle.display_sheet.specs.Sheets.{marks_in}
 use Rattle.display_sheet.specs.declared.wraps.Wrapped.{Wrapped}
 use Rattle.cell_line.specs.Waiting.{has_line, waits}
 
--- no line behind the last waits
+-- no line after the last waits
 pub past : (marks : List ℕ) (width : ℕ) (out : List Run) (line : ℕ) → length marks ≤ line → waits marks width out line ≡ false
 past marks width out line le =
     ap (λ (b : Bool). b && not (eqb (get_or marks line 0) width) && not (list_any (λ run. has_line run line) out)) (le-ltb line (length marks) le)
@@ -33,7 +33,7 @@ long wraps = length-map wraps (λ w. w.mark)
 mark-at : (wraps : List Wrapped) (line : ℕ) (w : Wrapped) → line < length wraps → w ≡ get_or wraps line w → get_or (marks_in wraps) line 0 ≡ w.mark
 mark-at wraps line w lt is = get_or-map (λ (w : Wrapped). w.mark) wraps line w 0 lt ∙ ap (λ (w : Wrapped). w.mark) (sym is)
 
--- a line that stands at the width doesn't wait, and any other does that no run has
+-- a line that is wrapped at the width doesn't wait, and any other does that no run has
 module _ (wraps : List Wrapped) (width : ℕ) (out : List Run) (line : ℕ) (w : Wrapped) (lt : line < length wraps) (is : w ≡ get_or wraps line w) where
   pub stands : w.mark ≡ width → waits (marks_in wraps) width out line ≡ false
   stands same =

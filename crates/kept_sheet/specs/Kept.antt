@@ -14,7 +14,7 @@ lines_in lines run = slice_range lines run.first (run.first + run.count)
 abbrev pub cuts_in : List (List Element) → Run → ℕ → List (List ℕ)
 cuts_in lines run width = map (λ elements. cuts_of elements width) (lines_in lines run)
 
--- each of the lines that has a place is the line that stands there now
+-- each of the lines that has a place is the line that is there now
 abbrev pub AreLinesAt : List (List Element) → List (Option ℕ) → List (List Element) → Type 0
 AreLinesAt now [] [] = Unit {0}
 AreLinesAt now (None ∷ places) (e ∷ es) = AreLinesAt now places es
@@ -33,10 +33,10 @@ abbrev pub IsRising : ℕ → List ℕ → Type 0
 IsRising from [] = Unit {0}
 IsRising from (a ∷ bs) = (from ≤ a) × IsRising (a + 1) bs
 
--- of each line the width at which it stands wrapped, or 0
+-- of each line the width at which it is wrapped, or 0
 abbrev pub widths_of : Record → List ℕ
 widths_of r = map (λ m. m.width) r.marks
 
--- every line stands at the record's width
+-- every line is wrapped at the record's width
 abbrev pub all_at_width : Record → Bool
 all_at_width r = list_all (λ w. w == r.width) (widths_of r)

@@ -44,7 +44,7 @@ fn is_out(out: &[Run], line: u32) -> bool
     out.iter().any(|run| has_line(run, line))
 }
 
-/// Whether the line doesn't stand at the width, and no run that is out has it.
+/// Whether the line isn't wrapped at the width, and no run that is out has it.
 fn waits(wraps: &Wraps, width: u32, out: &[Run], line: u32) -> bool
     ensures { result ≡ waits (marks_in wraps.now) width out.now line }
 {
@@ -67,7 +67,7 @@ fn run_length(wraps: &Wraps, width: u32, out: &[Run], first: u32) -> u32
     ensures no_longer { result < RUN_LIMIT →
         waits (marks_in wraps.now) width out.now (first + result) ≡ false }
 {
-    // It is a u32, so the line behind one that waits is one as well.
+    // For the proof: the number of lines is a u32, so the line after one that waits is one as well.
     let _ = wraps.len();
     for count in 1..RUN_LIMIT as u32 {
         if !waits(wraps, width, out, first + count) {
@@ -77,7 +77,7 @@ fn run_length(wraps: &Wraps, width: u32, out: &[Run], first: u32) -> u32
     RUN_LIMIT as u32
 }
 
-/// The first line that waits with those behind it that wait, at most 128. None before `from` waits.
+/// The first line that waits with those after it that wait, at most 128. None before `from` waits.
 fn next_run(wraps: &Wraps, width: u32, from: u32, out: &[Run]) -> Option<Run>
     requires { (line : ℕ) → line < from →
         waits (marks_in wraps.now) width out.now line ≡ false }
@@ -94,7 +94,7 @@ fn next_run(wraps: &Wraps, width: u32, from: u32, out: &[Run]) -> Option<Run>
     None
 }
 
-/// Whether every line stands wrapped at the width.
+/// Whether every line is wrapped at the width.
 fn all_at(wraps: &Wraps, width: u32) -> bool
     ensures { result ≡ list_all (λ w. w.mark == width) wraps.now }
 {
@@ -120,6 +120,7 @@ impl Sheet for PlainSheet {
     }
 
     fn lines(&self) -> u32 {
+        // For the proof: the record is lawful, and its text is within the limit.
         self.lawful();
         let _ = self.text().as_str();
         PlainSheet::lines(self)
@@ -134,6 +135,7 @@ impl Sheet for PlainSheet {
     }
 
     fn is_boundary(&self, offset: u32, _steps: &mut Steps) -> bool {
+        // For the proof: the record is lawful, so its text is UTF-8.
         self.lawful();
         self.text().is_boundary(offset)
     }
@@ -169,6 +171,7 @@ impl Sheet for PlainSheet {
         wraps: &[Cuts],
         _steps: &mut Steps,
     ) -> Result<PlainSheet, NoMemory> {
+        // For the proof: the record is lawful.
         self.lawful();
         let mut sheet = PlainSheet::share(self)?;
         sheet.land(alloc, places, PlainSheet::width(self), wraps)?;

@@ -25,8 +25,8 @@ use display_sheet::{LineSplice, MarkRun, Op, Shown, Splice};
 use plain_rows::Plain;
 use std::alloc::Global;
 
-/// A record as a display keeps it. It is seen as that record, in which the stamps count the lines. No call but those that
-/// give a sheet makes one, and none changes one.
+/// A record as a display keeps it. It is seen as that record, in which the stamps count the lines. No call but those
+/// that give a sheet makes one, and none changes one.
 pub trait Sheet: Drop + Send + Sync {
     /// The display lines of one moment, as a job holds them.
     type Held: Lines;
@@ -34,14 +34,17 @@ pub trait Sheet: Drop + Send + Sync {
     // The record, without its stamps.
     ghost kept: { Self → Record };
 
-    /// The record of a text that was just opened, in which each CR LF and then each lone CR is a LF.
+    /// The record of a text that was just opened, in which each CR LF and then each lone CR is a LF. `TooLong` where
+    /// there are more than 33,554,432 bytes. Else `NotUtf8` where they aren't UTF-8, with the length in bytes of the
+    /// longest prefix that is.
     fn opened(alloc: Global, bytes: &[u8], steps: &mut Steps) -> Result<Self, TextFault>
         ensures cases { MatchResult result
             (λ sheet. kept sheet ≡ unstamped (opened (clean bytes.now))) (IsTextRefused bytes.now) }
         ensures accepted { OnOk result (IsAccepted bytes.now) }
         ensures counted { steps.old ≤ steps.new };
 
-    /// An equal record, which no later change reaches. It takes no memory: `NoMemory` is one holder too many.
+    /// An equal record, which no later change reaches. It allocates nothing, and fails with `NoMemory` only where the
+    /// count of holders is full.
     fn share(&self) -> Result<Self, NoMemory>
         ensures { IfOk result (λ sheet. kept sheet ≡ kept self.now) };
 
@@ -55,7 +58,7 @@ pub trait Sheet: Drop + Send + Sync {
     fn text_len(&self) -> u32
         ensures { result ≡ length (kept self.now).text };
 
-    /// The width at which lines are to stand.
+    /// The width in cells at which lines are to be wrapped.
     fn width(&self) -> u32
         ensures { result ≡ (kept self.now).width };
 
@@ -65,7 +68,8 @@ pub trait Sheet: Drop + Send + Sync {
         ensures lawful { IsLawful (kept self.now) }
         ensures counted { steps.old ≤ steps.new };
 
-    /// What an operation that isn't a replacement makes of it, and the display lines that make place for others. This one stays.
+    /// What an operation that isn't a replacement makes of it, and the display lines that make place for others
+    /// (*Touched lines and the line step*). This one stays. It is refused as `Display::apply` of `display_map` says.
     fn operated(
         &self,
         alloc: Global,
@@ -88,8 +92,8 @@ pub trait Sheet: Drop + Send + Sync {
         // The work.
         ensures counted { steps.old ≤ steps.new };
 
-    /// The same of one replacement of a batch, which its caller has judged. Of a batch the text after all of it is judged, so
-    /// in between it may be over the limit of a text.
+    /// The same of one replacement of a batch, which its caller has judged. Of a batch the text after all of it is
+    /// judged, so in between it may be over the limit of a text.
     fn replaced(
         &self,
         alloc: Global,
@@ -102,8 +106,8 @@ pub trait Sheet: Drop + Send + Sync {
             IsOperated (replacement splice.now) (kept self.now) (kept made.0) made.1) }
         ensures counted { steps.old ≤ steps.new };
 
-    /// The record after lines landed: those of a run of old lines, of which each place has the line that it is now, if it is
-    /// still there. `wraps` are their cuts at the present width.
+    /// The record after lines landed (*Replay*). They are those of a run of old lines, of which each place has the line
+    /// that it is now, if it is still there. `wraps` are their cuts at the present width.
     fn landed(
         &self,
         alloc: Global,
@@ -120,13 +124,14 @@ pub trait Sheet: Drop + Send + Sync {
         requires wraps { lists_of wraps.now
             ≡ cuts_in (Self.Held.elements_by_line old.now) run (kept self.now).width }
 
-        // They stand at it then, and the others as they did.
+        // They are wrapped at it then, and the others as they were.
         ensures landed { IfOk result (λ sheet.
             kept sheet ≡ with_landed_lines (kept self.now).width places.now (kept self.now)) }
         ensures counted { steps.old ≤ steps.new };
 
-    /// The first line that doesn't stand at the width and that no run of `out` has, with the lines behind it of the same kind,
-    /// up to 128; `None` where there is no such line. There is none before `from`, where the search may start.
+    /// The first line that isn't wrapped at the width and that no run of `out` has. With it come the lines after it of
+    /// the same kind, up to 128. `None` where there is no such line. There is none before `from`, where the search may
+    /// start.
     fn next_run(&self, from: u32, out: &[Run], steps: &mut Steps) -> Option<Run>
         requires none { (line : ℕ) → line < from →
             waits (widths_of (kept self.now)) (kept self.now).width out.now line ≡ false }
@@ -135,16 +140,17 @@ pub trait Sheet: Drop + Send + Sync {
             out.now result }
         ensures counted { steps.old ≤ steps.new };
 
-    /// Whether every line stands at the present width.
+    /// Whether every line is wrapped at the present width.
     fn is_settled(&self) -> bool
         ensures { result ≡ all_at_width (kept self.now) };
 
-    /// The display lines as they are, for a job. It takes no memory: `NoMemory` is one holder too many.
+    /// The display lines as they are, for a job. It allocates nothing, and fails with `NoMemory` only where the count
+    /// of holders is full.
     fn held(&self) -> Result<Self::Held, NoMemory>
         ensures { IfOk result (λ held.
             Self.Held.elements_by_line held ≡ line_elements (kept self.now)) };
 
-    /// How many rows there are.
+    /// How many rows there are, those of blocks too (*Rows*).
     fn row_count(&self) -> u32
         ensures { result ≡ length (rows_of (kept self.now)) };
 
@@ -154,7 +160,7 @@ pub trait Sheet: Drop + Send + Sync {
             shown_row shown ≡ slice_get (rows_of (kept self.now)) row) }
         ensures counted { steps.old ≤ steps.new };
 
-    /// The rows from number `first` on, as many as there are up to `count`.
+    /// The rows from number `first` on, counted from 0, as many as there are up to `count` (*Rows*).
     fn rows(
         &self,
         alloc: Global,
@@ -166,7 +172,7 @@ pub trait Sheet: Drop + Send + Sync {
             shown_rows shown.items ≡ take count (drop first (rows_of (kept self.now)))) }
         ensures counted { steps.old ≤ steps.new };
 
-    /// Where the boundary `offset` of the text is shown.
+    /// The row, and the column in cells, where the boundary `offset` of the text is shown (*Spots*).
     fn show(
         &self,
         alloc: Global,
@@ -178,7 +184,7 @@ pub trait Sheet: Drop + Send + Sync {
         ensures shown { IfOk result (λ spot. spot ≡ show (kept self.now) offset bias) }
         ensures counted { steps.old ≤ steps.new };
 
-    /// The nearest spot at which some offset is shown.
+    /// The nearest spot at which some offset is shown (*Spots*).
     fn clip(
         &self,
         alloc: Global,
@@ -189,7 +195,7 @@ pub trait Sheet: Drop + Send + Sync {
         ensures nearest { IfOk result (λ nearest. nearest ≡ clip (kept self.now) spot bias) }
         ensures counted { steps.old ≤ steps.new };
 
-    /// The least offset (Left) or the greatest (Right) that is shown at the nearest such spot.
+    /// The least offset in bytes (Left) or the greatest (Right) that is shown at the nearest such spot (*Spots*).
     fn back(
         &self,
         alloc: Global,
@@ -200,7 +206,7 @@ pub trait Sheet: Drop + Send + Sync {
         ensures offset { IfOk result (λ offset. offset ≡ back (kept self.now) spot bias) }
         ensures counted { steps.old ≤ steps.new };
 
-    /// The lines that stand wrapped: maximal runs of neighbours at one width.
+    /// The wrapped lines: maximal runs of neighbours at one width.
     fn marks(&self, alloc: Global, steps: &mut Steps) -> Result<Vec<MarkRun>, NoMemory>
         ensures runs { IfOk result (λ runs. runs.items ≡ mark_runs (kept self.now)) }
         ensures counted { steps.old ≤ steps.new };
@@ -210,13 +216,13 @@ pub trait Sheet: Drop + Send + Sync {
         ensures same { IfOk result (λ plain. record_of plain ≡ kept self.now) }
         ensures counted { steps.old ≤ steps.new };
 
-    /// The offset of a row and a column of the text. Past the last row it is the text's end, and past a row's end that end;
-    /// within a character it is the character's start (Left) or end (Right).
+    /// The offset in bytes of a row and a column of the text (*Points*). Past the last row it is the text's end, and
+    /// past a row's end that end. Within a character it is the character's start (Left) or end (Right).
     fn offset_of(&self, point: Point, bias: Bias, steps: &mut Steps) -> u32
         ensures value { result ≡ offset_at (kept self.now).text point bias }
         ensures counted { steps.old ≤ steps.new };
 
-    /// The bytes of the text from `start` up to `end`, two boundaries in order.
+    /// The text from the byte `start` up to the byte `end`, two boundaries in order.
     fn slice(
         &self,
         alloc: Global,

@@ -1,4 +1,4 @@
--- What both maps are asked once they were told of an operation, and what they make of it.
+-- What both maps are asked once they were given an operation, and what they make of it.
 use Rattle.std.proofs.Common.{IsSome, ◌≡◌, ◌==◌, ℕ, ◌≤◌, find, List, length, Option, option_map, Some, None, refl, sym, ap, ◌∙◌, subst}
 use Rattle.cell_units.specs.declared.limits.TheConstants.{LAID_LIMIT}
 use Rattle.cell_units.specs.declared.place.Shift.{Shift}
@@ -27,7 +27,7 @@ use Rattle.layered_text.specs.Layered.{IsChanged, record_of, source_after}
 use Rattle.layered_text.specs.inside.Kept.{AreRows, AreTold, IsLayered, inlays_of}
 use Rattle.layered_text.proofs.Records.{lawful-record, meets-each}
 
--- ---- a record, of which both maps were told of an operation
+-- ---- a record, of which both maps were given an operation
 
 -- an inlay that is removed leaves the text
 text-left : (r : Record) (found : Option Inlay) → r.text ≡ (inlays_without r found).current.text
@@ -124,7 +124,7 @@ some-met (Rows before after) r r' (Some s) rows m = refl
 some-met NoLine r r' answer rows m = absurd rows
 some-met EachLine r r' answer rows m = absurd rows
 
--- ---- a layered text, whose maps were told of an operation
+-- ---- a layered text, whose maps were given an operation
 
 module _ (operation : Operation) (s : Source) (rope : List ℕ) (inlays : InlayState) (folds : FoldState) (shift : Option Shift)
     (told : AreTold operation s rope inlays folds shift) (is : IsWellFormed s) where

@@ -17,8 +17,8 @@ record_of s = let r = opened s.text in record r { inlays = s.inlays; folds = s.f
 abbrev pub source_after : Operation → Source → Source
 source_after operation s = source_of (operated operation (record_of s))
 
--- The source after the operation, and the replacement of what is shown that leads to it. It meets exactly the lines that are
--- touched, before it and after it, and all other lines have pieces of the same texts.
+-- The source after the operation, and the replacement of what is shown that leads to it. It meets exactly the lines
+-- that are touched, before it and after it, and all other lines have pieces of the same texts.
 pub record IsChanged (operation : Operation) (old new : Source) (shown : Shift) : Type 0 where
   pub made : new ≡ source_after operation old
   pub meets : (r : Record) → source_of r ≡ old → MeetsTouched (touched operation r) r (operated operation r) (Some shown)

@@ -19,7 +19,9 @@ use cell_units::{Bias, Fault, NoMemory, Refusal, Shift, Steps};
 use std::alloc::Global;
 use text_rope::Rope;
 
-/// The rope with a text, with its line breaks made line feeds, in the place of a range, and the replacement that leads to it.
+/// The text with another in the place of a range of bytes, with its line breaks made line feeds. Inlays and folds are
+/// moved by the rule of anchors (*Anchors*), and folds that are empty then are dropped. Returns the replacement of the
+/// text too.
 fn replaced(
     alloc: Global,
     rope: &Rope,
@@ -46,8 +48,8 @@ fn replaced(
 }
 
 impl LayeredText {
-    /// The text with another in the place of a range, with its line breaks made line feeds. Inlays and folds are moved by
-    /// the rule of anchors, and folds that are empty then are dropped. It gives the replacement of the text too.
+    /// The text with another in the place of a range, with its line breaks made line feeds. Inlays and folds are moved
+    /// by the rule of anchors, and folds that are empty then are dropped. It gives the replacement of the text too.
     pub fn replaced(
         &self,
         alloc: Global,
@@ -75,9 +77,13 @@ impl LayeredText {
         Ok((made, shift))
     }
 
-    /// The text with one inlay more: a text that is shown at an offset. At an insertion of text there it stays (Left) or
-    /// goes behind (Right). In this order `IdInUse` where its id is there, `BadRange` where the offset is no boundary,
-    /// `BadText` where its text is empty, and `TooLong` where that is over its limit or there are as many inlays as may be.
+    /// The text with one inlay more: a text that is shown at an offset, in bytes. At an insertion of text there it
+    /// stays (Left) or goes after it (Right). It is refused by the first of these that fits:
+    ///
+    /// - `IdInUse`: its id is there;
+    /// - `BadRange`: the offset is no boundary;
+    /// - `BadText`: its text is empty;
+    /// - `TooLong`: that is over its limit, or there are as many inlays as may be.
     pub fn with_inlay(
         &self,
         alloc: Global,
@@ -100,7 +106,7 @@ impl LayeredText {
         if let Some(refusal) = self.inlaid.refusal_to_add(id, offset, text, steps) {
             return Err(Fault::Refused(refusal));
         }
-        // The text is UTF-8.
+        // For the proof: the text is UTF-8.
         let _len = self.rope.len();
         let mut inlays = self.inlays.share()?;
         inlays.insert(alloc, id, offset, bias, text, steps)?;
@@ -115,12 +121,10 @@ impl LayeredText {
         id: u32,
         steps: &mut Steps,
     ) -> Result<Refolded, Fault>
-        // What is there after it, and what is accepted.
         ensures changed { IfOk result (λ made.
             IsChanged (RemoveInlay id) self.now made.text made.shown) }
         ensures accepted { OnOk result (remove_refusal self.now id ≡ None) }
 
-        // A refusal is judged before memory is asked for.
         ensures refused { IfErr result (inlaid.IsOwed (remove_refusal self.now id)) }
         ensures counted { steps.old ≤ steps.new }
     {
@@ -133,9 +137,12 @@ impl LayeredText {
         Ok(self.turned(alloc, inlays, folds, steps)?)
     }
 
-    /// The text with one fold more, which hides the bytes from `start` to `end`. In this order `IdInUse` where its id is
-    /// there, `BadRange` where that is no range of some bytes between boundaries, and `TooLong` where there are as many folds
-    /// as may be.
+    /// The text with one fold more, which hides the bytes from `start` to `end`. It is refused by the first of these
+    /// that fits:
+    ///
+    /// - `IdInUse`: its id is there;
+    /// - `BadRange`: that is no range of some bytes between boundaries;
+    /// - `TooLong`: there are as many folds as may be.
     pub fn with_fold(
         &self,
         alloc: Global,
@@ -144,12 +151,10 @@ impl LayeredText {
         end: u32,
         steps: &mut Steps,
     ) -> Result<Refolded, Fault>
-        // What is there after it, and what is accepted.
         ensures changed { let fold = fold_with id start end in
             IfOk result (λ made. IsChanged (AddFold fold) self.now made.text made.shown) }
         ensures accepted { OnOk result (fold_refusal self.now id start end ≡ None) }
 
-        // A refusal is judged before memory is asked for.
         ensures refused { let refusal = fold_refusal self.now id start end in
             IfErr result (folded.IsOwed refusal) }
         ensures counted { steps.old ≤ steps.new }
@@ -157,7 +162,7 @@ impl LayeredText {
         if let Some(refusal) = self.layer.refusal_to_fold(id, start, end, steps) {
             return Err(Fault::Refused(refusal));
         }
-        // The text is within its limit, so each place of what is shown is a u32.
+        // For the proof: the text is within its limit, so each place of what is shown is a u32.
         let _sizes = (self.rope.len(), self.folds.len());
         let mut folds = self.folds.share()?;
         folds.fold(alloc, id, start, end, steps)?;
@@ -167,19 +172,17 @@ impl LayeredText {
 
     /// The text without the fold of an id. `UnknownId` where there is none.
     pub fn without_fold(&self, alloc: Global, id: u32, steps: &mut Steps) -> Result<Refolded, Fault>
-        // What is there after it, and what is accepted.
         ensures changed { IfOk result (λ made.
             IsChanged (RemoveFold id) self.now made.text made.shown) }
         ensures accepted { OnOk result (unfold_refusal self.now id ≡ None) }
 
-        // A refusal is judged before memory is asked for.
         ensures refused { IfErr result (folded.IsOwed (unfold_refusal self.now id)) }
         ensures counted { steps.old ≤ steps.new }
     {
         if !self.layer.has_id(id, steps) {
             return Err(Fault::Refused(Refusal::UnknownId));
         }
-        // The text is within its limit, so each place of what is shown is a u32.
+        // For the proof: the text is within its limit, so each place of what is shown is a u32.
         let _sizes = (self.rope.len(), self.folds.len());
         let mut folds = self.folds.share()?;
         folds.unfold(alloc, id, steps)?;

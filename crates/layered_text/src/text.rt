@@ -55,7 +55,7 @@ pub struct Refolded {
 }
 
 impl LayeredText {
-    /// The text without inlays and folds.
+    /// The text without inlays and folds. It fails with `NoMemory` only.
     pub fn opened(alloc: Global, rope: Rope, steps: &mut Steps) -> Result<LayeredText, NoMemory>
         ensures opened { IfOk result (λ text. text ≡ plain_source rope) }
         ensures counted { steps.old ≤ steps.new }
@@ -80,7 +80,7 @@ impl LayeredText {
         ensures opened { IfOk result (λ text. text ≡ plain_source rope) }
         ensures counted { steps.old ≤ steps.new }
     {
-        // The text is within its limit, so each place of what is shown is a u32.
+        // For the proof: the text is within its limit, so each place of what is shown is a u32.
         let _len = rope.len();
         let base = inlaid.share()?;
         let mut folds = FoldMap::new(alloc, base, steps)?;
@@ -134,7 +134,7 @@ impl LayeredText {
         &self.layer
     }
 
-    /// What is shown once both maps were told of an operation, with the rope after it.
+    /// What is shown once both maps were given an operation, with the rope after it.
     pub(crate) fn changed(
         &self,
         alloc: Global,
@@ -150,9 +150,9 @@ impl LayeredText {
             IfOk result (λ made. IsChanged operation self.now made.text made.shown) }
         ensures counted { steps.old ≤ steps.new }
     {
-        // What a replacement owes to the maps, and which lines their answers meet.
+        // For the proof: what a replacement owes to the maps, and which lines their results meet.
         answer_laws();
-        // The text is within its limit, and the inlays and folds fit it.
+        // For the proof: the text is within its limit, and the inlays and folds fit it.
         let _sizes = (rope.len(), self.folds.len());
         let next = rope.share()?;
         let (inlaid, below) = inlays.sync(alloc, next, shift, steps)?;

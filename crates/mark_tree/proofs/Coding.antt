@@ -14,7 +14,7 @@ module _ {P : Type 0} where
   length-placed o [] = refl
   length-placed o (e ∷ es) = ap suc (length-placed (o + e.gap) es)
 
-  -- the number of entries, and where the last of them stands
+  -- the number of entries, and where the last of them is
   pub items-over : (es : List (Entry P)) → (extent_over es).items ≡ length es
   items-over [] = refl
   items-over (e ∷ es) = omega (arith, items-over es)
@@ -37,7 +37,7 @@ module _ {P : Type 0} where
   placed-drop (suc k) o [] = refl
   placed-drop (suc k) o (e ∷ es) = placed-drop k (o + e.gap) es
 
-  -- what stands at a place
+  -- what is at a place
   pub placed-get : (k o : ℕ) (es : List (Entry P)) (e : Entry P) → slice_get es k ≡ Some e → slice_get (placed_from o es) k ≡ Some (placed_at (o + (extent_over (take k es)).span + e.gap) e)
   placed-get zero o [] e is = absurd (cc)
   placed-get zero o (x ∷ es) e is =
@@ -90,7 +90,7 @@ module _ {P : Type 0} where
       let rest = end-placed m (o + e.gap) es (omega arith) (All-tail (λ p. end_at p < m) (placed_at (o + e.gap) e) (placed_from (o + e.gap) es) all) in
       omega arith
 
-  -- what lies behind a replacement keeps its gaps
+  -- what lies after a replacement keeps its gaps
   pub shifted-placed : (s : Shift) (o : ℕ) (es : List (Entry P)) → s.start ≤ s.end → s.end ≤ o → map (shifted s) (placed_from o es) ≡ placed_from (o + s.count - (s.end - s.start)) es
   shifted-placed s o [] order behind = refl
   shifted-placed s o (e ∷ es) order behind =
@@ -134,7 +134,7 @@ module _ {P : Type 0} where
     small = small;
   }
 
-  -- the first place of an id is the same in what stands there and in the entries
+  -- the first place of an id is the same in the list with offsets and in the entries
   pub position-placed : (id o : ℕ) (es : List (Entry P)) → position (λ e. e.id == id) es ≡ position (has_placed_id id) (placed_from o es)
   position-placed id o es = λ i. cond (nat_lt (go o es i) (sym (length-placed o es) i)) (Some (go o es i)) None where
     go : (n : ℕ) (fs : List (Entry P)) → position_or_len (λ e. e.id == id) fs ≡ position_or_len (has_placed_id id) (placed_from n fs)

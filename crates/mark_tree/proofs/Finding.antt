@@ -10,7 +10,7 @@ use Rattle.std.proofs.lemmas.Option.{get_or_from_slice_get, slice_get_within}
 use Rattle.std.proofs.lemmas.Bool.Decides.{nat_tests}
 use Rattle.mark_tree.proofs.Sorting.{Every, IsSorted}
 
--- what stands at a place is there
+-- what is at a place is there
 pub contained : {X : Type 0} (xs : List X) (at : ℕ) (x : X) → slice_get xs at ≡ Some x → Contains xs x
 contained xs at x is = (at, slice_get_within xs at x is, get_or_from_slice_get xs at x x is)
 

@@ -1,4 +1,4 @@
--- Where the first thing stands that reaches an offset: at the place asked, or where a cursor stands that sought by end.
+-- Where the first thing is that reaches an offset: at the place asked, or where a cursor is that sought by end.
 use Rattle.std.proofs.Common.{◌≡◌, ℕ, zero, suc, ◌+◌, ◌-◌, ◌<◌, ◌≤◌, List, Some, [], ◌∷◌, length, take, drop, sym, ap, subst, arith}
 use Rattle.std.specs.List.{All, slice_get}
 use Rattle.std.specs.Ordering.{nat_cmp}
@@ -51,7 +51,7 @@ module _ {P : Type 0} where
         long = long-at offset base (place - 1) es low high;
       }
 
-  -- what stands from a place on, counted from there
+  -- what there is from a place on, counted from there
   pub reaching-behind : (at offset k : ℕ) (ps : List (Placed P)) → at ≤ length ps → IsFirstReaching 0 offset (drop at ps) k → IsFirstReaching at offset ps (at + k)
   reaching-behind at offset k ps in' r =
       let back : (at + k) - at ≡ k - 0 = omega arith in
@@ -67,7 +67,7 @@ module _ {P : Type 0} where
   there-first zero (q ∷ ps) p is = let same : q ≡ p = cc in ap (λ r. r ∷ []) same
   there-first (suc at) (q ∷ ps) p is = there-first at ps p is
 
-  -- the thing at the place itself reaches the offset, or none stands there
+  -- the thing at the place itself reaches the offset, or there is none
   pub reaching-there : (at offset : ℕ) (ps : List (Placed P)) (p : Placed P) → slice_get ps at ≡ Some p → at ≤ length ps → offset ≤ end_at p → IsFirstReaching at offset ps at
   reaching-there at offset ps p is in' far =
       let back : at - at ≡ 0 = omega arith in

@@ -147,7 +147,7 @@ module _ {P : Type 0} where
         small = omega (arith, length-append (take from ps) (fresh ++ drop to ps), length-append fresh (drop to ps), length-moved_before s here order a before, length-take from ps, length-drop to ps);
       }
 
-  -- the group of the one at a place ends before the first that stands further behind
+  -- the group of the one at a place ends before the first at a later offset
   spaced-every : (o : ℕ) (ps : List (Placed P)) → IsSpaced o ps → Every (λ p. o ≤ p.offset) ps
   spaced-every o [] s = tt
   spaced-every o (p ∷ ps) s = (s.0, every-weaker (λ q. p.offset ≤ q.offset) (λ q. o ≤ q.offset) (λ q le. omega (arith, le, s.0)) ps (spaced-every p.offset ps s.1))

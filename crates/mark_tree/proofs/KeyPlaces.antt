@@ -1,4 +1,4 @@
--- Which things come before a key or behind it by their offsets alone.
+-- Which things come before a key or after it by their offsets alone.
 use Rattle.std.proofs.Common.{◌≡◌, ℕ, ◌+◌, ◌<◌, ◌≤◌, ◌==◌, ◌&&◌, ◌||◌, nat_lt, not, Bool, true, false, List, Option, None, Some, length, take, drop, get_or, refl, sym, ap, subst, ◌∙◌, arith, add-zero}
 use Rattle.std.specs.List.{All}
 use Rattle.std.specs.Option.{MatchOption, option_eq}
@@ -27,14 +27,14 @@ less-apart : (a b : ℕ) → a ≤ b → not (b == a) ≡ true → a < b
 less-apart a b le ne = grind (arith, nat_tests)
 
 module _ {P : Type 0} where
-  -- the key comes behind what stands at smaller offsets
+  -- the key comes after what is at smaller offsets
   pub key_le-before : (key : Key) (ps : List (Placed P)) (at : ℕ) → at ≤ length ps → All (λ p. p.offset < key.offset) (take at ps) → (k : ℕ) (d : Placed P) → k < at → key_le key (key_of (get_or ps k d)) ≡ false
   key_le-before key ps at within before k d lt =
       let there : k < length (take at ps) = omega (arith, length-take at ps) in
       let below : (get_or ps k d).offset < key.offset = subst (λ (p : Placed P). p.offset < key.offset) (get_or-take at ps k d lt) (before k d there) in
       offset-above key (key_of (get_or ps k d)) below
 
-  -- and before what stands at greater ones
+  -- and before what is at greater ones
   pub key_le-from_place : (key : Key) (ps : List (Placed P)) (at : ℕ) → All (λ p. key.offset + 1 ≤ p.offset) (drop at ps) → (d : Placed P) → at < length ps → key_le key (key_of (get_or ps at d)) ≡ true
   key_le-from_place key ps at behind d lt =
       let there : 0 < length (drop at ps) = omega (arith, length-drop at ps) in

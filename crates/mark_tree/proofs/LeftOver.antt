@@ -1,4 +1,4 @@
--- What a replacement leaves of ranges that end before it, start before it, or lie behind it.
+-- What a replacement leaves of ranges that end before it, start before it, or lie after it.
 use Rattle.std.proofs.Common.{◌≡◌, ℕ, ◌+◌, ◌-◌, ◌<◌, ◌≤◌, nat_lt, true, cond, List, [], ◌∷◌, ◌++◌, length, map, refl, sym, ap, ◌∙◌, arith, append_assoc, ◌⊎◌, inl, inr}
 use Rattle.std.proofs.lemmas.Bool.Decides.{nat_tests}
 use Rattle.cell_units.specs.declared.place.Bias.TheVariants.{Left, Right}
@@ -86,7 +86,7 @@ module _ {P : Type 0} where
   pub length-before : (s : Shift) (ps : List (Placed P)) → s.start ≤ s.end → Every IsRange ps → Every (λ p. p.offset < s.start) ps → length (all_left_over s ps) ≡ length ps
   length-before s ps order a b = ap length (left-all s ps (all-kept-before s ps order a b)) ∙ length-map (move_extent s) ps
 
-  -- those that lie behind are shifted
+  -- those that lie after it are shifted
   kept-behind : (s : Shift) (p : Placed P) → s.start ≤ s.end → IsRange p → s.end + 1 ≤ p.offset → is_left_over s p ≡ true
   kept-behind s p order range le =
       let some = range.some in

@@ -88,7 +88,7 @@ module _ {P : Type 0} where
   pub places-in_order : (a b : ℕ) (ps : List (Placed P)) (i j : ℕ) → a ≤ b → i ≤ length ps → All (λ p. p.offset < a) (take i ps) → All (λ p. b + 1 ≤ p.offset) (drop j ps) → i ≤ j
   places-in_order a b ps i j order in' low high = below-above a (b + 1) ps i j (omega arith) in' low high
 
-  -- all of the one list stand before all of the other
+  -- all of the one list are before all of the other
   pub cross : (m : ℕ) (xs ys : List (Placed P)) → Every (λ x. x.offset < m) xs → Every (λ y. m ≤ y.offset) ys → Every (λ x. Every (λ y. placed_le x y ≡ true) ys) xs
   cross m [] ys a b = tt
   cross m (x ∷ xs) ys a b = (above ys b, cross m xs ys a.1 b) where
@@ -131,7 +131,7 @@ module _ {P : Type 0} where
     above [] c d = tt
     above (q ∷ qs) c d = (shift-le s p q order a.0 c.0 d.0, above qs c.1 d.1)
 
-  -- what is before stays, what is met is sorted by itself, what is behind is shifted
+  -- what is before stays, what is met is sorted by itself, what is after is shifted
   moved-parts : (s : Shift) (xs mid ys : List (Placed P)) → s.start ≤ s.end → Every (λ p. p.offset < s.start) xs → Every (λ p. s.start ≤ p.offset) mid → Every (λ p. p.offset < s.end + 1) mid → Every (λ p. s.end + 1 ≤ p.offset) ys
       → IsSorted placed_le (xs ++ (mid ++ ys)) → moved_placed s (xs ++ (mid ++ ys)) ≡ xs ++ (sort_by placed_le (map (move_placed s) mid) ++ map (shifted s) ys)
   moved-parts s xs mid ys order a b c d up =

@@ -1,4 +1,4 @@
--- A replacement among ranges: those before it, those that start in it, and those behind it.
+-- A replacement among ranges: those before it, those that start in it, and those after it.
 use Rattle.std.proofs.Common.{◌≡◌, ℕ, ◌+◌, ◌-◌, ◌*◌, ◌<◌, ◌≤◌, ◌&&◌, nat_le, true, List, [], ◌∷◌, ◌++◌, length, take, drop, map, count_by, sym, ap, subst, ◌∙◌, arith}
 use Rattle.std.specs.List.{All}
 use Rattle.std.proofs.Math.Nat.{mul-le-mul_left}
@@ -93,7 +93,7 @@ module _ {P : Type 0} (s : Shift) (first last : ℕ) (old : List (Placed P)) (a 
       (every-weaker (λ p. (s.start ≤ p.offset) × (p.offset < s.start + s.count + 1)) (λ p. p.offset < s.start + s.count + 1) (λ p e. e.1) (all_left_over s mid) left-mid) back-above
       ∙ ap (λ l. moved_extents s mid ++ l) back-sorted)
 
-  -- those before the replacement are never emptied, nor those behind it
+  -- those before the replacement are never emptied, nor those after it
   pub gone-parts : emptied_ids s old ≡ emptied_ids s (run first last old)
   gone-parts =
       let mid = run first last old in

@@ -21,8 +21,8 @@ use Rattle.mark_tree.proofs.Runs.{count-run, every-run, length-run, rest-same, r
 use Rattle.mark_tree.proofs.Sorting.{Every, IsSorted, every-append, every-right, every-weaker, sort-sorted}
 
 module _ {P : Type 0} where
-  -- Those before place `at` have been moved: with what the replacement leaves of the others up to place `first` they are what
-  -- it leaves of all.
+  -- Those before place `at` have been moved. With what the replacement leaves of the others up to place `first` they
+  -- are what it leaves of all.
   pub record IsMovedTo (s : Shift) (first : ℕ) (old : List (Placed P)) (at : ℕ) (ps : List (Placed P)) : Type 0 where
     pub low : at ≤ first
     pub same : length ps ≡ length old
@@ -111,7 +111,7 @@ module _ {P : Type 0} where
           (subst (IsSorted placed_le) (sym here-same) (sorted-run placed_le old from to (omega arith) (sorted-placed old f.ranges.ordered.sorted)))
           (subst (All (λ p. s.start ≤ end_at p)) (sym (take-take 1 (to - from) (drop from ps) (omega arith))) r.long)
 
-      -- what the round moves, with what lies before it and behind
+      -- what the round moves, with what lies before it and after it
       round-parts : moved_extents s (run at first old) ≡ run at from old ++ (moved_extents s (run from to ps) ++ moved_extents s (run to first old))
       round-parts =
           let some = g.some in

@@ -20,8 +20,7 @@ module _ {X : Type 0} where
       ∙ take-add (j - i) (k - j) (drop i xs)
       ∙ ap (λ l. run i j xs ++ take (k - j) l) (drop-drop (j - i) i xs ∙ ap (λ n. drop n xs) there)
 
-  -- a list of which the front has been changed
-  -- lists that are the same from a place on
+  -- a list of which the prefix has been changed lists that are the same from a place on
   pub rest-same : (xs ys : List X) (at i : ℕ) → drop at xs ≡ drop at ys → at ≤ i → drop i xs ≡ drop i ys
   rest-same xs ys at i same le =
       let there : at + (i - at) ≡ i = omega arith in
@@ -30,7 +29,7 @@ module _ {X : Type 0} where
   pub run-same : (xs ys : List X) (at i j : ℕ) → drop at xs ≡ drop at ys → at ≤ i → run i j xs ≡ run i j ys
   run-same xs ys at i j same le = ap (take (j - i)) (rest-same xs ys at i same le)
 
-  -- what holds of a front holds of each run in it
+  -- what holds of a prefix holds of each run in it
   pub every-run : (P : X → Type 0) (xs : List X) (i j k : ℕ) → i ≤ j → j ≤ k → All P (take k xs) → Every P (run i j xs)
   every-run P xs i j k a b all =
       every-right P (take i xs) (run i j xs)

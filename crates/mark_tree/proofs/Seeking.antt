@@ -1,4 +1,4 @@
--- Where a cursor stands that sought by number, by offset or by end.
+-- Where a cursor is that sought by number, by offset or by end.
 use Rattle.std.proofs.Common.{◌≡◌, ℕ, zero, suc, ◌+◌, ◌-◌, ◌<◌, ◌≤◌, min, true, false, List, [], ◌∷◌, length, take, drop, get_or, Option, Some, None, refl, sym, ap, subst, ◌∙◌, arith, add-one, add-zero}
 use Rattle.std.specs.List.{All, slice_get}
 use Rattle.std.specs.Option.{MatchOption}
@@ -38,7 +38,7 @@ module _ {P : Type 0} where
   pub items-taken : (k : ℕ) (es : List (Entry P)) → (extent_over (take k es)).items ≡ min k (length es)
   items-taken k es = items-over (take k es) ∙ length-take k es
 
-  -- a cursor that sought the number `at` stands on the entry there, or past the last
+  -- a cursor that sought the number `at` is on the entry there, or past the last
   pub place-by_items : (es : List (Entry P)) (at place : ℕ) → IsSought none both extent_of by_items (λ a b. nat_cmp a.items b.items) es (record { items = at; span = 0 }) Right place → place ≡ min at (length es) + 1
   place-by_items es at place s =
       let low : (k : ℕ) → 1 ≤ k → k < place → min k (length es) ≤ at =
@@ -117,7 +117,7 @@ module _ {P : Type 0} where
       let here : (get_or (placed_from 0 es) (place - 1) d).offset ≡ 0 + (extent_over (take place es)).span = subst (λ n. (get_or (placed_from 0 es) (place - 1) d).offset ≡ 0 + (extent_over (take n es)).span) turn (offset-at (place - 1) 0 es d (omega arith)) in
       subst (λ (p : Placed P). offset ≤ p.offset) (sym (get_or-drop (place - 1) (placed_from 0 es) 0 d ∙ ap (λ n. get_or (placed_from 0 es) n d) (add-zero (place - 1)))) (omega arith)))
 
-  -- where the thing at a place lies behind an offset, so does all from there on
+  -- where the thing at a place lies after an offset, so does all from there on
   pub behind-here : (offset : ℕ) (ps : List (Placed P)) (at o : ℕ) → IsSpaced 0 ps → ((d : Placed P) → (get_or ps at d).offset ≡ o) → offset ≤ o → All (λ p. offset ≤ p.offset) (drop at ps)
   behind-here offset ps at o s here le =
       all-from offset (drop at ps)
@@ -131,7 +131,7 @@ module _ {P : Type 0} where
   pub none-behind : (offset : ℕ) (ps : List (Placed P)) (at : ℕ) → length ps ≤ at → All (λ p. offset ≤ p.offset) (drop at ps)
   none-behind offset ps at past k d lt = absurd (omega (arith, length-drop at ps))
 
-  -- what a cursor is on that stands at a number
+  -- what a cursor is on that is at a number
   item-on : (es : List (Entry P)) (at place : ℕ) → place ≡ min at (length es) + 1 → last_of es place ≡ slice_get es (min at (length es))
   item-on es at place is = ap (last_of es) (is ∙ add-one (min at (length es)))
 

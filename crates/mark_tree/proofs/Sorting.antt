@@ -48,7 +48,7 @@ AreFresh id [] = Unit {0}
 AreFresh id (x ∷ xs) = IsFresh id (id x) xs × AreFresh id xs
 
 module _ {X : Type 0} (le : X → X → Bool) where
-  -- each member is not above those behind it
+  -- each member is not above those after it
   abbrev pub IsSorted : List X → Type 0
   IsSorted [] = Unit {0}
   IsSorted (x ∷ xs) = Every (λ y. le x y ≡ true) xs × IsSorted xs
@@ -95,7 +95,7 @@ module _ {X : Type 0} (le : X → X → Bool) where
   length-sort [] = refl
   length-sort (x ∷ xs) = length-insert x (sort_by le xs) ∙ omega (arith, length-sort xs)
 
-  -- one list behind another is sorted by itself
+  -- one list after another is sorted by itself
   insert-front : (x : X) (ys zs : List X) → Every (λ z. le x z ≡ true) zs → insert_by le x (ys ++ zs) ≡ insert_by le x ys ++ zs
   insert-front x [] zs b = insert_low x zs b
   insert-front x (y ∷ ys) zs b = go (le x y) (insert-front x ys zs b) where
@@ -216,7 +216,7 @@ module _ {X : Type 0} where
     no_more n [] few = tt
     no_more n (x ∷ xs) few = (λ e. absurd (omega (arith, few, one n (id x) e, count-cons (λ y. id y == n) x xs)), no_more n xs (omega (arith, few, count-cons (λ y. id y == n) x xs)))
 
-    -- where no id stands twice
+    -- where no id is there twice
     pub fresh-from_count : (xs : List X) → ((n : ℕ) → count_by (λ x. id x == n) xs ≤ 1) → AreFresh id xs
     fresh-from_count [] few = tt
     fresh-from_count (x ∷ xs) few =

@@ -1,4 +1,4 @@
--- What the entries stand for after some of them were replaced.
+-- What the entries mean after some of them were replaced.
 use Rattle.std.proofs.Common.{◌≡◌, ℕ, zero, suc, ◌+◌, ◌-◌, ◌<◌, ◌≤◌, ◌^◌, List, [], ◌∷◌, ◌++◌, length, map, take, drop, Some, Result, Ok, Err, IfOk, OnOk, OnErr, refl, sym, ap, subst, ◌∙◌, arith, add-one, append_assoc, ◌⊎◌, inl, inr}
 use Rattle.std.specs.List.{All, slice_get}
 use Rattle.std.proofs.lemmas.List.{length-drop}
@@ -74,7 +74,7 @@ module _ {P : Type 0} where
             ap (placed_from o) here ∙ ap (map (shifted s)) (sym there)
       ]
 
-  -- the entries stand for the spliced list
+  -- the entries mean the spliced list
   pub placed-spliced : (es : List (Entry P)) (from to : ℕ) (fresh : List (Placed P)) (s : Shift) (placed : List (Placed P)) (end : ℕ) → s.start ≤ s.end → IsRefill (placed_from 0 es) to fresh s placed end
       → IsSpaced 0 (spliced from to fresh s (placed_from 0 es))
       → placed_from 0 (take from es ++ coded (last_offset 0 (take from (placed_from 0 es))) placed ++ drop end es) ≡ spliced from to fresh s (placed_from 0 es)
@@ -122,7 +122,7 @@ module _ {P : Type 0} where
   shifted-fits ps n s p e all =
       All-head (λ q. end_at q < 2 ^ 32) (shifted s p) (map (shifted s) (drop (n + 1) ps)) (subst (λ l. All (λ q. end_at q < 2 ^ 32) (map (shifted s) l)) (drop-at ps n p e) all)
 
-  -- the first thing behind, joined to the others
+  -- the first thing after it, joined to the others
   pub refill-behind : (ps : List (Placed P)) (to : ℕ) (fresh : List (Placed P)) (s : Shift) (p : Placed P) → slice_get ps to ≡ Some p → to < length ps → s.end ≤ p.offset → IsRefill ps to fresh s (fresh ++ shifted s p ∷ []) (to + 1)
   refill-behind ps to fresh s p is lt behind =
       let open_at : drop to ps ≡ p ∷ drop (to + 1) ps = drop-at ps to p is in

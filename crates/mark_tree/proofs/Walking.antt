@@ -50,7 +50,7 @@ module _ {P : Type 0} (start end : ℕ) where
       met-skip p (ps ++ qs) (not-met_before p.offset end start (end_at p) (All-head (λ q. end_at q < start + 1) p ps all))
       ∙ met-short ps qs (All-tail (λ q. end_at q < start + 1) p ps all)
 
-  -- nor is any that starts behind
+  -- nor is any that starts after it
   met-behind : (o : ℕ) (ps : List (Placed P)) → end ≤ o → IsSpaced o ps → met ps ≡ []
   met-behind o [] le s = refl
   met-behind o (p ∷ ps) le s =
@@ -89,6 +89,6 @@ module _ {P : Type 0} (start end : ℕ) where
   pub met-count : (ps : List (Placed P)) (xs : List RangeMark) (at : ℕ) → met_from start end 0 ps ≡ xs ++ met_from start end at ps → length xs ≤ count_by (has_in_common start end) (map range_of ps)
   met-count ps xs at is = omega (arith, length-filter (has_in_common start end) (map range_of ps), ap length is, length-append xs (met_from start end at ps))
 
--- the end of one that stands in a list
+-- the end of one that is in a list
 pub end-fits : {P : Type 0} (m place : ℕ) (ps : List (Placed P)) (p : Placed P) → slice_get ps place ≡ Some p → All (λ q. end_at q < m) ps → end_at p < m
 end-fits {P = P} m place ps p is all = subst (λ (q : Placed P). end_at q < m) (get_or_from_slice_get ps place p p is) (all place p (slice_get_within ps place p is))

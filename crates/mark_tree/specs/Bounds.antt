@@ -1,13 +1,14 @@
--- How many steps calls on marks and ranges take at most. Like those of sum trees, they are costs of a height h that the tree
--- can't exceed.
+-- How many steps calls on marks and ranges take at most. Like those of sum trees, they are costs of a height h that the
+-- tree can't exceed.
 use Rattle.std.specs.Prelude.{ℕ, ◌+◌, ◌*◌, ◌^◌, ◌<◌, ◌≤◌}
 use Rattle.sum_tree.specs.Bounds.{replacing, way}
 
--- A call by an id may look at every entry of a list of n, on a fifth as many nodes, and takes at most `cost h` steps beside.
+-- A call by an id may look at every entry of a list of n, on a fifth as many nodes. It takes at most `cost h` steps
+-- beside that.
 abbrev pub SearchesAndTakes : (ℕ → ℕ) → ℕ → ℕ → ℕ → Type 0
 SearchesAndTakes cost n old new = (h : ℕ) → n < 2 * 6 ^ (h + 1) → 5 * new ≤ 5 * old + (n + 5 * cost h)
 
--- The places of those that a replacement meets are found by a way down to the first, and mostly one to those behind.
+-- The places of those that a replacement meets are found by a way down to the first, and mostly one to those after it.
 abbrev pub both_ends : ℕ → ℕ
 both_ends h = 2 * (h + 1)
 
@@ -15,11 +16,11 @@ both_ends h = 2 * (h + 1)
 abbrev pub halving : ℕ → ℕ
 halving h = 34 * (h + 1)
 
--- k things in the place of others: two ways down to what stands before and behind, and one replacement of k + 1 entries.
+-- k things in the place of others: two ways down to what is before and after, and one replacement of k + 1 entries.
 abbrev pub splicing : ℕ → ℕ → ℕ
 splicing k h = 2 * way h + replacing (k + 1) h
 
--- One thing taken off: a way down to it, and what is behind it is spliced.
+-- One thing taken off: a way down to it, and what comes after it is spliced.
 abbrev pub taking : ℕ → ℕ
 taking h = way h + splicing 0 h
 

@@ -56,16 +56,16 @@ module _ {P : Type 0} where
     pub ends : All (λ p. end_at p < 2 ^ 32) ps
     pub small : length ps < 2 ^ 32
 
-  -- what lies behind a replacement, after it
+  -- what lies after a replacement, once it is done
   abbrev pub shifted : Shift → Placed P → Placed P
   shifted s p = record { offset = p.offset + s.count - (s.end - s.start); bias = p.bias; length = p.length; id = p.id; load = p.load }
 
-  -- others in the place of those from place `from` to place `to`, and all behind them shifted
+  -- others in the place of those from place `from` to place `to`, and all after them shifted
   abbrev pub spliced : ℕ → ℕ → List (Placed P) → Shift → List (Placed P) → List (Placed P)
   spliced from to fresh s ps = take from ps ++ (fresh ++ map (shifted s) (drop to ps))
 
-  -- What takes the place of all up to place `end`: others for those up to place `to`, and the first thing behind them, so
-  -- that each gap further behind stays.
+  -- What takes the place of all up to place `end`: others for those up to place `to`, and the first thing after them.
+  -- Each later gap stays.
   pub record IsRefill (ps : List (Placed P)) (to : ℕ) (fresh : List (Placed P)) (s : Shift) (placed : List (Placed P)) (end : ℕ) : Type 0 where
     pub order : to ≤ end
     pub within : end ≤ length ps

@@ -13,7 +13,7 @@ extent items span hang ids = record { items = items; span = span; hang = hang; i
 abbrev pub none : Extent
 none = extent 0 0 0 None
 
--- the extent of a run and the one behind it, which begins at the first one's last offset
+-- the extent of a run and the one after it, which begins at the first one's last offset
 abbrev pub both : Extent → Extent → Extent
 both a b =
     extent (a.items + b.items) (a.span + b.span) (max (a.hang - b.span) b.hang) (all_ids a.ids b.ids)

@@ -1,4 +1,6 @@
--- The words of contracts on marks and ranges that stand at offsets of a text.
+-- What the crate promises: all but those named next
+-- What its parts say to each other: DimensionLaws, ExtentLaws, IdLaws, Meeting, Reaching
+
 -- how many steps a call on marks or ranges takes at most
 pub mod Bounds
 -- the laws of places by number, by offset and by end
@@ -8,7 +10,7 @@ pub mod Entries
 -- how far runs of entries reach, and the laws of these extents as sums
 pub mod ExtentLaws
 pub mod Extents
--- between which ids those of a run of entries lie, and what that tells of the entries
+-- between which ids those of a run of entries lie, and what that says of the entries
 pub mod IdLaws
 pub mod IdRanges
 -- lists of marks, and what a replacement makes of them

@@ -10,7 +10,7 @@ use Rattle.cell_units.specs.Record.{in_order, bias_rank}
 use Rattle.cell_units.specs.Sorting.{sort_by}
 use Rattle.mark_tree.specs.declared.mark.Mark.{Mark}
 
--- the refusal where its cause is there, and else want of memory
+-- the refusal where its cause is there, and else out of memory
 abbrev pub IsRefusedFor : Refusal → Bool → Fault → Type 0
 IsRefusedFor refusal cause (Refused r) = (r ≡ refusal) × (cause ≡ true)
 IsRefusedFor refusal cause NoMemory = cause ≡ false
@@ -41,11 +41,11 @@ module _ {P : Type 0} where
   abbrev pub moved_marks : Shift → List (Mark P) → List (Mark P)
   moved_marks s marks = sort_by mark_le (map (move_mark s) marks)
 
-  -- the replacement meets the mark: it stands at an end of the replaced bytes or between them
+  -- the replacement meets the mark: it is at an end of the replaced bytes or between them
   abbrev pub is_met : Shift → Mark P → Bool
   is_met s m = nat_le s.start m.offset && nat_le m.offset s.end
 
-  -- What each tree of marks is seen as: a sorted list, in which no id stands twice, of offsets that are u32.
+  -- What each tree of marks is seen as: a sorted list, in which no id is there twice, of offsets that are u32.
   pub record IsMarkList (marks : List (Mark P)) : Type 0 where
     pub sorted : sort_by mark_le marks ≡ marks
     pub distinct : (id : ℕ) → count_by (has_id id) marks ≤ 1

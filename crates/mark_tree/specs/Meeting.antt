@@ -11,7 +11,7 @@ module _ {P : Type 0} where
   abbrev pub met_from : ℕ → ℕ → ℕ → List (Placed P) → List RangeMark
   met_from start end at ps = filter (has_in_common start end) (map range_of (drop at ps))
 
-  -- the first of these with its place, behind which the others lie, or none where there are none
+  -- the first of these with its place, after which the others lie, or none where there are none
   abbrev pub IsNextMet : ℕ → ℕ → ℕ → List (Placed P) → Option Met → Type 0
   IsNextMet start end at ps found =
       let met = met_from start end at ps in

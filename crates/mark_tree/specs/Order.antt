@@ -19,7 +19,7 @@ module _ {P : Type 0} where
   abbrev pub key_of : Placed P → Key
   key_of p = record { offset = p.offset; bias = bias_rank p.bias; length = p.length; id = p.id }
 
-  -- all before the place come before the key, and what stands at it doesn't
+  -- all before the place come before the key, and what is at it doesn't
   pub record IsPlaceFor (key : Key) (ps : List (Placed P)) (at : ℕ) : Type 0 where
     pub within : at ≤ length ps
     pub before : (k : ℕ) (d : Placed P) → k < at → key_le key (key_of (slice_index_or ps k d)) ≡ false
@@ -43,7 +43,7 @@ module _ {P : Type 0} where
   abbrev pub meets_offset : Shift → Placed P → Bool
   meets_offset s p = nat_le s.start p.offset && nat_le p.offset s.end
 
-  -- sorted, and no id stands twice
+  -- sorted, and no id is there twice
   pub record IsOrdered (ps : List (Placed P)) : Type 0 where
     pub sorted : sort_by placed_le ps ≡ ps
     pub distinct : (id : ℕ) → count_by (has_placed_id id) ps ≤ 1

@@ -53,7 +53,7 @@ module _ {P : Type 0} where
   abbrev pub moved_extents : Shift → List (Placed P) → List (Placed P)
   moved_extents s ps = sort_by placed_le (all_left_over s ps)
 
-  -- the same of those from place `from` to place `to` alone, and all behind them shifted
+  -- the same of those from place `from` to place `to` alone, and all after them shifted
   abbrev pub with_run_moved : ℕ → ℕ → Shift → Shift → List (Placed P) → List (Placed P)
   with_run_moved from to s behind ps = spliced from to (moved_extents s (run from to ps)) behind ps
 
@@ -76,7 +76,7 @@ module _ {P : Type 0} where
     pub from : All (λ p. s.start ≤ p.offset) (drop first ps)
     pub fits : All (IsFittingMoved s) ps
 
-  -- Those from place `from` to place `to` start at one offset, and all behind them further behind.
+  -- Those from place `from` to place `to` start at one offset, and all after them later.
   pub record IsGroup (from to : ℕ) (ps : List (Placed P)) : Type 0 where
     pub some : from < to
     pub within : to ≤ length ps

@@ -41,7 +41,7 @@ has_in_common start end r = nat_lt r.start end && nat_lt start r.end
 abbrev pub is_range_met : Shift → RangeMark → Bool
 is_range_met s r = nat_le r.start s.end && nat_le s.start r.end
 
--- What each tree of ranges is seen as: a sorted list of ranges, none empty, in which no id stands twice.
+-- What each tree of ranges is seen as: a sorted list of ranges, none empty, in which no id is there twice.
 pub record IsRangeList (ranges : List RangeMark) : Type 0 where
   pub sorted : sort_by range_le ranges ≡ ranges
   pub distinct : (id : ℕ) → count_by (has_range_id id) ranges ≤ 1

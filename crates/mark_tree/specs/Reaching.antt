@@ -5,7 +5,7 @@ use Rattle.mark_tree.specs.declared.entry.Placed.{Placed}
 use Rattle.mark_tree.specs.Entries.{end_at}
 
 module _ {P : Type 0} where
-  -- The first place from `at` on of a thing that ends at or behind the offset, or the end of the list.
+  -- The first place from `at` on of a thing that ends at or after the offset, or the end of the list.
   pub record IsFirstReaching (at offset : ℕ) (ps : List (Placed P)) (place : ℕ) : Type 0 where
     pub from : at ≤ place
     pub within : place ≤ length ps

@@ -1,4 +1,4 @@
-//! What a tree keeps, and what it stands for at its offset.
+//! What a tree keeps, and what that is at its offset.
 use crate::extent::Extent;
 use crate::id_range::{IdRange, may_have};
 use cell_units::{Bias, NoMemory};
@@ -6,7 +6,7 @@ use std::alloc::Global;
 use sum_core::{Item, Load};
 use sum_tree::Probe;
 
-/// An entry of a list that is coded by gaps: it stands `gap` bytes behind the entry before it, the first one behind 0.
+/// An entry of a list that is coded by gaps: it is `gap` bytes after the entry before it, the first one after 0.
 #[derive(Drop)]
 pub(crate) struct Entry<P> {
     pub(crate) gap: u32,
@@ -67,7 +67,7 @@ impl<P: Load> Probe<Entry<P>> for HasId {
     }
 }
 
-/// What stands at an offset and reaches over `length` bytes: a mark over none, a range over all of its own.
+/// What is at an offset and reaches over `length` bytes: a mark over none, a range over all of its own.
 #[derive(Drop)]
 pub(crate) struct Placed<P> {
     pub(crate) offset: u32,

@@ -9,7 +9,7 @@ pub(crate) struct Extent {
     pub(crate) items: u32,
     /// From the begin to the last offset.
     pub(crate) span: u32,
-    /// How far the greatest end lies behind the last offset.
+    /// How far the greatest end lies after the last offset, in bytes.
     pub(crate) hang: u32,
     /// Between which their ids lie, if there are any.
     pub(crate) ids: Option<IdRange>,

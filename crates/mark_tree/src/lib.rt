@@ -1,11 +1,11 @@
-//! Marks and ranges that stand at offsets of a text and move with its edits.
+//! Marks and ranges that are at offsets of a text and move with its edits.
 //!
-//! A [`MarkTree`] is seen as the list of its marks, sorted by offset, bias (Left first) and id; a [`RangeTree`] as the list
-//! of its ranges, sorted by start, end and id, none empty. Ids are distinct. A replacement moves each mark by the rule of
-//! anchors, and the list is sorted again; the ranges that it empties are dropped.
+//! A [`MarkTree`] is seen as the list of its marks, sorted by offset, bias (Left first) and id. A [`RangeTree`] is seen
+//! as the list of its ranges, sorted by start, end and id, none empty. Ids are distinct. A replacement moves each mark
+//! by the rule of anchors, and the list is sorted again; the ranges that it empties are dropped.
 //!
-//! Both keep their list in a sum tree, coded by the gaps between neighbouring offsets, so that a replacement changes one gap
-//! and the marks or ranges that it meets, and none of the many behind it. The ranges that reach a place are found by the
+//! Both keep their list in a sum tree, coded by the gaps between neighbouring offsets. So a replacement changes one gap
+//! and the marks or ranges that it meets, and none of the many after it. The ranges that reach a place are found by the
 //! greatest ends in the sums, each on a few paths through the tree. A call that is refused leaves the tree as it was.
 #![tactic(auto)]
 

@@ -1,7 +1,7 @@
-//! Marks and ranges, and where they stand in a list.
+//! Marks and ranges, and their order in a list.
 use cell_units::Bias;
 
-/// A mark at an offset of a text. At an insertion at its offset it stays (Left) or goes behind what is inserted (Right).
+/// A mark at an offset of a text. At an insertion at its offset it stays (Left) or goes after what is inserted (Right).
 #[derive(Debug, Drop)]
 pub struct Mark<P> {
     pub offset: u32,

@@ -1,4 +1,4 @@
-//! The tree of marks.
+//! The tree of marks: adding, removing, finding and moving them.
 ghost use Rattle.std.specs.Prelude.{◌≡◌, ℕ, ◌+◌, ◌*◌, ◌^◌, ◌<◌, ◌≤◌, ◌++◌, ◌∷◌, [], Some, not, false, nat_le, length, map, filter, count_by, position, slice_get, take, drop, All, IfOk, IfErr, OnOk, OnErr, MatchOption};
 ghost use Rattle.std.specs.List.{list_any, position_or_len};
 ghost use Rattle.cell_units.specs.Sorting.{insert_by};
@@ -15,11 +15,11 @@ use std::alloc::Global;
 use std::marker::Model;
 use sum_core::Load;
 
-/// Marks of distinct ids, sorted by offset, bias (Left first) and id. Contracts see it as that list. Copies share what they
-/// have in common, and no later change of the one is seen by another.
+/// Marks of distinct ids, sorted by offset, bias (Left first) and id. Contracts see it as that list. Copies share what
+/// they have in common, and no later change of the one is seen by another.
 ///
-/// The bounds on the steps of a call are given for each h such that the number of marks is less than 2 * 6^(h + 1). The
-/// least such h is the greatest height of a tree of so many.
+/// Bounds on the steps of a call are given for each h such that the marks are fewer than 2 * 6^(h + 1). The least such
+/// h is the greatest height of a tree of so many.
 pub struct MarkTree<P: Load> {
     marks: Spaced<P>,
 }
@@ -43,7 +43,7 @@ impl<P: Load> Model for MarkTree<P> {
 }
 
 impl<P: Load> MarkTree<P> {
-    /// No marks. It takes no memory.
+    /// No marks. It allocates nothing.
     pub fn new(alloc: Global) -> MarkTree<P>
         ensures { result ≡ [] }
     {
@@ -99,8 +99,8 @@ impl<P: Load> MarkTree<P> {
         }
     }
 
-    /// The places of the marks that a replacement meets: from that of the first one at or behind its start, before that of
-    /// the first one behind its end.
+    /// The places of the marks that a replacement meets. They go from that of the first one at or after its start to
+    /// that before the first one after its end.
     pub fn places_met(&self, shift: Shift, steps: &mut Steps) -> Places
         // The two places.
         ensures from { result.from ≡ position_or_len (λ m. nat_le shift.start m.offset) self.now }
@@ -133,7 +133,7 @@ impl<P: Load> MarkTree<P> {
         self.marks.find_id(id, steps).is_some()
     }
 
-    /// The place at which a mark of this offset, bias and id stands or would stand: that of the first that isn't before it.
+    /// The place at which a mark of this offset, bias and id is or would be: that of the first that isn't before it.
     pub fn place_of(&self, offset: u32, bias: Bias, id: u32, steps: &mut Steps) -> u32
         ensures place { result ≡ position_or_len (is_not_before offset bias id) self.now }
         ensures counted { steps.old ≤ steps.new }
@@ -142,10 +142,10 @@ impl<P: Load> MarkTree<P> {
         self.marks.place_for(Key::new(offset, bias, 0, id), steps)
     }
 
-    /// Adds a mark, and answers its place. `IdInUse` exactly where its id is there.
+    /// Adds a mark, and returns its place, counted from 0. `IdInUse` exactly where its id is there.
     pub fn insert(&mut self, alloc: Global, mark: Mark<P>, steps: &mut Steps) -> Result<u32, Fault>
         requires { length self.old + 1 < 2 ^ 32 }
-        // The list after it, and where the mark stands in it.
+        // The list after it, and where the mark is in it.
         ensures ok { OnOk result (self.new ≡ insert_by mark_le mark self.old) }
         ensures place { IfOk result (λ at.
             self.new ≡ take at self.old ++ mark ∷ drop at self.old) }
@@ -168,11 +168,11 @@ impl<P: Load> MarkTree<P> {
         self.marks.add(alloc, placed, steps)
     }
 
-    /// Adds a mark of an id that isn't there, and answers its place. It seeks no id.
+    /// Adds a mark of an id that isn't there, and returns its place, counted from 0. It seeks no id.
     pub fn put(&mut self, alloc: Global, mark: Mark<P>, steps: &mut Steps) -> Result<u32, NoMemory>
         requires small { length self.old + 1 < 2 ^ 32 }
         requires fresh { list_any (has_id mark.id) self.old ≡ false }
-        // The list after it, and where the mark stands in it.
+        // The list after it, and where the mark is in it.
         ensures ok { OnOk result (self.new ≡ insert_by mark_le mark self.old) }
         ensures place { IfOk result (λ at.
             self.new ≡ take at self.old ++ mark ∷ drop at self.old) }
@@ -193,15 +193,15 @@ impl<P: Load> MarkTree<P> {
         self.marks.put(alloc, placed, steps)
     }
 
-    /// Takes the mark of this id off the tree, and answers the place at which it stood with it. `UnknownId` exactly where
-    /// there is none.
+    /// Takes the mark of this id off the tree, and returns it with the place at which it was, counted from 0.
+    /// `UnknownId` exactly where there is none.
     pub fn remove(
         &mut self,
         alloc: Global,
         id: u32,
         steps: &mut Steps,
     ) -> Result<(u32, Mark<P>), Fault>
-        // The list after it, and where the mark stood before.
+        // The list after it, and where the mark was before.
         ensures ok { OnOk result (self.new ≡ filter (lacks_id id) self.old) }
         ensures mark { IfOk result (λ r. slice_get self.old r.0 ≡ Some r.1) }
         ensures rest { IfOk result (λ r.
@@ -253,7 +253,7 @@ impl<P: Load> MarkTree<P> {
         }
     }
 
-    /// Moves each mark as the replacement does, and sorts the marks again.
+    /// Moves each mark as the replacement does (*Anchors*), and sorts the marks again.
     pub fn apply(&mut self, alloc: Global, shift: Shift, steps: &mut Steps) -> Result<(), NoMemory>
         // Each offset is a u32 after the replacement.
         requires fits { All (λ m. m.offset < 2 ^ 32) (map (move_mark shift) self.old) }

@@ -34,7 +34,7 @@ impl<P: Load> Spaced<P> {
         ensures steps { let met = count_by (has_in_common start end) (map range_of self.now) in
             TakesAtMost (meeting met) (length self.now) steps.old steps.new }
     {
-        // The number of ranges is a u32, and so is each place.
+        // For the proof: the number of ranges is a u32, and so is each place.
         let _count = self.len();
         let mut ranges = Vec::new(alloc);
         let mut at = 0;
@@ -66,13 +66,13 @@ impl<P: Load> Spaced<P> {
         ensures counted { steps.old ≤ steps.new }
         ensures steps { TakesAtMost next_meeting (length self.now) steps.old steps.new }
     {
-        // Each end is a u32.
+        // For the proof: each end is a u32.
         let _count = self.len();
         let place = self.first_reaching(alloc, at, start as u64 + 1, steps)?;
         let Some(found) = self.get(place, steps) else {
             return Ok(None);
         };
-        // All behind start there or later.
+        // All after it start there or later.
         if found.offset >= end {
             return Ok(None);
         }

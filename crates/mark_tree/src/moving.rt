@@ -14,7 +14,7 @@ use cell_units::{Bias, NoMemory, Shift, Steps};
 use std::alloc::Global;
 use sum_core::Load;
 
-/// Where an anchor goes.
+/// Where an anchor goes, in bytes (*Anchors*).
 pub fn moved_offset(offset: u32, bias: Bias, shift: &Shift) -> u32
     requires fits { move offset bias shift.now.start shift.now.end shift.now.count < 2 ^ 32 }
     ensures { result ≡ move offset bias shift.now.start shift.now.end shift.now.count }
@@ -57,7 +57,7 @@ fn moved_all<P: Load>(
 impl<P: Load> Spaced<P> {
     /// The places of the things that the replacement meets.
     pub(crate) fn places_met(&self, shift: &Shift, steps: &mut Steps) -> Places
-        // The places stand in the list.
+        // The places are in the list.
         ensures order { result.from ≤ result.to }
         ensures within { result.to ≤ length self.now }
 
@@ -97,7 +97,7 @@ impl<P: Load> Spaced<P> {
         ensures steps { let met = count_by (meets_offset shift.now) self.old in
             TakesAtMost (moving met) (length self.old) steps.old steps.new }
     {
-        // The number of things is a u32.
+        // For the proof: the number of things is a u32.
         let _count = self.len();
         let met = self.places_met(shift, steps);
         let copies = self.copied(alloc, met.from, met.to, steps)?;

@@ -1,4 +1,4 @@
-//! Lists in order, in which no id stands twice.
+//! Lists in order, in which no id is there twice.
 ghost use Rattle.std.specs.Prelude.{◌≡◌, ℕ, ◌+◌, ◌*◌, ◌^◌, ◌<◌, ◌≤◌, ◌++◌, ◌∷◌, [], Some, not, false, length, take, drop, filter, slice_get, slice_index_or, IfOk, IfErr, OnOk, OnErr};
 ghost use Rattle.cell_units.specs.Sorting.{insert_by};
 ghost use Rattle.std.specs.List.{list_any};
@@ -23,7 +23,7 @@ pub(crate) const NO_SHIFT: Shift = Shift {
     count: 0,
 };
 
-/// What was taken off a list, and the place at which it stood.
+/// What was taken off a list, and the place at which it was.
 #[derive(Drop)]
 pub(crate) struct Taken<P> {
     pub(crate) place: u32,
@@ -48,14 +48,14 @@ impl<P: Load> Spaced<P> {
         }
     }
 
-    /// The place at which a thing of this key stands in order: before the first that isn't less.
+    /// The place of a thing of this key in order: before the first that isn't less.
     pub(crate) fn place_for(&self, key: Key, steps: &mut Steps) -> u32
         requires ordered { IsOrdered self.now }
         ensures place { IsPlaceFor key self.now result }
         ensures counted { steps.old ≤ steps.new }
         ensures steps { TakesAtMost halving (length self.now) steps.old steps.new }
     {
-        // Things at other offsets come before or behind by these.
+        // Things at other offsets come before or after by these.
         let next = self.next_at(key.offset as u64, steps);
         // Mostly all do.
         if next.offset != Some(key.offset) {
@@ -75,7 +75,7 @@ impl<P: Load> Spaced<P> {
         low
     }
 
-    /// Adds a thing in order, and answers its place. `IdInUse` exactly where its id is there.
+    /// Adds a thing in order, and returns its place. `IdInUse` exactly where its id is there.
     pub(crate) fn add(
         &mut self,
         alloc: Global,
@@ -87,7 +87,7 @@ impl<P: Load> Spaced<P> {
         requires end { end_at fresh < 2 ^ 32 }
         requires small { length self.old + 1 < 2 ^ 32 }
 
-        // The list after it, and where the thing stands in it.
+        // The list after it, and where the thing is in it.
         ensures ok { OnOk result (self.new ≡ insert_by placed_le fresh self.old) }
         ensures place { IfOk result (λ at.
             self.new ≡ take at self.old ++ fresh ∷ drop at self.old) }
@@ -109,7 +109,7 @@ impl<P: Load> Spaced<P> {
         Ok(self.put(alloc, fresh, steps)?)
     }
 
-    /// Adds a thing in order whose id isn't there, and answers its place.
+    /// Adds a thing in order whose id isn't there, and returns its place.
     pub(crate) fn put(
         &mut self,
         alloc: Global,
@@ -122,7 +122,7 @@ impl<P: Load> Spaced<P> {
         requires small { length self.old + 1 < 2 ^ 32 }
         requires fresh { list_any (has_placed_id fresh.id) self.old ≡ false }
 
-        // The list after it, and where the thing stands in it.
+        // The list after it, and where the thing is in it.
         ensures ok { OnOk result (self.new ≡ insert_by placed_le fresh self.old) }
         ensures place { IfOk result (λ at.
             self.new ≡ take at self.old ++ fresh ∷ drop at self.old) }
@@ -136,7 +136,7 @@ impl<P: Load> Spaced<P> {
         ensures counted { steps.old ≤ steps.new }
         ensures steps { TakesAtMost adding (length self.old + 1) steps.old steps.new }
     {
-        // The number of things is a u32, and so is each place.
+        // For the proof: the number of things is a u32, and so is each place.
         let _count = self.len();
         let at = self.place_for(fresh.key(), steps);
         let single = single(alloc, fresh)?;
@@ -144,7 +144,7 @@ impl<P: Load> Spaced<P> {
         Ok(at)
     }
 
-    /// Takes the thing of this id off the list, and answers its place with it. `UnknownId` exactly where there is none.
+    /// Takes the thing of this id off the list, and returns its place with it. `UnknownId` exactly where there is none.
     pub(crate) fn take_id(
         &mut self,
         alloc: Global,
@@ -154,7 +154,7 @@ impl<P: Load> Spaced<P> {
         // The list is in order.
         requires ordered { IsOrdered self.old }
 
-        // The list after it, and where the thing stood before.
+        // The list after it, and where the thing was before.
         ensures ok { OnOk result (self.new ≡ filter (lacks_placed_id id) self.old) }
         ensures thing { IfOk result (λ t. slice_get self.old t.place ≡ Some t.thing) }
         ensures rest { IfOk result (λ t.
@@ -189,7 +189,7 @@ impl<P: Load> Spaced<P> {
         requires ordered { IsOrdered self.old }
         requires within { at < length self.old }
 
-        // The list after it, and the thing that stood there.
+        // The list after it, and the thing that was there.
         ensures ok { OnOk result (self.new ≡ take at self.old ++ drop (at + 1) self.old) }
         ensures thing { IfOk result (λ p. slice_get self.old at ≡ Some p) }
 
@@ -201,7 +201,7 @@ impl<P: Load> Spaced<P> {
         ensures counted { steps.old ≤ steps.new }
         ensures steps { TakesAtMost taking (length self.old) steps.old steps.new }
     {
-        // The number of things is a u32, and so is each place.
+        // For the proof: the number of things is a u32, and so is each place.
         let _count = self.len();
         let thing = self.copy_at(alloc, at, steps)?;
         self.splice(alloc, at, at + 1, Vec::new(alloc), &NO_SHIFT, steps)?;

@@ -1,4 +1,4 @@
-//! The tree of ranges.
+//! The tree of ranges: adding, removing, finding and moving them.
 ghost use Rattle.std.specs.Prelude.{◌≡◌, ℕ, ◌+◌, ◌*◌, ◌^◌, ◌<◌, ◌≤◌, [], not, false, length, map, filter, count_by, slice_get, All, Contains, IfOk, IfErr, OnOk, OnErr};
 ghost use Rattle.std.specs.List.{list_any};
 ghost use Rattle.cell_units.specs.Sorting.{insert_by};
@@ -15,11 +15,11 @@ use std::alloc::Global;
 use std::marker::Model;
 use sum_core::NoLoad;
 
-/// Ranges of distinct ids, none empty, sorted by start, end and id. Contracts see it as that list. Copies share what they
-/// have in common, and no later change of the one is seen by another.
+/// Ranges of distinct ids, none empty, sorted by start, end and id. Contracts see it as that list. Copies share what
+/// they have in common, and no later change of the one is seen by another.
 ///
-/// The bounds on the steps of a call are given for each h such that the number of ranges is less than 2 * 6^(h + 1). The
-/// least such h is the greatest height of a tree of so many.
+/// Bounds on the steps of a call are given for each h such that the ranges are fewer than 2 * 6^(h + 1). The least such
+/// h is the greatest height of a tree of so many.
 pub struct RangeTree {
     ranges: Spaced<NoLoad>,
 }
@@ -43,7 +43,7 @@ impl Model for RangeTree {
 }
 
 impl RangeTree {
-    /// No ranges. It takes no memory.
+    /// No ranges. It allocates nothing.
     pub fn new(alloc: Global) -> RangeTree
         ensures { result ≡ [] }
     {
@@ -75,7 +75,7 @@ impl RangeTree {
         ensures counted { steps.old ≤ steps.new }
         ensures steps { TakesAtMost way (length self.now) steps.old steps.new }
     {
-        // Each end is a u32.
+        // For the proof: each end is a u32.
         let _count = self.ranges.len();
         let found = self.ranges.get(at, steps)?;
         Some(RangeMark {
@@ -141,7 +141,7 @@ impl RangeTree {
         ensures counted { steps.old ≤ steps.new }
         ensures steps { SearchesAndTakes changing (length self.old) steps.old steps.new }
     {
-        // Each end is a u32.
+        // For the proof: each end is a u32.
         let _count = self.ranges.len();
         match self.ranges.take_id(alloc, id, steps) {
             Ok(taken) => Ok(RangeMark {
@@ -153,8 +153,9 @@ impl RangeTree {
         }
     }
 
-    /// Moves each range as the replacement does, anchored Right at its start and Left at its end, drops those that are empty
-    /// then, and sorts the others again. It answers the ids of those that it dropped, in the order in which they stood.
+    /// Moves each range as the replacement does, anchored Right at its start and Left at its end (*Anchors*). Drops
+    /// those that are empty then, and sorts the others again. Returns the ids of those that it dropped, in the order
+    /// that they had.
     pub fn apply(
         &mut self,
         alloc: Global,
@@ -177,7 +178,8 @@ impl RangeTree {
         self.ranges.move_ranges(alloc, &shift, steps)
     }
 
-    /// The ranges that have a byte in common with those from `start` to `end`: `range.start < end` and `start < range.end`.
+    /// The ranges that have a byte in common with those from `start` to `end`: `range.start < end` and `start <
+    /// range.end`.
     pub fn meeting(
         &self,
         alloc: Global,

@@ -14,7 +14,8 @@ use sum_core::Load;
 use sum_tree::SumTree;
 
 impl<P: Load> Spaced<P> {
-    /// The place of the first thing, from place `at` on, that ends at or behind the offset, which may be that past the last.
+    /// The place of the first thing, from place `at` on, that ends at or after the offset, which may be that past the
+    /// last.
     pub(crate) fn first_reaching(
         &self,
         alloc: Global,
@@ -27,7 +28,7 @@ impl<P: Load> Spaced<P> {
         ensures counted { steps.old ≤ steps.new }
         ensures steps { TakesAtMost reaching (length self.now) steps.old steps.new }
     {
-        // The number of entries is a u32, and so is each place.
+        // For the proof: the number of entries is a u32, and so is each place.
         let _count = self.entries.len();
         let Some(next) = self.get(at, steps) else {
             return Ok(at);
@@ -56,7 +57,7 @@ fn count_short<P: Load>(
     ensures counted { steps.old ≤ steps.new }
     ensures steps { TakesAtMost way (length entries.now) steps.old steps.new }
 {
-    // The number of entries is a u32, and so is each place.
+    // For the proof: the number of entries is a u32, and so is each place.
     let _count = entries.len();
     let mut cursor = entries.cursor::<ByEnd>();
     let target = ByEnd {

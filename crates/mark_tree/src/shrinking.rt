@@ -71,8 +71,8 @@ fn remains_of<P: Load>(
 }
 
 impl<P: Load> Spaced<P> {
-    /// Moves all ranges as the replacement does, drops those that are empty then, and sorts the others again. It answers
-    /// the ids of those that were dropped, in the order in which they stood.
+    /// Moves all ranges as the replacement does, drops those that are empty then, and sorts the others again. Returns
+    /// the ids of those that were dropped, in the order that they had.
     pub(crate) fn move_ranges(
         &mut self,
         alloc: Global,
@@ -96,7 +96,7 @@ impl<P: Load> Spaced<P> {
         ensures steps { let met = count_by (meets_extent shift.now) self.old in
             TakesAtMost (shrinking met) (length self.old) steps.old steps.new }
     {
-        // The number of ranges is a u32.
+        // For the proof: the number of ranges is a u32.
         let _count = self.len();
         let first = self.first_at(shift.start as u64, steps);
         let last = self.first_at(shift.end as u64 + 1, steps);
@@ -107,8 +107,8 @@ impl<P: Load> Spaced<P> {
         Ok(dropped)
     }
 
-    /// Moves the ranges that start before the replacement, which are those before place `first`: start by start, those that
-    /// reach it. After want of memory only some are moved.
+    /// Moves the ranges that start before the replacement, which are those before place `first`: start by start, those
+    /// that reach it. If it is out of memory only some are moved.
     fn move_before(
         &mut self,
         alloc: Global,
@@ -126,7 +126,7 @@ impl<P: Load> Spaced<P> {
         let start = shift.start as u64;
         let mut at = 0;
         loop {
-            // Each end is a u32.
+            // For the proof: each end is a u32.
             let _count = self.len();
             let from = self.first_reaching(alloc, at, start, steps)?;
             if from >= first {
@@ -138,14 +138,14 @@ impl<P: Load> Spaced<P> {
         }
     }
 
-    /// The place behind those that start where the one at place `from` does.
+    /// The place after those that start where the one at place `from` does.
     fn group_end(&self, from: u32, steps: &mut Steps) -> u32
         requires { from < length self.now }
         ensures group { IsGroup from result self.now }
         ensures counted { steps.old ≤ steps.new }
         ensures steps { TakesAtMost (λ h. 2 * way h) (length self.now) steps.old steps.new }
     {
-        // The offsets don't fall.
+        // For the proof: the offsets don't fall.
         let _count = self.len();
         match self.get(from, steps) {
             Some(found) => self.first_at(found.offset as u64 + 1, steps),
@@ -153,8 +153,8 @@ impl<P: Load> Spaced<P> {
         }
     }
 
-    /// Puts what the replacement leaves of those from place `from` to place `to` in their place, sorted again, and moves all
-    /// that lies behind them as `behind` does. It answers the ids of those that the replacement empties.
+    /// Puts what the replacement leaves of those from place `from` to place `to` in their place, sorted again. Moves
+    /// all that lies after them as `behind` does. Returns the ids of those that the replacement empties.
     fn move_run(
         &mut self,
         alloc: Global,
@@ -164,16 +164,16 @@ impl<P: Load> Spaced<P> {
         behind: &Shift,
         steps: &mut Steps,
     ) -> Result<Vec<u32>, NoMemory>
-        // The places stand in the list.
+        // The places are in the list.
         requires order { from ≤ to }
         requires within { to ≤ length self.old }
 
-        // In the run from the one to the other no id stands twice, and both ends of each are u32 after `shift`.
+        // In the run from the one to the other no id is there twice, and both ends of each are u32 after `shift`.
         requires fits { All (IsFittingMoved shift.now) (run from to self.old) }
         requires distinct { let ran = run from to self.old in
             (id : ℕ) → count_by (has_placed_id id) ran ≤ 1 }
 
-        // All behind the run stand at or behind the end of `behind`, and the list after it can be coded.
+        // All after the run are at or after the end of `behind`, and the list after it can be coded.
         requires behind { All (λ p. behind.now.end ≤ p.offset) (drop to self.old) }
         requires codable { IsCodable (with_run_moved from to shift.now behind.now self.old) }
 
@@ -188,7 +188,7 @@ impl<P: Load> Spaced<P> {
             let cost = moving_run (to - from) in
             ChangesAtMost cost (length self.old) (length after) steps.old steps.new }
     {
-        // Each end is a u32.
+        // For the proof: each end is a u32.
         let _count = self.len();
         let copies = self.copied(alloc, from, to, steps)?;
         let Remains {

@@ -17,7 +17,7 @@ use std::marker::Model;
 use sum_core::Load;
 use sum_tree::{Cursor, SumTree};
 
-/// What stands at offsets that don't fall and fit u32, as do all ends. Contracts see it as the list of these things.
+/// Things at offsets that don't fall and fit u32, as do all ends. Contracts see it as the list of these things.
 pub(crate) struct Spaced<P: Load> {
     pub(crate) entries: SumTree<Entry<P>>,
 }
@@ -41,14 +41,14 @@ impl<P: Load> Model for Spaced<P> {
     ghost invariant = { λ s. end_of (extent_over s.entries) < 2 ^ 32 };
 }
 
-/// A place of the list, and the offset of what stands there, if anything does.
+/// A place of the list, and the offset of what is there, if anything is.
 #[derive(Drop)]
 pub(crate) struct Next {
     pub(crate) place: u32,
     pub(crate) offset: Option<u32>,
 }
 
-/// An entry of the list and the offset at which it stands.
+/// An entry of the list and its offset.
 #[derive(Drop)]
 pub(crate) struct Found<'a, P> {
     pub(crate) offset: u32,
@@ -99,7 +99,7 @@ impl<P: Load> Spaced<P> {
         cursor
     }
 
-    /// What stands at place `at`, and `None` exactly past the end.
+    /// What is at place `at`, and `None` exactly past the end.
     pub(crate) fn get(&self, at: u32, steps: &mut Steps) -> Option<Found<'_, P>>
         ensures found { MatchOption result (length self.now ≤ at) (λ f.
             slice_get self.now at ≡ Some (placed_at f.offset f.entry.now)) }
@@ -125,7 +125,7 @@ impl<P: Load> Spaced<P> {
         self.cursor_at(at, steps).start().span as u32
     }
 
-    /// The place of the first thing at or behind the offset, which may be that past the last.
+    /// The place of the first thing at or after the offset, which may be that past the last.
     pub(crate) fn first_at(&self, offset: u64, steps: &mut Steps) -> u32
         // A place in the list or at its end. Before it each offset is less than `offset`, and from there on none is.
         ensures within { result ≤ length self.now }
@@ -139,14 +139,14 @@ impl<P: Load> Spaced<P> {
         self.next_at(offset, steps).place
     }
 
-    /// The same place, with the offset of what stands there, if anything does.
+    /// The same place, with the offset of what is there, if anything is.
     pub(crate) fn next_at(&self, offset: u64, steps: &mut Steps) -> Next
         // A place in the list or at its end. Before it each offset is less than `offset`, and from there on none is.
         ensures within { result.place ≤ length self.now }
         ensures before { All (λ p. p.offset < offset) (take result.place self.now) }
         ensures from { All (λ p. offset ≤ p.offset) (drop result.place self.now) }
 
-        // The offset of what stands there, and `None` exactly past the end.
+        // The offset of what is there, and `None` exactly past the end.
         ensures offset { (d : Placed P) →
             MatchOption result.offset (length self.now ≤ result.place)
             (λ o. (slice_index_or self.now result.place d).offset ≡ o) }
@@ -155,7 +155,7 @@ impl<P: Load> Spaced<P> {
         ensures counted { steps.old ≤ steps.new }
         ensures steps { TakesAtMost way (length self.now) steps.old steps.new }
     {
-        // The number of entries is a u32, and so is each place.
+        // For the proof: the number of entries is a u32, and so is each place.
         let _count = self.entries.len();
         let mut cursor = self.entries.cursor::<ByOffset>();
         let target = ByOffset {
@@ -168,12 +168,12 @@ impl<P: Load> Spaced<P> {
         Next { place, offset }
     }
 
-    /// The places of the things from one offset on that lie before another one. Where there is none, one look tells.
+    /// The places of the things from one offset on that lie before another one. One look shows where there is none.
     pub(crate) fn places_between(&self, start: u64, end: u64, steps: &mut Steps) -> Places
-        // The first offset is not behind the second.
+        // The first offset is not after the second.
         requires { start ≤ end }
 
-        // The places stand in the list.
+        // The places are in the list.
         ensures order { result.from ≤ result.to }
         ensures within { result.to ≤ length self.now }
 
@@ -189,7 +189,7 @@ impl<P: Load> Spaced<P> {
         ensures counted { steps.old ≤ steps.new }
         ensures steps { TakesAtMost both_ends (length self.now) steps.old steps.new }
     {
-        // Offsets don't fall.
+        // For the proof: offsets don't fall.
         let _count = self.len();
         let first = self.next_at(start, steps);
         let from = first.place;
@@ -213,7 +213,7 @@ impl<P: Load> Spaced<P> {
         self.entries.position(&HasId(id), steps)
     }
 
-    /// A copy of what stands at place `at`.
+    /// A copy of what is at place `at`.
     pub(crate) fn copy_at(
         &self,
         alloc: Global,
@@ -239,11 +239,11 @@ impl<P: Load> Spaced<P> {
         to: u32,
         steps: &mut Steps,
     ) -> Result<Vec<Placed<P>>, NoMemory>
-        // The places stand in the list.
+        // The places are in the list.
         requires order { from ≤ to }
         requires within { to ≤ length self.now }
 
-        // What stands from the one to the other.
+        // What lies from the one to the other.
         ensures copies { IfOk result (λ v. v.items ≡ take (to - from) (drop from self.now)) }
 
         // The work, at most one way down the tree for each copy.
@@ -258,7 +258,7 @@ impl<P: Load> Spaced<P> {
         Ok(copies)
     }
 
-    /// Puts others in the place of those from place `from` to place `to`, and moves all that lies behind them as the
+    /// Puts others in the place of those from place `from` to place `to`, and moves all that lies after them as the
     /// replacement does.
     pub(crate) fn splice(
         &mut self,
@@ -269,11 +269,11 @@ impl<P: Load> Spaced<P> {
         shift: &Shift,
         steps: &mut Steps,
     ) -> Result<(), NoMemory>
-        // The places stand in the list.
+        // The places are in the list.
         requires order { from ≤ to }
         requires within { to ≤ length self.old }
 
-        // All behind them stand at or behind the replacement's end, and the list after it can be coded.
+        // All after them are at or after the replacement's end, and the list after it can be coded.
         requires behind { All (λ p. shift.now.end ≤ p.offset) (drop to self.old) }
         requires codable { IsCodable (spliced from to fresh.items shift.now self.old) }
 
@@ -294,7 +294,7 @@ impl<P: Load> Spaced<P> {
             .replace(alloc, from, refill.end, entries, steps)
     }
 
-    /// What takes the place of all up to place `to`, with the first thing behind it, of which the gap changes.
+    /// What takes the place of all up to place `to`, with the first thing after it, of which the gap changes.
     fn refill(
         &self,
         alloc: Global,
@@ -306,7 +306,7 @@ impl<P: Load> Spaced<P> {
         // A place in the list or at its end.
         requires within { to ≤ length self.now }
 
-        // All from there on stand at or behind the replacement's end, and their ends are u32 after it.
+        // All from there on are at or after the replacement's end, and their ends are u32 after it.
         requires behind { All (λ p. shift.now.end ≤ p.offset) (drop to self.now) }
         requires codable { let behind = map (shifted shift.now) (drop to self.now) in
             All (λ p. end_at p < 2 ^ 32) behind }
@@ -321,7 +321,7 @@ impl<P: Load> Spaced<P> {
         ensures counted { steps.old ≤ steps.new }
         ensures steps { TakesAtMost way (length self.now) steps.old steps.new }
     {
-        // The number of things is a u32, and so is each place.
+        // For the proof: the number of things is a u32, and so is each place.
         let _count = self.len();
         let mut placed = fresh;
         match self.get(to, steps) {
@@ -356,7 +356,8 @@ impl<P: Load> Spaced<P> {
     }
 }
 
-/// What takes the place of things up to place `end`, and the offset of the last thing before the place asked, where it was met.
+/// What takes the place of things up to place `end`, and the offset of the last thing before the place asked, where it
+/// was met.
 #[derive(Drop)]
 struct Refill<P> {
     placed: Vec<Placed<P>>,
@@ -393,7 +394,7 @@ impl<'a, P: Load> Found<'a, P> {
         })
     }
 
-    /// A copy of what was found, behind a replacement that lies before it.
+    /// A copy of what was found, after a replacement that lies before it.
     fn shifted(&self, alloc: Global, shift: &Shift) -> Result<Placed<P>, NoMemory>
         requires behind { shift.now.end ≤ self.now.offset }
         requires fits { let s = shift.now in
@@ -407,7 +408,7 @@ impl<'a, P: Load> Found<'a, P> {
     }
 }
 
-/// The entries that stand for these things, where the first one's gap is from the offset `base`.
+/// The entries of these things, where the first one's gap is from the offset `base`.
 fn code_gaps<P: Load>(
     alloc: Global,
     base: u32,

@@ -1,4 +1,4 @@
--- Rows built line by line, and the blocks that stand at a line.
+-- Rows built line by line, and the blocks at a line.
 use Rattle.std.proofs.Common.{◌≡◌, ℕ, ◌+◌, ◌<◌, ◌≤◌, ◌&&◌, ◌||◌, not, suc, Bool, true, false, cond, eqb, leb, nat_le, ltb, List, [], ◌∷◌, ◌++◌, length, map, take, drop, get_or, filter, flat_map, refl, sym, ap, ◌∙◌, subst, inl, inr, arith, append-nil}
 use Rattle.std.proofs.lemmas.Bool.{and_cases, and_from, and_left, and_parts, and_right, cases_lt, eq-eqb, false≢true, leb-false, leb-true, ltb-false, ltb-true, ne_eqb, not-false, not-true, or_cases, or_parts}
 use Rattle.std.proofs.lemmas.List.{get_or-drop, get_or-take, length-drop, length-take-le, map-append, take-append-drop}
@@ -40,7 +40,7 @@ on-same : (side : Side) → is_on side side ≡ true
 on-same Above = refl
 on-same Below = refl
 
--- no block of the side stands at the line
+-- no block of the side is at the line
 none-stands : (r : Record) (side : Side) (line : ℕ) (bs : List Block) → ((k : ℕ) → k < length bs → (get_or bs k no_block).side ≡ side → line_of_block r (get_or bs k no_block) ≡ line → ⊥) →
     filter (stands r side line) bs ≡ []
 none-stands r side line [] none = refl
@@ -83,7 +83,7 @@ lines-rise r lawful i j lt within same =
 
 -- ---- the walk over the blocks for one line
 
--- a block that stands elsewhere or on the other side
+-- a block that is elsewhere or on the other side
 pub walk-other : (r : Record) (side : Side) (n line : ℕ) → n < length r.blocks → ((block_at r n).side ≡ side → line_of_block r (block_at r n) ≡ line → ⊥) →
     filter (stands r side line) (take (n + 1) r.blocks) ≡ filter (stands r side line) (take n r.blocks)
 walk-other r side n line lt none =
@@ -101,7 +101,7 @@ walk-here r side n line lt own here =
     filter_more (stands r side line) r.blocks n no_block lt
     ∙ ap (λ (c : Bool). filter (stands r side line) (take n r.blocks) ++ cond c (block_at r n ∷ []) []) on
 
--- the rows of the blocks of one side before a number that stand at the line
+-- the rows of the blocks of one side before a number that are at the line
 abbrev pub walked : Record → Side → ℕ → ℕ → Pairs
 walked r side line n = row_pairs (flat_map block_rows (filter (stands r side line) (take n r.blocks)))
 
@@ -141,7 +141,7 @@ pairs-block b = go b.lines where
   go [] = refl
   go (l ∷ ls) = ap (λ (ps : Pairs). (98, l) ∷ ps) (go ls)
 
--- the kind of the row behind these texts of a line
+-- the kind of the row after these texts of a line
 abbrev pub kind_after : List (List ℕ) → ℕ
 kind_after [] = 116
 kind_after (t ∷ ts) = 119

@@ -6,7 +6,7 @@ use Rattle.cell_units.specs.declared.place.Bias.TheVariants.{Left, Right}
 use Rattle.cell_line.specs.declared.element.Element.{Element}
 use Rattle.plain_rows.specs.Spots.{elements_before, is_within}
 
--- one element, of n bytes, before the rest; `at` is what stands for it where the byte is inside
+-- one element, of n bytes, before the rest; `at` is what it counts where the byte is inside
 rises_by_one : (at a b n x y : ℕ) → at ≤ 1 → a ≤ b → x ≤ y → cond (eqb a 0) 0 (cond (ltb a n) at (1 + x)) ≤ cond (eqb b 0) 0 (cond (ltb b n) at (1 + y))
 rises_by_one at a b n x y some h k = grind (arith, nat_tests, some, h, k)
 

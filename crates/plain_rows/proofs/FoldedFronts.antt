@@ -1,4 +1,4 @@
--- What is shown before a position is a front of what is shown before a later one.
+-- What is shown before a position is a prefix of what is shown before a later one.
 use Rattle.std.proofs.Common.{◌≡◌, ℕ, ◌+◌, ◌-◌, ◌<◌, ◌≤◌, Bool, true, false, if◌then◌else◌, List, [], ◌∷◌, ◌++◌, zero, suc, length, take, drop, get_or, sym, ap, ◌∙◌, subst, append-nil, append_assoc, length-append, arith}
 use Rattle.std.proofs.lemmas.List.{take-append-drop, take_at, take_all, take_more, length_push, length-take-le}
 use Rattle.cell_units.specs.declared.place.Bias.{Bias}
@@ -16,7 +16,7 @@ show_each-append f o (x ∷ xs) ys =
     ap (λ (l : List Token). f o x ++ l) (show_each-append f (o + 1) xs ys ∙ ap (λ (k : ℕ). show_each f (o + 1) xs ++ show_each f k ys) e)
     ∙ sym (append_assoc (f o x) (show_each f (o + 1) xs) (show_each f (o + length (x ∷ xs)) ys))
 
--- ---- one offset and the next, in lists alone: what stands before the offset, its inlays, its token
+-- ---- one offset and the next, in lists alone: what is before the offset, its inlays, its token
 
 abbrev pub left_of : Bool → List Token → List Token
 left_of i before = if i then take (length before - 1) before else before
@@ -57,7 +57,7 @@ right_next true false before ins later t = front-trans before (before ++ []) ((b
 right_next false true before ins later t = with_token before ins t
 right_next false false before ins later t = front-trans (before ++ ins) (before ++ (ins ++ t ∷ [])) ((before ++ (ins ++ t ∷ [])) ++ later) (with_token before ins t) (front-append (before ++ (ins ++ t ∷ [])) later)
 
--- where the offset shows something, what stands behind its inlays is before the next offset
+-- where the offset shows something, what comes after its inlays is before the next offset
 across : (j : Bool) (before ins : List Token) (t : Token) → IsFront (before ++ ins) (left_of j (after_of false before ins t))
 across true before ins t = subst (λ (l : List Token). IsFront (before ++ ins) l) (sym (but_last before ins t)) (front-refl (before ++ ins))
 across false before ins t = with_token before ins t
@@ -110,7 +110,7 @@ module _ (text : List ℕ) (inlays : List Inlay) (folds : List Fold) where
       let e : o + (p - o) ≡ p = omega (arith, le) in
       subst (λ (q : ℕ). IsFront (tokens_to o bias) (tokens_to q bias)) e (to-more o (p - o) bias (omega (arith, le, within)))
 
-  -- behind the inlays of an offset that shows something comes each later offset
+  -- after the inlays of an offset that shows something comes each later offset
   pub to-across : (o p : ℕ) → inside folds o ≡ false → o < p → p ≤ length text → IsFront (tokens_to o Right) (tokens_to p Left)
   to-across o p out lt within =
       let lt' : o < length text = omega (arith, lt, within) in

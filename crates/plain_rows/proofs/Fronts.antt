@@ -1,4 +1,4 @@
--- Lists of which one begins with the other, and what stands behind the last break of each.
+-- Lists of which one begins with the other, and what comes after the last break of each.
 use Rattle.std.proofs.Common.{◌≡◌, ℕ, ◌+◌, ◌-◌, ◌≤◌, Bool, true, false, cond, not, List, [], ◌∷◌, ◌++◌, length, drop, refl, sym, ap, ◌∙◌, append-nil, append_assoc, length-append, arith}
 use Rattle.std.specs.List.{after_last, count_by, flat_map, prefix_len, suffix_len}
 use Rattle.std.proofs.lemmas.List.{drop-append-le, drop_all, length_push, reverse-append}
@@ -19,14 +19,14 @@ module _ {X : Type 0} where
   pub front-trans : (xs ys zs : List X) → IsFront xs ys → IsFront ys zs → IsFront xs zs
   front-trans xs ys zs f g = (f.0 ++ g.0, g.1 ∙ ap (λ (l : List X). l ++ g.0) f.1 ∙ append_assoc xs f.0 g.0)
 
-  -- as many pass in a front, or fewer
+  -- as many pass in a prefix, or fewer
   pub count_by-front : (p : X → Bool) (xs ys : List X) → IsFront xs ys → count_by p xs ≤ count_by p ys
   count_by-front p xs ys f = omega (arith, ap (count_by p) f.1, sum_by-append (λ x. cond (p x) 1 0) xs f.0)
 
   pub length-front : (xs ys : List X) → IsFront xs ys → length xs ≤ length ys
   length-front xs ys f = omega (arith, ap length f.1, length-append xs f.0)
 
-  -- one more element that doesn't pass stands behind the last that does
+  -- one more element that doesn't pass comes after the last that does
   pub after_last-other : (p : X → Bool) (xs : List X) (x : X) → p x ≡ false → after_last p (xs ++ x ∷ []) ≡ after_last p xs ++ x ∷ []
   after_last-other p xs x e =
       let q = λ (y : X). not (p y) in
@@ -36,7 +36,7 @@ module _ {X : Type 0} where
       ap (λ (n : ℕ). drop n (xs ++ x ∷ [])) at
       ∙ drop-append-le (length xs - suffix_len q xs) xs (x ∷ []) (omega arith)
 
-  -- nothing stands behind one that passes
+  -- nothing comes after one that passes
   pub after_last-break : (p : X → Bool) (xs : List X) (x : X) → p x ≡ true → after_last p (xs ++ x ∷ []) ≡ []
   after_last-break p xs x e =
       let q = λ (y : X). not (p y) in
@@ -44,7 +44,7 @@ module _ {X : Type 0} where
       ap (prefix_len q) (reverse-append xs (x ∷ [])) ∙ ap (λ (b : Bool). cond (not b) (1 + suffix_len q xs) 0) e in
       drop_all (length (xs ++ x ∷ []) - suffix_len q (xs ++ x ∷ [])) (xs ++ x ∷ []) (omega (arith, none))
 
-  -- what follows without one that passes stands behind the last that does
+  -- what follows without one that passes comes after the last that does
   pub after_last-append : (p : X → Bool) (xs rest : List X) → count_by p rest ≡ 0 → after_last p (xs ++ rest) ≡ after_last p xs ++ rest
   after_last-append p xs [] none = ap (after_last p) (append-nil xs) ∙ sym (append-nil (after_last p xs))
   after_last-append p xs (r ∷ rest) none =
@@ -56,11 +56,11 @@ module _ {X : Type 0} where
         fails false e = e
         fails true e = absurd (omega (arith, none, sum_by-cons (λ x. cond (p x) 1 0) r rest, ap {B = ℕ} (λ (b : Bool). cond b 1 0) e))
 
-  -- of a front in which as many pass, what stands behind the last is a front of what stands there in the whole
+  -- of a prefix in which as many pass, what comes after the last is a prefix of what comes after it in the whole
   pub after_last-front : (p : X → Bool) (xs ys : List X) → IsFront xs ys → count_by p xs ≡ count_by p ys → IsFront (after_last p xs) (after_last p ys)
   after_last-front p xs ys f same =
       (f.0, ap (after_last p) f.1 ∙ after_last-append p xs f.0 (omega (arith, same, ap (count_by p) f.1, sum_by-append (λ x. cond (p x) 1 0) xs f.0)))
 
--- what each element gives, in a front
+-- what each element gives, in a prefix
 pub flat_map-front : {X Y : Type 0} (f : X → List Y) (xs ys : List X) → IsFront xs ys → IsFront (flat_map f xs) (flat_map f ys)
 flat_map-front f xs ys g = (flat_map f g.0, ap (flat_map f) g.1 ∙ flat_map-append f xs g.0)

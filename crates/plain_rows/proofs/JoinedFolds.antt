@@ -12,7 +12,7 @@ use Rattle.plain_rows.specs.Plain.{fold_of}
 abbrev pub range : ℕ → ℕ → Joined
 range s e = record { start = s; end = e }
 
--- the joined folds of a range and of folds behind its start
+-- the joined folds of a range and of folds after its start
 abbrev pub joined_from : ℕ → ℕ → List PlainFold → List Joined
 joined_from s e [] = range s e ∷ []
 joined_from s e (f ∷ fs) = cond (ltb f.start e) (joined_from s (max e f.end) fs) (range s e ∷ joined_from f.start f.end fs)

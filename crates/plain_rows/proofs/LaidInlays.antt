@@ -111,7 +111,7 @@ rest-break text end lt is =
         go true = omega arith
         go false = omega arith
 
--- behind a break a character begins
+-- after a break a character begins
 behind-boundary : (text : List ℕ) (end : ℕ) → IsUtf8 text → end < length text → is_break (get_or text end 0) ≡ true → IsCharBoundary text (end + break_len (drop end text))
 behind-boundary text end utf8 lt is = subst (λ (l : List ℕ). IsCharBoundary text (end + break_len l)) (sym (drop_more text end 0 lt)) (go (eqb (get_or text end 0) carriage_return && begins_with_feed (drop (end + 1) text)) refl) where
   next : (bs : List ℕ) → begins_with_feed bs ≡ true → (get_or bs 0 0 ≡ line_feed) × (0 < length bs)
@@ -223,7 +223,7 @@ module _ (s : Source) (number : ℕ) (utf8 : IsUtf8 (inlay_at s number).text) (t
           go true = omega arith
           go false = omega arith
 
-  -- behind a break another run may follow
+  -- after a break another run may follow
   pub feed-last : (old : List Part) (at end : ℕ) → next_inlay (last_of ((old ++ inlay_run number offset at end) ++ InlayFeed number offset ∷ [])) ≡ 0
   feed-last old at end = ap next_inlay (last-push before_all (old ++ inlay_run number offset at end) (InlayFeed number offset))
 

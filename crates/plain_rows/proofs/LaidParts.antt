@@ -1,4 +1,4 @@
--- Parts laid one behind the other.
+-- Parts laid one after the other.
 use Rattle.std.proofs.Common.{◌≡◌, ◌≢◌, ℕ, ◌+◌, ◌-◌, ◌<◌, ◌≤◌, not, Bool, true, false, cond, eqb, List, [], ◌∷◌, ◌++◌, length, take, drop, get_or, refl, sym, ap, ◌∙◌, subst, inl, inr, arith, append-nil, append_assoc}
 use Rattle.std.specs.List.{All, prefix_len, slice_range}
 use Rattle.std.specs.Str.{IsCharBoundary, IsUtf8}
@@ -169,7 +169,7 @@ break-small b is = elim (or_cases (is_feed b) (eqb b carriage_return) is) [
   | inr e ↦ omega (arith, eqb-true b carriage_return e)
 ]
 
--- the bytes up to the first break are a span, and so is the rest behind it
+-- the bytes up to the first break are a span, and so is the rest after it
 pub break-boundary : (text : List ℕ) (at to end : ℕ) → IsSpan text at to → to ≤ length text → FirstBreak text at to end → IsCharBoundary text end
 break-boundary text at to end span within f = elim (cases_lt end to) [
   | inl lt ↦ IsCharBoundary-before_ascii text end (omega arith) (break-small (get_or text end 0) (f.stops lt))
@@ -235,6 +235,6 @@ free-bytes (b ∷ bs) e = go (is_break b) refl (free-bytes bs) where
       let some : prefix_len goes (b ∷ bs) ≡ 1 + prefix_len goes bs = ap (λ (c : Bool). cond (not c) (1 + prefix_len goes bs) 0) is in
       ((or_parts (is_feed b) (eqb b carriage_return) is).0, rest (omega (arith, some, e)))
 
--- no line feed stands in a run
+-- no line feed is in a run
 pub run-free : (text : List ℕ) (start end : ℕ) → IsRun text start end → Every (λ b. is_feed b ≡ false) (slice_range text start end)
 run-free text start end run = free-bytes (slice_range text start end) (run.whole ∙ sym (length-run text start end run))

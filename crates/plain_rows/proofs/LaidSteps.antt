@@ -1,4 +1,4 @@
--- Text, inlays and placeholders laid one behind the other show all up to where they reach.
+-- Text, inlays and placeholders laid one after the other show all up to where they reach.
 use Rattle.std.proofs.Common.{◌≡◌, ℕ, ◌+◌, ◌-◌, ◌<◌, ◌≤◌, true, false, ltb, List, [], ◌∷◌, ◌++◌, length, take, get_or, refl, sym, ap, ◌∙◌, subst, inl, inr, arith}
 use Rattle.std.specs.List.{slice_range}
 use Rattle.std.specs.Str.{IsCharBoundary, IsUtf8}
@@ -161,7 +161,7 @@ module _ (s : Source) (lawful : IsLawfulSource s) where
     number_within = hidden.number_within;
   }
 
-  -- the inlays from one on are at or behind an offset, if that one is
+  -- the inlays from one on are at or after an offset, if that one is
   pub from-on : (n at : ℕ) → (n < length s.inlays → at ≤ offset n) → (k : ℕ) → n ≤ k → k < length s.inlays → at ≤ offset k
   from-on n at here k le within = elim (cases_lt n k) [
     | inl lt ↦ omega (arith, here (omega (arith, lt, within)), inlays-rise n k lt within)

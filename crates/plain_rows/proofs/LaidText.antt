@@ -14,7 +14,7 @@ use Rattle.cell_units.proofs.Joined.{inside-shows_none, shown-inlaid, shown-star
 use Rattle.cell_units.proofs.ShownText.{folded_is, show_each-append}
 use Rattle.plain_rows.specs.FoldedLines.{bytes_from}
 
--- what stands before an offset, and the inlays at it
+-- what is before an offset, and the inlays at it
 abbrev pub shown_upto : List ℕ → List Inlay → List Fold → ℕ → List Token
 shown_upto text inlays folds at = folded_before text inlays folds at ++ inlays_at inlays at
 
@@ -63,7 +63,7 @@ shown-alike f g o (b ∷ bs) h =
 
 -- ---- the steps
 
--- the buffer up to a later offset, where no fold hides a byte and no inlay stands
+-- the buffer up to a later offset, where no fold hides a byte and there is no inlay
 text-shown : (inlays : List Inlay) (folds : List Fold) (at : ℕ) (bs : List ℕ) → Every (λ i. i.offset ≤ at) inlays →
     ((o : ℕ) → at ≤ o → o < at + length bs → covered folds o ≡ false) →
     show_each (shown inlays folds) at bs ++ inlays_at inlays (at + length bs) ≡ inlays_at inlays at ++ bytes_from at bs

@@ -1,4 +1,4 @@
--- The line of a place among cut lines: what stands behind the last break before the place, and what follows it.
+-- The line of a place among cut lines: what comes after the last break before the place, and what follows it.
 use Rattle.std.proofs.Common.{◌≡◌, ℕ, ◌+◌, ◌<◌, Bool, true, false, cond, List, [], ◌∷◌, ◌++◌, length, drop, get_or, refl, sym, ap, ◌∙◌, subst, append_assoc, append-nil, arith}
 use Rattle.std.specs.List.{after_last, count_by}
 use Rattle.std.proofs.lemmas.Bool.{false≢true}
@@ -84,7 +84,7 @@ module _ {X : Type 0} (p : X → Bool) where
   behind : (xs : List X) → Behind xs
   behind xs = behind-more [] xs (λ z zs. sym (put-nil (cut_lines p (z ∷ zs))))
 
-  -- the line of the place behind xs
+  -- the line of the place after xs
   pub line-at : (xs : List X) (z : X) (zs : List X) → get_or (cut_lines p (xs ++ z ∷ zs)) (count_by p xs) [] ≡ after_last p xs ++ z ∷ (first-line z zs).line
   line-at xs z zs =
       let n : count_by p xs ≡ count_by p xs + 0 = omega arith in

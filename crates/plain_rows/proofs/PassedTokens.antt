@@ -1,5 +1,5 @@
--- What stands before a position that is not strictly inside a joined fold: the tokens at lesser offsets, and for Right the
--- inlays at its own.
+-- What is before a position that is not strictly inside a joined fold. It is the tokens at lesser offsets, and for
+-- Right the inlays at its own.
 use Rattle.std.proofs.Common.{◌≡◌, ℕ, ◌+◌, ◌-◌, ◌<◌, ◌≤◌, ◌&&◌, Bool, true, false, cond, ltb, eqb, List, [], ◌∷◌, ◌++◌, length, map, take, drop, filter, flat_map, refl, sym, ap, ◌∙◌, subst, arith, append-nil, append_assoc}
 use Rattle.std.specs.List.{slice_range}
 use Rattle.std.proofs.lemmas.Bool.{eq-eqb, eqb-true, ne_eqb, le-ltb, lt-ltb, or_from, or_left, or_right, and_left, and_right, and_from}
@@ -120,7 +120,7 @@ own-side : (o : ℕ) (bias : Bias) (c : Bool) (b : ℕ) → filter (token_passed
 own-side o bias true b = ap (λ (c : Bool). cond c (Hidden o ∷ []) []) (le-ltb o o (omega arith))
 own-side o bias false b = ap (λ (c : Bool). cond c (Byte o b ∷ []) []) (le-ltb o o (omega arith))
 
--- ---- what stands before a position
+-- ---- what is before a position
 
 module _ (text : List ℕ) (inlays : List Inlay) (folds : List Fold) where
   to-side : (o : ℕ) (bias : Bias) → inside folds o ≡ false → folded_to text inlays folds o bias ≡ folded_before text inlays folds o ++ at_side bias (inlays_at inlays o)

@@ -1,4 +1,4 @@
--- Where a position stands among the lines of parts.
+-- Where a position is among the lines of parts.
 use Rattle.std.proofs.Common.{◌≡◌, ℕ, ◌+◌, ◌-◌, ◌<◌, ◌≤◌, suc, zero, Some, Bool, true, false, cond, min, List, [], ◌∷◌, ◌++◌, length, map, drop, get_or, filter, refl, sym, ap, ◌∙◌, subst, inl, inr, arith}
 use Rattle.std.specs.List.{All, after_last, count_by, slice_get, slice_range, sum_by}
 use Rattle.std.proofs.lemmas.Bool.{cases_lt, false≢true, le-ltb, lt-ltb}
@@ -78,7 +78,7 @@ count-ends s o bias (p ∷ ps) lie =
           ∙ (let z : 0 + count_by (part_passed o bias) (filter is_end ps) ≡ count_by (part_passed o bias) (filter is_end ps) = omega arith in z)
           ∙ ap (λ (c : Bool). count_by (part_passed o bias) (cond c (p ∷ filter is_end ps) (filter is_end ps))) (sym e)
 
--- ---- the bytes of a line that stand before a position
+-- ---- the bytes of a line that are before a position
 
 buffer-bytes : (o : ℕ) (bias : Bias) (at : ℕ) (bs : List ℕ) → size (filter (token_passed o bias) (bytes_from at bs)) ≡ min o (at + length bs) - at
 buffer-bytes o bias at [] = omega arith

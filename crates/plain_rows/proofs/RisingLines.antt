@@ -26,7 +26,7 @@ line_of-rises text inlays folds o p bias le within =
 abbrev goes : ℕ → Bool
 goes b = not (is_feed b)
 
--- one byte on, a row's start stays or is behind the byte
+-- one byte on, a row's start stays or is after the byte
 pub row_start-next : (text : List ℕ) (o : ℕ) (c : Bool) → o < length text → is_feed (get_or text o 0) ≡ c → row_start text (o + 1) ≡ cond c (o + 1) (row_start text o)
 row_start-next text o c lt e =
     let more : suffix_len goes (take (o + 1) text) ≡ cond (not c) (1 + suffix_len goes (take o text)) 0 =
@@ -102,7 +102,7 @@ same-row text start o le hi within =
     let r = same-row-from text start (o - start) (omega (arith, hi)) (omega (arith, within)) in
     (ap (row_start text) (sym e) ∙ r.0, ap (row_end text) (sym e) ∙ r.1)
 
--- behind a row's end, if the text goes on, stands its feed, and then the next row starts
+-- after a row's end, if the text goes on, is its feed, and then the next row starts
 pub next-row : (text : List ℕ) (o : ℕ) → row_end text o < length text → row_start text (row_end text o + 1) ≡ row_end text o + 1
 next-row text o lt =
     let n : ℕ = prefix_len goes (drop o text) in

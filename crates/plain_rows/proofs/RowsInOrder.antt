@@ -1,4 +1,4 @@
--- The rows of a line stand before those of each later line.
+-- The rows of a line are before those of each later line.
 use Rattle.std.proofs.Common.{◌≡◌, ℕ, ◌+◌, ◌<◌, ◌≤◌, Bool, true, false, cond, List, [], ◌∷◌, ◌++◌, length, take, zip, get_or, min, refl, ap, ◌∙◌, length-append, arith}
 use Rattle.std.specs.List.{count_by, enumerate_from, flat_map}
 use Rattle.std.proofs.lemmas.List.{get_or-map, length-map}
@@ -67,7 +67,7 @@ module _ (above below : ℕ → List Row) (lines : List (List Row)) where
       ∙ ap f (get_or-enumerate_from 0 lines k none lt)
       ∙ ap (λ (n : ℕ). above n ++ (get_or lines k [] ++ below n)) at
 
-  -- a text row of a line stands before all rows of a later line
+  -- a text row of a line is before all rows of a later line
   pub later_line : (j k row : ℕ) → j < k → j < length lines → row < length (get_or lines j []) →
       rows_upto j (with_blocks above below lines) + length (above j) + row < rows_upto k (with_blocks above below lines)
   later_line j k row lt within is =

@@ -18,7 +18,7 @@ use Rattle.plain_rows.specs.inside.Passed.{inlay_passed, is_right, part_passed}
 use Rattle.plain_rows.proofs.EndsOfLines.{feeds-of}
 use Rattle.plain_rows.proofs.RangesApart.{below-inside}
 
--- ---- lists of which a front passes
+-- ---- lists of which a prefix passes
 
 abbrev pub Downward : {X : Type 0} → (X → Bool) → List X → Type 0
 Downward p [] = Unit {0}
@@ -83,7 +83,7 @@ inlay-cases o bias k h = elim (or_cases (ltb k o) (eqb k o && is_right bias) h) 
   | inr e ↦ let both = and_parts (eqb k o) (is_right bias) e in inr (eqb-true k o both.0, both.1)
 ]
 
--- an end that a position passes comes behind others that it passes
+-- an end that a position passes comes after others that it passes
 passed-before : (o : ℕ) (bias : Bias) (p q : Part) → is_end p ≡ true → is_end q ≡ true → part_end p ≤ part_start q → part_passed o bias q ≡ true → part_passed o bias p ≡ true
 passed-before o bias (Feed k) q is also le h = lt-ltb k o (bound q also le h) where
   bound : (q : Part) → is_end q ≡ true → k + 1 ≤ part_start q → part_passed o bias q ≡ true → k < o

@@ -65,7 +65,7 @@ module _ (r : Record) (marked : IsMarked r) where
         (moved_down (rows_before r j) (spot_in_line (elements_at r j) (mark_at r j).width a) (spot_in_line (elements_at r j) (mark_at r j).width b)
         (spot_in_line-rises (elements_at r j) (mark_at r j).width a b (same e)))
 
-  -- fronts of the folded text, where what is in one line is in order
+  -- prefixes of the folded text, where what is in one line is in order
   fronts-rise : (xs ys : List Token) (b c : Bias) → IsFront xs ys → IsFront ys (folded r.text r.inlays r.folds) →
       (byte_in xs ≤ byte_in ys → line_in xs ≡ line_in ys → elements_before (elements_at r (line_in xs)) (byte_in xs) b ≤ elements_before (elements_at r (line_in ys)) (byte_in ys) c) →
       spot_le (spot_at r (line_in xs) (elements_before (elements_at r (line_in xs)) (byte_in xs) b)) (spot_at r (line_in ys) (elements_before (elements_at r (line_in ys)) (byte_in ys) c)) ≡ true

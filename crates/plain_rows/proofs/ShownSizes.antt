@@ -56,7 +56,7 @@ inlays-size test (i ∷ is) all =
 
 -- ---- folds
 
--- the folds that start at the offset or behind it
+-- the folds that start at the offset or after it
 abbrev begun : List Fold → ℕ → ℕ
 begun folds o = count_by (λ (f : Fold). leb o f.start) folds
 
@@ -77,7 +77,7 @@ begun-later (f ∷ fs) o =
       begun-later fs o,
     )
 
--- a placeholder stands where a fold starts
+-- a placeholder is where a fold starts
 begun-here : (folds : List Fold) (o : ℕ) → covered folds o ≡ true → inside folds o ≡ false → begun folds (o + 1) + 1 ≤ begun folds o
 begun-here [] o h k = absurd (false≢true h)
 begun-here (f ∷ fs) o h k =

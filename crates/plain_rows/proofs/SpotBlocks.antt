@@ -1,4 +1,4 @@
--- How many rows of blocks stand at each line, and at all of them.
+-- How many rows of blocks are at each line, and at all of them.
 use Rattle.std.proofs.Common.{◌≡◌, ◌⊎◌, inl, inr, set, get_or-set_same, get_or-set_other, length-set, ℕ, ◌+◌, ◌*◌, ◌<◌, ◌≤◌, ◌&&◌, Bool, true, false, cond, eqb, ltb, List, [], ◌∷◌, zero, suc, length, map, take, filter, flat_map, get_or, refl, sym, ap, ◌∙◌, arith, length-append}
 use Rattle.std.specs.List.{sum_by}
 use Rattle.std.proofs.lemmas.Bool.{and_from, and_left, and_right, cases_eq, eq-eqb, ne_eqb}
@@ -89,7 +89,7 @@ sum_upto-none : (k : ℕ) → sum_upto (λ j. 0) k ≡ 0
 sum_upto-none zero = refl
 sum_upto-none (suc k) = omega (arith, sum_upto-none k)
 
--- a block stands at one line
+-- a block is at one line
 one-line : (c : Bool) (line n k : ℕ) → sum_upto (λ j. cond (c && eqb line j) n 0) k ≤ cond (ltb line k) n 0
 one-line c line n zero = omega arith
 one-line false line n (suc k) = let h = one-line false line n k in grind (arith, nat_tests, h)

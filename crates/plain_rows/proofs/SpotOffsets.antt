@@ -161,7 +161,7 @@ back-right r d s f g at x y =
 
 -- ---- walks
 
--- neither before a spot nor behind it is at it
+-- what is neither before a spot nor after it is at it
 pub at-spot : (s d : Spot) → stands_before Left s d ≡ false → stands_before Right s d ≡ true → s ≡ d
 at-spot s d h k = spot_le-antisym s d k (not-false (spot_le d s) h)
 

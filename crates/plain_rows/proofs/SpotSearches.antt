@@ -36,7 +36,7 @@ row-behind : (side : Bias) (s d : Spot) → d.row < s.row → stands_before side
 row-behind Left s d h = grind (arith, nat_tests, h)
 row-behind Right s d h = grind (arith, nat_tests, h)
 
--- what is before one that stands before d stands before d
+-- what is before one that is before d is before d
 before-down : (side : Bias) (s t d : Spot) → spot_le s t ≡ true → stands_before side t d ≡ true → stands_before side s d ≡ true
 before-down Left s t d h k = grind (arith, nat_tests, h, k)
 before-down Right s t d h k = spot_le-trans s t d h k

@@ -24,8 +24,8 @@ seen source = listed_source source.text.now source.inlays.now source.folds.now
 abbrev pub AreInOrder : {X : Type 0} → (X → ℕ) → List X → Type 0
 AreInOrder key xs = AllPairs (λ x y. key x ≤ key y) xs
 
--- What laying out uses of a well-formed source: inlays and folds are in order, stand between characters and are within
--- the limits; no inlay is empty, no two have one id, and no fold is empty.
+-- What laying out uses of a well-formed source. Inlays and folds are in order, lie between characters and are within
+-- the limits. No inlay is empty, no two have one id, and no fold is empty.
 pub record IsLawfulSource (source : Source) : Type 0 where
   pub text : IsText source.text
   pub text_size : length source.text ≤ LAID_LIMIT
@@ -47,7 +47,7 @@ no_inlay = record { offset = 0; bias = Left; id = 0; text = [] }
 abbrev pub inlay_at : Source → ℕ → records.Inlay
 inlay_at source number = slice_index_or source.inlays number no_inlay
 
--- bytes of the buffer of which the first stands at the offset
+-- bytes of the buffer of which the first is at the offset
 abbrev pub bytes_from : ℕ → List ℕ → List Token
 bytes_from o [] = []
 bytes_from o (b ∷ bs) = Byte o b ∷ bytes_from (o + 1) bs
@@ -61,7 +61,7 @@ part_tokens source (Placeholder start end) = Hidden start ∷ []
 part_tokens source (Feed offset) = Byte offset line_feed ∷ []
 part_tokens source (InlayFeed number offset) = InlayByte offset (inlay_at source number).id line_feed ∷ []
 
--- the offset at which a part begins, and the one behind it
+-- the offset at which a part begins, and the one after it
 abbrev pub part_start : Part → ℕ
 part_start (Buffer start end) = start
 part_start (Inlay number offset start end) = offset
@@ -85,7 +85,7 @@ abbrev pub is_buffer : Part → Bool
 is_buffer (Buffer start end) = true
 is_buffer _ = false
 
--- the number of the first inlay that may stand behind the part
+-- the number of the first inlay that may follow the part
 abbrev pub next_inlay : Part → ℕ
 next_inlay (Inlay number offset start end) = number + 1
 next_inlay _ = 0
@@ -101,7 +101,7 @@ abbrev pub IsChain : Part → List Part → Type 0
 IsChain p [] = Unit {0}
 IsChain p (q ∷ qs) = (part_end p ≡ part_start q) × IsApart p q × IsChain q qs
 
--- what stands before the first part
+-- what is before the first part
 abbrev pub before_all : Part
 before_all = InlayFeed 0 0
 
@@ -138,7 +138,7 @@ EachLies source (p ∷ ps) = Lies source p × EachLies source ps
 
 -- ---- lines
 
--- parts in order, and the ranges that the placeholders stand for
+-- parts in order, and the ranges that the placeholders hide
 pub record LaidOut : Type 0 where
   pub parts : List Part
   pub joined : List Joined

@@ -30,8 +30,8 @@ IsPastRow spots d = (t : Spot) → Contains spots t → t.row ≡ d.row → spot
 abbrev pub IsWithinRow : List Spot → Spot → Type 0
 IsWithinRow spots d = (t : Spot) × (Contains spots t) × (t.row ≡ d.row) × IsTrue (spot_le d t)
 
--- what Right takes: where d is past the spots of its row, the last of them; otherwise the least at or after d; where
--- there is none, the greatest
+-- what Right takes. Where d is past the spots of its row, it is the last of them; otherwise the least at or after d.
+-- Where there is none, it is the greatest
 pub data IsNearestAfter (spots : List Spot) (d : Spot) : Spot → Type 0 where
   LastOfRow : (s : Spot) → Contains spots s → s.row ≡ d.row → IsPastRow spots d → ((t : Spot) → Contains spots t → t.row ≡ d.row → IsTrue (spot_le t s)) → IsNearestAfter spots d s
   LeastAfter : (s : Spot) → Contains spots s → IsTrue (spot_le d s) → ((t : Spot) → Contains spots t → IsTrue (spot_le d t) → IsTrue (spot_le s t)) → ((t : Spot) → Contains spots t → t.row ≡ d.row → IsWithinRow spots d) → IsNearestAfter spots d s

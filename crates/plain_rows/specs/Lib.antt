@@ -1,3 +1,4 @@
+-- What the crate promises
 pub mod Rows
 pub mod ShownRows
 pub mod Spots
@@ -6,4 +7,5 @@ pub mod Worked
 pub mod Laws
 pub mod Plain
 pub mod FoldedLines
+-- What its parts say to each other
 pub mod inside

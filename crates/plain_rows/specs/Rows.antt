@@ -37,11 +37,11 @@ abbrev pub head_and_more : List (List ℕ) → List Row
 head_and_more [] = []
 head_and_more (text ∷ texts) = head_row text ∷ map more_row texts
 
--- the text rows of a line that stands wrapped at the width
+-- the text rows of a line that is wrapped at the width
 abbrev pub text_rows : List Element → ℕ → List Row
 text_rows es width = head_and_more (row_texts_of es width)
 
--- each line's rows with what stands above and below it
+-- each line's rows with what is above and below it
 abbrev pub with_blocks : (ℕ → List Row) → (ℕ → List Row) → List (List Row) → List (List Row)
 with_blocks above below lines = map (λ n. above n.0 ++ (n.1 ++ below n.0)) (enumerate_from 0 lines)
 
@@ -52,8 +52,8 @@ is_above Below = false
 abbrev pub block_rows : Block → List Row
 block_rows b = map (λ line. record { kind = block_kind; text = line }) b.lines
 
--- the display line of a block: one above is at that of its row's start with Left, one below at that of its row's end
--- with Right, behind the inlays there
+-- the display line of a block. One above is at that of its row's start with Left. One below is at that of its row's end
+-- with Right, after the inlays there
 abbrev pub line_of_block : Record → Block → ℕ
 line_of_block r b =
     if is_above b.side then line_of r.text r.inlays r.folds (row_start r.text b.offset) Left

@@ -1,4 +1,4 @@
--- What display lines tell of offsets and rows, so that offsets and spots can be looked up in them.
+-- What display lines say of offsets and rows, so that offsets and spots can be looked up in them.
 use Rattle.std.specs.Prelude.{ℕ, ◌≡◌, ◌≤◌, ◌<◌, true, false, List, length, Option, Some, None}
 use Rattle.cell_units.specs.Folded.{inside}
 use Rattle.cell_units.specs.Record.{Fold, Record}

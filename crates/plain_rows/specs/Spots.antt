@@ -14,7 +14,7 @@ use Rattle.cell_line.specs.Elements.{total_cells}
 use Rattle.cell_line.specs.Wrapping.{cuts_of, indent_of}
 use Rattle.plain_rows.specs.Rows.{blocks_at, line_elements, rows_by_line}
 
--- how many elements stand before a byte of their line. Strictly inside an element Left is before it, Right behind it
+-- how many elements are before a byte of their line. Strictly inside an element Left is before it, Right after it
 abbrev pub elements_before : List Element → ℕ → Bias → ℕ
 elements_before [] byte bias = 0
 elements_before (e ∷ es) byte bias =
@@ -31,7 +31,8 @@ is_within [] byte = false
 is_within (e ∷ es) byte =
     not (byte == 0) && (nat_lt byte (length e.text) || is_within es (byte - length e.text))
 
--- the row and the column, within its line, of a place between elements. A place equal to a cut is on the row that starts there
+-- the row and the column, within its line, of a place between elements. A place equal to a cut is on the row that
+-- starts there
 abbrev pub spot_in_line : List Element → ℕ → ℕ → Spot
 spot_in_line es width place =
     let row = count_by (λ cut. nat_le cut place) (cuts_of es width) in
@@ -47,7 +48,7 @@ elements_at r line = slice_index_or (line_elements r) line []
 abbrev pub mark_at : Record → ℕ → Mark
 mark_at r line = slice_index_or r.marks line (plain_mark 0)
 
--- how many rows stand before the text rows of a display line
+-- how many rows are before the text rows of a display line
 abbrev pub rows_before : Record → ℕ → ℕ
 rows_before r line =
     length (flat_map (λ rows. rows) (take line (rows_by_line r))) + length (blocks_at r Above line)
@@ -113,8 +114,8 @@ past d spots =
 abbrev pub origin : Spot
 origin = record { row = 0; col = 0 }
 
--- the nearest valid spot: Left takes the greatest at or before d, and Right the last of d's row where d is past it and
--- else the least at or after d. Where there is none on that side, it is the nearest one of the other side
+-- the nearest valid spot. Left takes the greatest at or before d. Right takes the last of d's row where d is past it,
+-- and else the least at or after d. Where there is none on that side, it is the nearest one of the other side
 unfoldable pub clip : Record → Spot → Bias → Spot
 clip r d Left =
     let spots = valid_spots r in

@@ -1,4 +1,4 @@
-//! The display lines of blocks.
+//! At which display line each block is shown.
 ghost use Rattle.std.specs.Prelude.{◌≡◌, ◌<◌, ◌≤◌, ◌^◌, All, length, map, not, IfOk};
 ghost use Rattle.std.specs.List.{prefix_len};
 ghost use Rattle.cell_units.specs.Folded.{line_of};
@@ -23,7 +23,7 @@ pub(crate) struct BufferRow {
     pub(crate) end: u32,
 }
 
-/// How many bytes stand before the first line feed.
+/// How many bytes are before the first line feed.
 fn line_len(bytes: &[u8]) -> usize
     ensures { result ≡ prefix_len (λ b. not (is_feed b)) bytes.now }
 {
@@ -39,7 +39,7 @@ fn row_end(text: &[u8], offset: u32) -> u32
     offset + line_len(&text[offset as usize..]) as u32
 }
 
-/// The row that holds an offset at or behind the start of the given one.
+/// The row that holds an offset at or after the start of the given one.
 fn row_from(text: &[u8], row: BufferRow, offset: u32) -> BufferRow
     // A row of the text that starts at the offset or before it.
     requires size { length text.now < 2 ^ 32 }
@@ -76,7 +76,7 @@ impl FoldedLines {
         }
     }
 
-    /// The display line of each block, in one pass over text and blocks.
+    /// The display line of each block, counted from 0, in one pass over text and blocks.
     pub fn block_lines(
         &self,
         alloc: Global,

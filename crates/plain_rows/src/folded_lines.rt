@@ -33,14 +33,14 @@ pub enum Part {
         start: u32,
         end: u32,
     },
-    /// These bytes of the text of the inlay of this number, which stands at the offset.
+    /// These bytes of the text of the inlay of this number, which is at the offset.
     Inlay {
         number: u32,
         offset: u32,
         start: u32,
         end: u32,
     },
-    /// The placeholder that stands for these bytes of the buffer.
+    /// The placeholder that replaces these bytes of the buffer.
     Placeholder {
         start: u32,
         end: u32,
@@ -49,7 +49,7 @@ pub enum Part {
     Feed {
         offset: u32,
     },
-    /// A line's end: a line break of the inlay of this number, which stands at the offset.
+    /// A line's end: a line break of the inlay of this number, which is at the offset.
     InlayFeed {
         number: u32,
         offset: u32,
@@ -91,7 +91,7 @@ impl Part {
         }
     }
 
-    /// How many of its bytes stand before the position, which is not strictly inside a joined fold.
+    /// How many of its bytes are before the position, which is not strictly inside a joined fold.
     fn passed_bytes(&self, offset: u32, bias: Bias) -> u32
         ensures value { result ≡ passed_bytes offset bias self.now }
         ensures most { result ≤ part_bytes self.now }
@@ -124,7 +124,7 @@ fn line_ends(alloc: Global, parts: &[Part]) -> Result<Vec<LineEnd>, NoMemory>
     Ok(ends)
 }
 
-/// How many bytes of the parts stand before the position, which is not strictly inside a joined fold.
+/// How many bytes of the parts are before the position, which is not strictly inside a joined fold.
 fn bytes_before(parts: &[Part], offset: u32, bias: Bias) -> u32
     requires { sum_by part_bytes parts.now < 2 ^ 32 }
     ensures { result ≡ sum_by (passed_bytes offset bias) parts.now }
@@ -194,7 +194,7 @@ fn inlay_id(source: &PlainSource, number: u32) -> u32
     }
 }
 
-/// A part of the inlay of this id, which stands at the offset, as a piece.
+/// A part of the inlay of this id, which is at the offset, as a piece.
 fn inlay_piece(alloc: Global, id: u32, text: &str, offset: u32) -> Result<Piece, NoMemory>
     ensures { IfOk result (λ piece.
         piece ≡ record { kind = PieceKind.Inlay id; text = text.now; start = offset; end = offset }) }
@@ -220,7 +220,7 @@ fn placeholder_piece(alloc: Global, start: u32, end: u32) -> Result<Piece, NoMem
     })
 }
 
-/// How many parts stand before the line of this number.
+/// How many parts are before the line of this number.
 fn line_start(ends: &[LineEnd], line: usize) -> usize
     requires { line ≤ length ends.now }
     ensures { result ≡ line_from 0 ends.now line }
@@ -284,7 +284,7 @@ impl Model for FoldedLines {
 }
 
 impl FoldedLines {
-    /// Lays out the display lines of the source, in one pass over text, inlays and folds.
+    /// Lays out the display lines of the source (*Folded lines*), in one pass over text, inlays and folds.
     pub fn new(alloc: Global, source: &PlainSource) -> Result<FoldedLines, NoMemory>
         requires formed { IsWellFormed (seen source.now) }
         requires size { length source.now.text.now ≤ LAID_LIMIT }
@@ -316,7 +316,7 @@ impl FoldedLines {
         line_parts(self.parts.as_slice(), self.ends.as_slice(), line)
     }
 
-    /// The pieces of a display line of the source that was laid out.
+    /// The pieces of a display line, counted from 0, of the source that was laid out.
     pub fn pieces(
         &self,
         alloc: Global,
@@ -344,7 +344,7 @@ impl FoldedLines {
         None
     }
 
-    /// The position that stands at the same place and is not strictly inside a joined fold: one inside is at its
+    /// The position that is at the same place and is not strictly inside a joined fold. For one inside it is at the
     /// placeholder's start (Left) or end (Right).
     fn outside(&self, offset: u32, bias: Bias) -> (u32, Bias)
         ensures { (source : Source) → AreLinesOf source self.now → offset ≤ length source.text →
@@ -369,7 +369,7 @@ impl FoldedLines {
         ends.partition_point(|end| end.feed.is_passed(offset, bias))
     }
 
-    /// The display line that holds a position.
+    /// The display line that holds a position, counted from 0.
     pub fn line_of(&self, offset: u32, bias: Bias) -> u32
         ensures { (source : Source) → AreLinesOf source self.now → offset ≤ length source.text →
             result ≡ line_of source.text source.inlays source.folds offset bias }
@@ -378,7 +378,7 @@ impl FoldedLines {
         self.lines_before(offset, bias) as u32
     }
 
-    /// How many bytes of its display line stand before a position.
+    /// How many bytes of its display line are before a position.
     pub fn place_in_line(&self, offset: u32, bias: Bias) -> u32
         ensures { (source : Source) → AreLinesOf source self.now → offset ≤ length source.text →
             result ≡ place_in_line source.text source.inlays source.folds offset bias }

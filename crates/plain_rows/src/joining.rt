@@ -1,4 +1,4 @@
-//! Joined folds.
+//! Folds that overlap, joined to the ranges that one placeholder each replaces.
 ghost use Rattle.std.specs.Prelude.{◌≡◌, ◌<◌, ◌≤◌, All, map, IfOk};
 ghost use Rattle.plain_rows.specs.FoldedLines.{AreInOrder, Joins};
 ghost use Rattle.plain_rows.specs.Plain.{fold_of};

@@ -17,7 +17,7 @@ fn is_break(byte: u8) -> bool
     byte == b'\n' || byte == b'\r'
 }
 
-/// How many bytes stand before the first line break.
+/// How many bytes are before the first line break.
 fn run_len(bytes: &[u8]) -> usize
     ensures { result ≡ prefix_len (λ b. not (is_break b)) bytes.now }
 {
@@ -46,8 +46,8 @@ fn push_run(parts: &mut Vec<Part>, start: u32, end: u32) -> Result<(), NoMemory>
     Ok(())
 }
 
-/// Appends the bytes of the buffer from an offset up to the next line feed, and that, or up to `to`. It answers the
-/// offset behind them.
+/// Appends the bytes of the buffer from an offset up to the next line feed, and that, or up to `to`. Returns the offset
+/// after them.
 fn push_line(parts: &mut Vec<Part>, source: &PlainSource, at: u32, to: u32) -> Result<u32, NoMemory>
     // The parts end at the offset, and not with bytes of the buffer. Whole characters follow up to `to`, one at least.
     requires lawful { IsLawfulSource (seen source.now) }
@@ -56,7 +56,7 @@ fn push_line(parts: &mut Vec<Part>, source: &PlainSource, at: u32, to: u32) -> R
     requires span { IsSpan source.now.text.now at to }
     requires some { at < to }
 
-    // The bytes up to the answer are laid. Where more follow, the last part is none of the buffer's bytes again.
+    // The bytes up to the result are laid. Where more follow, the last part is none of the buffer's bytes again.
     ensures lays { IfOk result (λ next. Lays (seen source.now) parts.old.items parts.new.items at next) }
     ensures span { IfOk result (λ next. (at < next) × IsSpan source.now.text.now next to) }
     ensures apart { IfOk result (λ next. next < to → is_buffer (last_of parts.new.items) ≡ false) }
@@ -116,7 +116,7 @@ fn push_inlay_run(
     Ok(())
 }
 
-/// Appends the bytes of an inlay from one of them up to the next line break, and that, or up to its end. It answers the
+/// Appends the bytes of an inlay from one of them up to the next line break, and that, or up to its end. Returns the
 /// number of bytes up to there.
 fn push_inlay_line(
     parts: &mut Vec<Part>,
@@ -132,7 +132,7 @@ fn push_inlay_line(
     requires boundary { IsCharBoundary (inlay_at (seen source.now) number).text at }
     requires some { at < length (inlay_at (seen source.now) number).text }
 
-    // Its bytes up to the answer are laid. Where more follow, the last part is as was asked.
+    // Its bytes up to the result are laid. Where more follow, the last part is as was asked.
     ensures lays { IfOk result (λ next.
         LaysInlay (seen source.now) number parts.old.items parts.new.items at next) }
     ensures apart { IfOk result (λ next.
@@ -161,7 +161,7 @@ fn push_inlay(parts: &mut Vec<Part>, source: &PlainSource, number: u32) -> Resul
     requires reaches { Reaches (seen source.now) parts.old.items (inlay_at (seen source.now) number).offset }
     requires apart { next_inlay (last_of parts.old.items) ≤ number }
 
-    // They end there again, with the inlay's bytes behind what they showed. The last part is none of the buffer's bytes,
+    // They end there again, with the inlay's bytes after what they showed. The last part is none of the buffer's bytes,
     // and of no later inlay.
     ensures reaches { OnOk result
         (Reaches (seen source.now) parts.new.items (inlay_at (seen source.now) number).offset) }
@@ -178,15 +178,15 @@ fn push_inlay(parts: &mut Vec<Part>, source: &PlainSource, number: u32) -> Resul
     Ok(())
 }
 
-/// Whether there is an inlay of this number and it stands before the offset.
+/// Whether there is an inlay of this number and it is before the offset.
 fn is_before(source: &PlainSource, number: u32, offset: u32) -> bool
     ensures { result ≡ stands_before (seen source.now) number offset }
 {
     (number as usize) < source.inlays.len() && source.inlays[number as usize].offset < offset
 }
 
-/// Appends what stands between two offsets, where no fold hides a byte: the buffer's bytes, and the inlays up to those
-/// at the second offset, from that of the number `next` on. It answers the number of the inlay behind them.
+/// Appends what lies between two offsets, where no fold hides a byte. It is the buffer's bytes, and the inlays up to
+/// those at the second offset, from that of the number `next` on. Returns the number of the inlay after them.
 fn push_stretch(
     parts: &mut Vec<Part>,
     source: &PlainSource,
@@ -217,7 +217,7 @@ fn push_stretch(
     Ok(next)
 }
 
-/// Appends the placeholder of a joined fold. It answers the number of the first inlay behind those that it hides.
+/// Appends the placeholder of a joined fold. Returns the number of the first inlay after those that it hides.
 fn push_placeholder(
     parts: &mut Vec<Part>,
     source: &PlainSource,

@@ -2,7 +2,8 @@
 //!
 //! `specs/` has the definitions. `build`, `show`, `clip` and `back` are exactly these, for every lawful record: they
 //! are what all else is compared with. `FoldedLines` lays out the display lines of a text with inlays and folds, and
-//! copies none of it. `worked` has records of which rows, spots, nearest valid spots and offsets are known, as theorems.
+//! copies none of it. `worked` has records of which rows, spots, nearest valid spots and offsets are known, as
+//! theorems.
 #![tactic(auto)]
 
 mod block_lines;

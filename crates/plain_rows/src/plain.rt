@@ -10,13 +10,13 @@ use cell_units::{Bias, Side, Text};
 #[derive(Debug, Drop)]
 pub struct PlainInlay {
     pub id: u32,
-    /// The byte of the buffer that it stands before.
+    /// The byte of the buffer that it is before.
     pub offset: u32,
     pub bias: Bias,
     pub text: Text,
 }
 
-/// A range of bytes of the buffer that a placeholder stands for.
+/// A range of bytes of the buffer that a placeholder replaces.
 #[derive(Clone, Copy, Debug, PartialEq, Eq)]
 pub struct PlainFold {
     pub id: u32,
@@ -33,8 +33,8 @@ pub struct PlainBlock {
     pub lines: Vec<Text>,
 }
 
-/// A text with inlays, folds and blocks, a tab size and a width in cells, and of each display line the width at which
-/// it stands wrapped, or 0. It is seen as a record without its stamps.
+/// A text with inlays, folds and blocks, a tab size and a width in cells. Of each display line it has the width at
+/// which it is wrapped, or 0. It is seen as a record without its stamps (*Records and operations*).
 #[derive(Debug, Drop)]
 pub struct Plain {
     pub text: Text,

@@ -1,4 +1,4 @@
-//! The rows of a record.
+//! The rows of a record, built from scratch: text rows, and the rows of blocks.
 ghost use Rattle.std.specs.Prelude.{◌≡◌, ◌≤◌, ◌<◌, ◌+◌, ◌++◌, [], length, if◌then◌else◌, IfOk, OnOk};
 ghost use Rattle.cell_units.specs.Lawful.{IsLawful, IsTab, IsWidth};
 ghost use Rattle.cell_line.specs.Elements.{bytes_in, elements_of};
@@ -43,7 +43,7 @@ fn push_block_on(
     push_block(alloc, rows, block)
 }
 
-/// Whether there is a block of this number and it is on the other side or stands at the line or before it.
+/// Whether there is a block of this number and it is on the other side, or is at the line or before it.
 fn is_upto(plain: &Plain, lines: &[u32], side: Side, number: usize, line: u32) -> bool
     requires { AreStanding plain.now lines.now }
     ensures { result ≡ is_upto (record_of plain.now) side number line }
@@ -51,8 +51,8 @@ fn is_upto(plain: &Plain, lines: &[u32], side: Side, number: usize, line: u32) -
     number < lines.len() && (plain.blocks[number].side != side || lines[number] <= line)
 }
 
-/// Appends the rows of the blocks of one side that stand at the line, from the block of the number `from` on. `lines`
-/// has of each block its line. It answers the number of the block behind them.
+/// Appends the rows of the blocks of one side that are at the line, from the block of the number `from` on. `lines` has
+/// of each block its line. Returns the number of the block after them.
 fn push_blocks(
     alloc: Global,
     rows: &mut Vec<BuiltRow>,
@@ -62,12 +62,12 @@ fn push_blocks(
     from: usize,
     line: u32,
 ) -> Result<usize, NoMemory>
-    // `lines` has the line of each block. Blocks of the side before `from` stand before this line, and no others do.
+    // `lines` has the line of each block. Blocks of the side before `from` are before this line, and no others are.
     requires lawful { IsLawful (record_of plain.now) }
     requires lines { AreStanding plain.now lines.now }
     requires before { AreBefore (record_of plain.now) side from line }
 
-    // The blocks of this line have their rows, and those before the answer stand before the next one.
+    // The blocks of this line have their rows, and those before the result are before the next one.
     ensures rows { OnOk result (rows.new.items
         ≡ rows.old.items ++ row_pairs (blocks_at (record_of plain.now) side line)) }
     ensures before { IfOk result (λ behind. AreBefore (record_of plain.now) side behind (line + 1)) }
@@ -107,14 +107,15 @@ fn push_texts(
     ensures { OnOk result (rows.new.items
         ≡ rows.old.items ++ row_pairs (text_rows (elements_of pieces.now tab) width)) }
 {
+    // For the proof: the cells of a line of so few bytes fit u32.
     line_laws();
     let cuts = cuts_of_pieces(alloc, pieces, tab, width)?;
     let texts = row_texts_of_pieces(alloc, pieces, tab, width, &cuts, 0, u32::MAX)?;
     push_line(rows, texts)
 }
 
-/// All rows in order: of each the letter of its kind (`t` for a line's first text row, `w` for one that goes on, `b`
-/// for a block's) and its text.
+/// All rows in order (*Rows*), each as the letter of its kind and its text. The letter is `t` for a line's first text
+/// row, `w` for one that goes on and `b` for a block's.
 pub fn build(alloc: Global, plain: &Plain) -> Result<Vec<(u8, Text)>, NoMemory>
     requires lawful { IsLawful (record_of plain.now) }
     requires size { length plain.now.text ≤ LAID_LIMIT }

@@ -62,7 +62,7 @@ impl Laid {
     }
 }
 
-/// Where the boundary `offset` of the text is shown.
+/// The row, and the column in cells, where the boundary `offset` of the text is shown (*Spots*).
 pub fn show(alloc: Global, plain: &Plain, offset: u32, bias: Bias) -> Result<Spot, NoMemory>
     requires lawful { IsLawful (record_of plain.now) }
     requires size { length plain.now.text ≤ LAID_LIMIT }
@@ -74,7 +74,7 @@ pub fn show(alloc: Global, plain: &Plain, offset: u32, bias: Bias) -> Result<Spo
     show_in(alloc, &rows, offset, bias, &mut Steps::new())
 }
 
-/// The nearest spot at which some offset is shown.
+/// The nearest spot at which some offset is shown (*Spots*).
 pub fn clip(alloc: Global, plain: &Plain, spot: Spot, bias: Bias) -> Result<Spot, NoMemory>
     requires lawful { IsLawful (record_of plain.now) }
     requires size { length plain.now.text ≤ LAID_LIMIT }
@@ -85,7 +85,7 @@ pub fn clip(alloc: Global, plain: &Plain, spot: Spot, bias: Bias) -> Result<Spot
     clip_in(alloc, &rows, spot, bias, &mut Steps::new())
 }
 
-/// The least offset (Left) or the greatest (Right) that is shown at the nearest such spot.
+/// The least offset in bytes (Left) or the greatest (Right) that is shown at the nearest such spot (*Spots*).
 pub fn back(alloc: Global, plain: &Plain, spot: Spot, bias: Bias) -> Result<u32, NoMemory>
     requires lawful { IsLawful (record_of plain.now) }
     requires size { length plain.now.text ≤ LAID_LIMIT }

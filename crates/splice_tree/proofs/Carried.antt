@@ -1,4 +1,4 @@
--- What the two conversions answer.
+-- What the two conversions return.
 use Rattle.std.proofs.Common.{ℕ, ◌≡◌, ◌+◌, ◌-◌, ◌∷◌, ◌∙◌, ap, subst, sym, take, map, MatchOption, List, Option}
 use Rattle.std.specs.Borrow.{Bor}
 use Rattle.std.specs.List.{slice_get}

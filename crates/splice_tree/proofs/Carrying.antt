@@ -27,7 +27,7 @@ min_left m n le = omega arith
 min_right : (m n : ℕ) → n ≤ m → min m n ≡ n
 min_right m n le = omega arith
 
--- behind a splice
+-- after a splice
 pub behind : (bias : Bias) (s : Stretch) (x : ℕ) (n : ℕ) → IsShort bias x (s.gap + s.old + n) → is_behind bias s x ≡ true
 behind Left s x n short = left_is s.gap (s.gap + s.old) x (omega arith) (omega arith)
 behind Right s x n short = le_is (s.gap + s.old) x (omega arith)

@@ -41,17 +41,18 @@ GapsAreKept = (bias : Bias) (before after : List Stretch) (s : Stretch) (r : ℕ
 abbrev pub BeforeStays : Type 0
 BeforeStays = (bias : Bias) (before run other : List Stretch) (x : ℕ) → x < lower_of before → to_upper bias (before ++ other) x ≡ to_upper bias (before ++ run) x
 
--- a place behind a run moves by the difference of what stands there then and what stood there
+-- a place after a run moves by the difference of what is there then and what was there
 abbrev pub BehindMoves : Type 0
 BehindMoves = (bias : Bias) (run other after : List Stretch) (x : ℕ) → 0 < x
     → to_upper bias (other ++ after) (lower_of other + x) + upper_of run ≡ to_upper bias (run ++ after) (lower_of run + x) + upper_of other
 
--- and behind a wider gap by as much as that is wider
+-- and after a wider gap by as much as that is wider
 abbrev pub WiderGapMoves : Type 0
 WiderGapMoves = (bias : Bias) (s : Stretch) (after : List Stretch) (wider x : ℕ)
     → to_upper bias (stretch (s.gap + wider) s.old s.new ∷ after) (x + wider) ≡ to_upper bias (s ∷ after) x + wider
 
--- a place strictly inside what is taken out goes to an edge of what stands there: by Left to its begin, by Right to its end
+-- a place strictly inside what is taken out goes to an edge of what replaces it. By Left that is its start, and by
+-- Right its end
 abbrev pub InsideGoesToEdges : Type 0
 InsideGoesToEdges = (before after : List Stretch) (s : Stretch) (r : ℕ) → s.gap < r → r < s.gap + s.old
     → (to_upper Left (before ++ s ∷ after) (lower_of before + r) ≡ upper_of before + s.gap) × (to_upper Right (before ++ s ∷ after) (lower_of before + r) ≡ upper_of before + (s.gap + s.new))

@@ -1,3 +1,4 @@
+-- What the crate promises
 pub mod Bounds
 pub mod Bytes
 pub mod Laws

@@ -7,7 +7,7 @@ use Rattle.sum_tree.specs.Firsts.{IsFirst, IsReaching}
 use Rattle.splice_tree.specs.declared.sides.Sides.{Sides}
 use Rattle.splice_tree.specs.Sides.{none, both, BothFit}
 
--- What a splice is seen as: how much is kept before it, how much it takes out, how much stands there, and its load.
+-- What a splice is seen as: how much is kept before it, how much it takes out, how much it puts there, and its load.
 pub record Piece (S P : Type 0) : Type 0 where
   pub gap : S
   pub old : S
@@ -33,27 +33,27 @@ stretch gap old new = record { gap = gap; old = old; new = new }
 abbrev pub flipped : Stretch → Stretch
 flipped s = record { gap = s.gap; old = s.new; new = s.old }
 
--- A place lies behind a splice where it lies at its end or further on. At one that takes out nothing, a place is before it
--- by Left and behind it by Right.
+-- A place lies after a splice where it lies at its end or further on. At one that takes out nothing, a place is before
+-- it by Left and after it by Right.
 abbrev pub is_behind : Bias → Stretch → ℕ → Bool
 is_behind Left s x = nat_lt s.gap x && nat_le (s.gap + s.old) x
 is_behind Right s x = nat_le (s.gap + s.old) x
 
--- A place that isn't behind a splice is kept where it is in the gap, and else goes to the edge of what stands there.
+-- A place that isn't after a splice is kept where it is in the gap. Else it goes to the edge of what is put there.
 abbrev pub kept_or_edge : Bias → Stretch → ℕ → ℕ
 kept_or_edge Left s x = min x s.gap
 kept_or_edge Right s x = if nat_le x s.gap then x else s.gap + s.new
 
--- where a place of the lower sequence stands in the upper one
+-- where a place of the lower sequence is in the upper one
 abbrev pub to_upper : Bias → List Stretch → ℕ → ℕ
 to_upper bias [] x = x
 to_upper bias (s ∷ ss) x = if is_behind bias s x then s.gap + s.new + to_upper bias ss (x - (s.gap + s.old)) else kept_or_edge bias s x
 
--- a place that lies in a splice goes to this one, whatever stands behind the splice
+-- a place that lies in a splice goes to this one, whatever comes after the splice
 abbrev pub IsCarried : Bias → Stretch → ℕ → ℕ → Type 0
 IsCarried bias s x place = (ss : List Stretch) → IsReaching bias x (s.gap + s.old) → place ≡ to_upper bias (s ∷ ss) x
 
--- where a place of the upper sequence stands in the lower one
+-- where a place of the upper sequence is in the lower one
 abbrev pub to_lower : Bias → List Stretch → ℕ → ℕ
 to_lower bias ss y = to_upper bias (map flipped ss) y
 
@@ -73,7 +73,7 @@ module _ {S P : Type 0} (empty : S) (joined : S → S → S) where
       IsFirst (none empty) (both joined) (piece_sum joined) (λ s. number s.upper) ps target bias index
 
 module _ {S P : Type 0} where
-  -- the same splice behind another gap
+  -- the same splice after another gap
   abbrev pub regapped : S → Piece S P → Piece S P
   regapped gap p = record { gap = gap; old = p.old; new = p.new; load = p.load }
 
@@ -86,11 +86,12 @@ module _ {S P : Type 0} where
   with_first_gap gap [] = []
   with_first_gap gap (p ∷ ps) = regapped gap p ∷ ps
 
-  -- others in the place of the splices from place `from` to place `to`, and another gap before the one behind them
+  -- others in the place of the splices from place `from` to place `to`, and another gap before the one after them
   abbrev pub replaced : ℕ → ℕ → List (Piece S P) → S → List (Piece S P) → List (Piece S P)
   replaced from to fresh gap ps = take from ps ++ (fresh ++ with_first_gap gap (drop to ps))
 
-  -- What takes the place of all up to place `end`: others for those up to place `to`, and the one behind them with its new gap.
+  -- What takes the place of all up to place `end`. It is others for those up to place `to`, and the one after them with
+  -- its new gap.
   pub record IsRefill (ps : List (Piece S P)) (to : ℕ) (fresh : List (Piece S P)) (gap : S) (splices : List (Piece S P)) (end : ℕ) : Type 0 where
     pub order : to ≤ end
     pub within : end ≤ length ps

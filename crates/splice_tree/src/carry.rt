@@ -6,7 +6,7 @@ use crate::splice::Splice;
 use cell_units::Bias;
 use sum_core::{Count, Load, Measure, Summary};
 
-/// The place in what is kept and what stands there, for the place `rest` in what is kept and what is taken out.
+/// The place in what is kept and what is put there, for the place `rest` in what is kept and what is taken out.
 pub(crate) fn carry(gap: u32, old: u32, new: u32, rest: u64, bias: Bias) -> u64
     ensures place { IsCarried bias (stretch gap old new) rest result }
     ensures at_most { result ≤ gap + new }
@@ -24,7 +24,7 @@ pub(crate) fn carry(gap: u32, old: u32, new: u32, rest: u64, bias: Bias) -> u64
     }
 }
 
-/// Where the place `rest` of the lower side goes that lies in this splice, or behind all.
+/// Where the place `rest` of the lower side goes that lies in this splice, or after all.
 pub(crate) fn carry_up<S: Summary, P: Load, M: Count<S>>(
     splice: Option<&Splice<S, P>>,
     rest: u64,
@@ -46,7 +46,7 @@ pub(crate) fn carry_up<S: Summary, P: Load, M: Count<S>>(
     }
 }
 
-/// Where the place `rest` of the upper side goes that lies in this splice, or behind all.
+/// Where the place `rest` of the upper side goes that lies in this splice, or after all.
 pub(crate) fn carry_down<S: Summary, P: Load, M: Count<S>>(
     splice: Option<&Splice<S, P>>,
     rest: u64,

@@ -1,8 +1,9 @@
-//! A list of splices over a lower sequence: what is kept, and what stands in the place of what is taken out.
+//! A list of splices over a lower sequence: what is kept, and what replaces what is taken out.
 //!
-//! A splice is a gap of the lower sequence that is kept as it is, and then a stretch of it, which may be empty, in whose
-//! place another stands. What lies behind the last splice is kept. A [`SpliceTree`] is seen as the list of its splices; it
-//! carries places between the lower sequence and the upper one, by any measure of which a whole has as much as its parts.
+//! A splice is a gap of the lower sequence that is kept as it is, and then a stretch of it that another replaces. The
+//! stretch may be empty. What lies after the last splice is kept. A [`SpliceTree`] is seen as the list of its splices.
+//! It carries places between the lower sequence and the upper one, by any measure of which a whole has as much as its
+//! parts.
 #![tactic(auto)]
 
 mod bytes;

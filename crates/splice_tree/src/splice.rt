@@ -1,4 +1,4 @@
-//! One splice.
+//! One splice: what it keeps, what it takes out, and what it puts there.
 ghost use Rattle.std.specs.Prelude.{◌≡◌, IfOk};
 ghost use Rattle.splice_tree.specs.Splices.{regapped};
 
@@ -8,7 +8,7 @@ use std::alloc::Global;
 use std::marker::Model;
 use sum_core::{Item, Load, Summary};
 
-/// How much is kept of the lower sequence, how much of it is taken out then, and how much stands in its place.
+/// How much is kept of the lower sequence, how much of it is taken out then, and how much is put in its place.
 #[derive(Drop)]
 pub struct Splice<S: Summary, P: Load> {
     gap: S,
@@ -56,7 +56,7 @@ impl<S: Summary, P: Load> Splice<S, P> {
         self.old
     }
 
-    /// What stands in the place of that.
+    /// What is put in the place of that.
     pub fn new_size(&self) -> S
         ensures { result ≡ self.now.new }
     {

@@ -1,4 +1,4 @@
-//! The list of splices.
+//! The list of splices: finding one, carrying places over them, and replacing some.
 ghost use Rattle.std.specs.Prelude.{ℕ, ◌≡◌, ◌+◌, ◌*◌, ◌^◌, ◌<◌, ◌≤◌, ◌++◌, [], length, min, take, drop, map, slice_get, IfOk, OnOk, OnErr};
 ghost use Rattle.std.specs.Option.{option_copied};
 ghost use Rattle.sum_tree.specs.Bounds.{ChangesAtMost, TakesAtMost, building, way};
@@ -35,7 +35,7 @@ impl<S: Summary, P: Load> Model for SpliceTree<S, P> {
     ghost view = { λ t. t.splices };
 }
 
-/// Where a place lies among the splices: how many stand before it, what they cover, and the one in which it lies.
+/// Where a place lies among the splices: how many are before it, what they cover, and the one in which it lies.
 #[derive(Drop)]
 pub struct Place<'a, S: Summary, P: Load> {
     pub index: u32,
@@ -105,7 +105,7 @@ impl<S: Summary, P: Load> SpliceTree<S, P> {
         bias: Bias,
         steps: &mut Steps,
     ) -> Place<'_, S, P>
-        // The index, what the splices before it cover, and the splice that stands there, if one does.
+        // The index, what the splices before it cover, and the splice that is there, if one is.
         ensures first { let at = result.index in
             IsFirstLower S.empty S.joined M.number self.now target bias at }
         ensures before { result.before ≡ covered S.empty S.joined (take result.index self.now) }
@@ -130,7 +130,7 @@ impl<S: Summary, P: Load> SpliceTree<S, P> {
         bias: Bias,
         steps: &mut Steps,
     ) -> Place<'_, S, P>
-        // The index, what the splices before it cover, and the splice that stands there, if one does.
+        // The index, what the splices before it cover, and the splice that is there, if one is.
         ensures first { let at = result.index in
             IsFirstUpper S.empty S.joined M.number self.now target bias at }
         ensures before { result.before ≡ covered S.empty S.joined (take result.index self.now) }
@@ -150,7 +150,7 @@ impl<S: Summary, P: Load> SpliceTree<S, P> {
 
     /// The splice of this index, or the end.
     pub fn find_at(&self, index: u32, steps: &mut Steps) -> Place<'_, S, P>
-        // The index, what the splices before it cover, and the splice that stands there, if one does.
+        // The index, what the splices before it cover, and the splice that is there, if one is.
         ensures index { result.index ≡ min index (length self.now) }
         ensures before { result.before ≡ covered S.empty S.joined (take result.index self.now) }
         ensures splice { option_copied result.splice ≡ slice_get self.now result.index }
@@ -167,7 +167,7 @@ impl<S: Summary, P: Load> SpliceTree<S, P> {
         }
     }
 
-    /// Where a place of the lower sequence stands in the upper one.
+    /// Where a place of the lower sequence is in the upper one (*Splices*).
     pub fn to_upper<M: Count<S>>(&self, place: u32, bias: Bias, steps: &mut Steps) -> u32
         requires { to_upper bias (map (measured M.number) self.now) place < 2 ^ 32 }
         ensures place { result ≡ to_upper bias (map (measured M.number) self.now) place }
@@ -181,7 +181,7 @@ impl<S: Summary, P: Load> SpliceTree<S, P> {
         (start + within) as u32
     }
 
-    /// Where a place of the upper sequence stands in the lower one.
+    /// Where a place of the upper sequence is in the lower one (*Splices*).
     pub fn to_lower<M: Count<S>>(&self, place: u32, bias: Bias, steps: &mut Steps) -> u32
         requires { to_lower bias (map (measured M.number) self.now) place < 2 ^ 32 }
         ensures place { result ≡ to_lower bias (map (measured M.number) self.now) place }
@@ -195,8 +195,8 @@ impl<S: Summary, P: Load> SpliceTree<S, P> {
         (start + within) as u32
     }
 
-    /// Puts `fresh` in the place of the splices from place `from` to place `to`, and makes `gap` the gap of the one behind
-    /// them, where there is one.
+    /// Puts `fresh` in the place of the splices from place `from` to place `to`. The one after them, where there is
+    /// one, gets the gap `gap`.
     pub fn replace(
         &mut self,
         alloc: Global,
@@ -206,7 +206,7 @@ impl<S: Summary, P: Load> SpliceTree<S, P> {
         gap: S,
         steps: &mut Steps,
     ) -> Result<(), NoMemory>
-        // The places stand in the list, and the gap and both sides of it have sums after it.
+        // The places are in the list, and the gap and both sides of it have sums after it.
         requires order { from ≤ to }
         requires within { to ≤ length self.old }
         requires gap_fits { GapFits S.joined S.fits gap to self.old }
@@ -229,7 +229,7 @@ impl<S: Summary, P: Load> SpliceTree<S, P> {
             .replace(alloc, from, refill.end, refill.splices, steps)
     }
 
-    /// What takes the place of all up to place `to`, with the splice behind it, of which the gap changes.
+    /// What takes the place of all up to place `to`, with the splice after it, of which the gap changes.
     fn refill(
         &self,
         alloc: Global,
@@ -242,7 +242,7 @@ impl<S: Summary, P: Load> SpliceTree<S, P> {
         requires within { to ≤ length self.now }
         requires gap_fits { GapFits S.joined S.fits gap to self.now }
 
-        // What takes the place of all up to `end`: `fresh`, and the one behind them with its new gap, if there is one.
+        // What takes the place of all up to `end`: `fresh`, and the one after them with its new gap, if there is one.
         ensures refill { IfOk result (λ r.
             IsRefill self.now to fresh.items gap r.splices.items r.end) }
 
@@ -250,7 +250,7 @@ impl<S: Summary, P: Load> SpliceTree<S, P> {
         ensures counted { steps.old ≤ steps.new }
         ensures steps { TakesAtMost way (length self.now) steps.old steps.new }
     {
-        // The number of splices is a u32, and so is each place.
+        // For the proof: the number of splices is a u32, and so is each place.
         let _count = self.len();
         let mut splices = fresh;
         match self.splices.get(to, steps) {

@@ -1,4 +1,4 @@
--- What stands around a place that is inside an element: two bytes of the buffer, neighbours of one character or cluster.
+-- What is around a place that is inside an element: two bytes of the buffer, neighbours of one character or cluster.
 use Rattle.std.proofs.Common.{◌≡◌, ◌≢◌, ℕ, ◌+◌, ◌<◌, ◌≤◌, ◌==◌, ◌&&◌, ◌||◌, leb, ltb, Bool, true, false, if◌then◌else◌, List, [], ◌∷◌, ◌++◌, zero, suc, length, filter, map, take, drop, get_or, refl, sym, ap, ◌∙◌, subst, append_assoc, append-nil, inl, inr, ◌⊎◌, arith}
 use Rattle.std.specs.List.{flat_map}
 use Rattle.std.proofs.lemmas.Bool.{and_from, cases_Bool, cases_lt, eq-eqb, false≢true, lt-ltb, not_from_false, or_cases, or_left, or_right, true≢false}
@@ -140,7 +140,7 @@ module _ (r : Record) (lawful : IsLawful r) where
   pub all-right : (o : ℕ) → o ≤ length r.text → inside r.folds o ≡ false → (rest : List Token) × (all_tokens r lawful ≡ (before o ++ ins o) ++ token o ∷ rest)
   all-right o le out = let a = all-left o le out in (a.0, a.1 ∙ sym (append_assoc (before o) (ins o) (token o ∷ a.0)))
 
-  -- the token behind a place before an offset's inlays, whichever it is
+  -- the token after a place before an offset's inlays, whichever it is
   pub all-next : (o : ℕ) → o ≤ length r.text → inside r.folds o ≡ false → (u : Token) × (rest : List Token) × (all_tokens r lawful ≡ before o ++ u ∷ rest)
   all-next o le out = let a = all-left o le out in go (ins o) a.0 a.1 where
     go : (is : List Token) (rest : List Token) → all_tokens r lawful ≡ before o ++ (is ++ token o ∷ rest) → (u : Token) × (rest : List Token) × (all_tokens r lawful ≡ before o ++ u ∷ rest)
@@ -178,7 +178,7 @@ module _ (r : Record) (lawful : IsLawful r) where
         let c = inside-next r.folds m h in
         record { start = m; lt = omega arith; out = x; seen = c; is = next-out m (omega (arith, le)) x ∙ ap (λ (b : Bool). (before m ++ ins m) ++ (if b then Hidden m else Byte m (get_or full m 0)) ∷ []) c }
 
-  -- a place before or behind a placeholder is inside no element
+  -- a place before or after a placeholder is inside no element
   pub before-hidden : (xs : List Token) (o : ℕ) (rest : List Token) → all_tokens r lawful ≡ xs ++ Hidden o ∷ rest → is_inside_at r lawful xs ≡ false
   before-hidden xs o rest e = go (snoc xs) where
     go : (xs ≡ []) ⊎ ((ys : List Token) × (t : Token) × (xs ≡ ys ++ t ∷ [])) → is_inside_at r lawful xs ≡ false
@@ -196,7 +196,7 @@ module _ (r : Record) (lawful : IsLawful r) where
     go true = refl
     go false = refl
 
-  -- behind an offset's inlays a place is inside an element only where there is none
+  -- after an offset's inlays a place is inside an element only where there is none
   pub no-inlays : (o : ℕ) → o ≤ length r.text → inside r.folds o ≡ false → is_inside_at r lawful (before o ++ ins o) ≡ true → ins o ≡ []
   no-inlays o le out h = go (snoc (ins o)) where
     go : (ins o ≡ []) ⊎ ((ys : List Token) × (t : Token) × (ins o ≡ ys ++ t ∷ [])) → ins o ≡ []
@@ -293,7 +293,7 @@ module _ (r : Record) (lawful : IsLawful r) where
   boundary-end : (o : ℕ) → o ≡ length r.text → is_boundary r.text o ≡ true
   boundary-end o e = or_left (o == length r.text) _ (eq-eqb o (length r.text) e)
 
-  -- an offset is a boundary, unless a byte that goes on stands there
+  -- an offset is a boundary, unless a byte that goes on is there
   pub boundary-unless : (o : ℕ) → o ≤ length r.text → ((o < length r.text) → goes_on (get_or r.text o 0) ≡ true → ⊥) → is_boundary r.text o ≡ true
   boundary-unless o le none = go (cases_lt o (length r.text)) (cases_Bool (goes_on (get_or r.text o 0))) where
     go : (o < length r.text) ⊎ (length r.text ≤ o) → (goes_on (get_or r.text o 0) ≡ true) ⊎ (goes_on (get_or r.text o 0) ≡ false) → is_boundary r.text o ≡ true

@@ -1,4 +1,4 @@
--- What `back` answers: it doesn't fall as the spot rises, and it is on each side of what is shown there.
+-- What `back` returns: it doesn't fall as the spot rises, and it is on each side of what is shown there.
 use Rattle.std.proofs.Common.{◌≡◌, ℕ, ◌<◌, ◌≤◌, nat_le, Bool, true, List, unwrap_or, Option, Some, None, refl, ap, ◌∙◌, subst, inl, inr, ◌⊎◌, arith}
 use Rattle.std.specs.List.{Contains}
 use Rattle.std.proofs.lemmas.Bool.{cases_lt}
@@ -53,7 +53,7 @@ unfolding back
 back-picked r d Left = refl
 back-picked r d Right = refl
 
--- an offset that is shown at a spot is between the two answers for that spot
+-- an offset that is shown at a spot is between the two results for that spot
 pub back-own : (r : Record) (o : ℕ) (bias : Bias) → is_boundary r.text o ≡ true → is_open r o bias ≡ true →
     (back r (show r o bias) Left ≤ o) × (o ≤ back r (show r o bias) Right)
 back-own r o bias boundary opened =
@@ -69,7 +69,7 @@ comes_first o Right p Left r marked lt = lt
 comes_first o Right p Right r marked lt = omega (arith, lt)
 
 module _ (r : Record) (marked : IsMarked r) where
-  -- offsets that are shown at different spots stand in the order of these
+  -- offsets that are shown at different spots are in the order of these
   pub offsets-rise : (s t : Spot) (o p : ℕ) → spot_le s t ≡ true → IsShownAt r s o → IsShownAt r t p → (s ≡ t) ⊎ (o ≤ p)
   offsets-rise s t o p h x y = elim (cases_lt p o) [
     | inr le ↦ inr le

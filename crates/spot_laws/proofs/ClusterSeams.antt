@@ -50,7 +50,7 @@ past_cluster c cs a = go (cases_lt 0 a) where
         both_false true y e = e
         both_false false y e = refl
 
--- behind some clusters, the others decide
+-- after some clusters, the others decide
 pub inside-behind : (cs ds : List (List ℕ)) (a : ℕ) → is_inside (cs ++ ds) (length (concat cs) + a) ≡ is_inside ds a
 inside-behind [] ds a = let e : 0 + a ≡ a = omega arith in ap (is_inside ds) e
 inside-behind (c ∷ cs) ds a =

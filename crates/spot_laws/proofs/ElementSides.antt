@@ -20,7 +20,7 @@ abbrev pub HaveBytes : List Element → Type 0
 HaveBytes [] = Unit {0}
 HaveBytes (e ∷ es) = (0 < length e.text) × HaveBytes es
 
--- the element and the elements behind it, of which the byte is inside one
+-- the element and the elements after it, of which the byte is inside one
 within_cases : (e : Element) (es : List Element) (a : ℕ) → is_within (e ∷ es) a ≡ true →
     (0 < a) × ((a < length e.text) ⊎ ((length e.text ≤ a) × (is_within es (a - length e.text) ≡ true)))
 within_cases e es a h = go (is_within es (a - length e.text)) refl (cases_lt a (length e.text)) h where
@@ -50,7 +50,7 @@ at_zero : (es : List Element) (bias : Bias) → elements_before es 0 bias ≡ 0
 at_zero [] bias = refl
 at_zero (e ∷ es) bias = refl
 
--- the elements before a place behind the first
+-- the elements before a place after the first
 past_first : (e : Element) (es : List Element) (a : ℕ) (bias : Bias) → 0 < length e.text → elements_before (e ∷ es) (length e.text + a) bias ≡ 1 + elements_before es a bias
 past_first e es a Left h =
     let n = length e.text in
@@ -61,7 +61,7 @@ past_first e es a Right h =
     let at : n + a - n ≡ a = omega arith in
     behind_one n 1 (1 + elements_before es (n + a - n) Right) (n + a) (omega (arith, h)) (omega arith) ∙ ap {B = ℕ} (λ (k : ℕ). 1 + elements_before es k Right) at
 
--- as many elements stand before its start as Left counts
+-- as many elements are before its start as Left counts
 pub start_of-before : (es : List Element) (a : ℕ) (bias : Bias) → HaveBytes es → is_within es a ≡ true → elements_before es (start_of es a) bias ≡ elements_before es a Left
 start_of-before [] a bias some h = absurd (false≢true h)
 start_of-before (e ∷ es) a bias some h = go (within_cases e es a h) (start_of-before es (a - length e.text) bias some.1) where
@@ -109,7 +109,7 @@ zero_apart (e ∷ es) = refl
 next_less : (a n : ℕ) → n ≤ a → suc a - n ≡ suc (a - n)
 next_less a n h = omega (arith, h)
 
--- the byte behind one that is inside an element, where it is inside one too, has the same element
+-- the byte after one that is inside an element, where it is inside one too, has the same element
 pub start_of-next : (es : List Element) (a : ℕ) → is_within es a ≡ true → is_within es (suc a) ≡ true → start_of es (suc a) ≡ start_of es a
 start_of-next [] a h k = absurd (false≢true h)
 start_of-next (e ∷ es) a h k = go (within_cases e es a h) (within_cases e es (suc a) k) (start_of-next es (a - length e.text)) where

@@ -113,11 +113,11 @@ covered-inside folds o h = go (cases_Bool (inside folds o)) where
   go (inr x) = x
 
 module _ (inlays : List Inlay) (folds : List Fold) where
-  -- nothing stands at the offset, as inside a character
+  -- nothing is at the offset, as inside a character
   abbrev pub IsStill : ℕ → Type 0
   IsStill o = (inlays_at inlays o ≡ []) × FoldsAreStill folds o
 
-  -- nothing stands at a byte that goes on
+  -- nothing is at a byte that goes on
   abbrev pub AreStill : ℕ → List ℕ → Type 0
   AreStill o [] = Unit {0}
   AreStill o (b ∷ bs) = (goes_on b ≡ true → IsStill o) × AreStill (o + 1) bs
@@ -137,7 +137,7 @@ module _ (inlays : List Inlay) (folds : List Fold) where
   buffer_bytes o [] = []
   buffer_bytes o (b ∷ bs) = Byte o b ∷ buffer_bytes (o + 1) bs
 
-  -- what the bytes of a character behind its first show
+  -- what the bytes of a character after its first show
   shows-on : (o : ℕ) (bs cs : List ℕ) → GoOn bs → AreStill (o + 1) (bs ++ cs) → show_each (shown inlays folds) (o + 1) bs ≡ cond (covered folds o) [] (buffer_bytes (o + 1) bs)
   shows-on o [] cs h k = go (covered folds o) where
     go : (c : Bool) → [] ≡ cond {A = List Token} c [] []

@@ -41,7 +41,7 @@ module _ (r : Record) (lawful : IsLawful r) where
   unfolding is_open
   open-is o bias out apart = and_from (not (inside r.folds o)) (not (is_inside_at r lawful (to o bias))) (not_from_false (inside r.folds o) out) (not_from_false (is_inside_at r lawful (to o bias)) apart)
 
-  -- an open position of the same place between elements answers for another
+  -- an open position of the same place between elements serves for another
   answer : (o : ℕ) (b : Bias) (xs : List Token) → to o b ≡ xs → (p : ℕ) (c : Bias) (ys : List Token) → to p c ≡ ys →
       is_boundary r.text p ≡ true → inside r.folds p ≡ false → is_inside_at r lawful ys ≡ false → line_in ys ≡ line_in xs → elements_to ys c ≡ elements_to xs b → IsShownAt r (show r o b) p
   answer o b xs at p c ys at' boundary out apart line place = record {

@@ -42,7 +42,7 @@ module _ (r : Record) (lawful : IsLawful r) where
   pub utf8 : IsUtf8 r.text
   utf8 = lawful.entries.source.text.0
 
-  -- a byte that goes on stands at no boundary
+  -- a byte that goes on is at no boundary
   pub no_boundary : (k j : ℕ) → k < length r.text → goes_on (get_or r.text k 0) ≡ true → IsBoundary r.text j → j ≢ k
   no_boundary k j l g b e = not_both k (length r.text) (get_or r.text k 0) l g ((tells_boundaries r.text utf8 k).1 (subst (IsBoundary r.text) e b))
 

@@ -136,7 +136,7 @@ apart (x ∷ y ∷ xs) t u ys e = go (apart (y ∷ xs) t u ys e) (some (y ∷ xs
       ∙ glued-append one (bytes_of x) (bytes_of y ++ b.rest) b.others (texts (u ∷ ys))
       ∙ ap (λ (l : List (List ℕ)). glued one (bytes_of x) l ++ texts (u ∷ ys)) (sym b.is)
 
--- neighbours of one piece, of which the second isn't the last token, stand in one text
+-- neighbours of one piece, of which the second isn't the last token, are in one text
 record Meeting (xs : List Token) (t u v : Token) (ys : List Token) : Type 0 where
   before : List (List ℕ)
   front : List ℕ
@@ -237,7 +237,7 @@ snoc (x ∷ xs) = go (snoc xs) where
   go (inl e) = inr ([], x, ap (λ (l : List Token). x ∷ l) e)
   go (inr s) = inr (x ∷ s.0, s.1, ap (λ (l : List Token). x ∷ l) s.2)
 
--- behind a place that is inside no element stands the first byte of a character
+-- after a place that is inside no element is the first byte of a character
 pub next-first : (xs : List Token) (u v : Token) (ys : List Token) (tab b : ℕ) (bs : List ℕ) → bytes_of u ≡ b ∷ bs →
     AreUtf8 (texts (xs ++ (u ∷ (v ∷ ys)))) → is_within (elements_of (pieces_of (xs ++ (u ∷ (v ∷ ys)))) tab) (byte_behind xs) ≡ false → goes_on b ≡ false
 next-first xs u v ys tab b bs first utf8 h = go (snoc xs) where

@@ -27,7 +27,7 @@ module _ (r : Record) (lawful : IsLawful r) where
   abbrev pub all_tokens : List Token
   all_tokens = folded r.text r.inlays r.folds
 
-  -- the place behind the tokens is inside an element
+  -- the place after the tokens is inside an element
   abbrev pub is_inside_at : List Token → Bool
   is_inside_at xs = is_within (elements_at r (line_in xs)) (byte_in xs)
 
@@ -46,7 +46,7 @@ module _ (r : Record) (lawful : IsLawful r) where
       ∙ sym (append_assoc before ins (Byte n line_feed ∷ []))
       ∙ ap (λ (b : Bool). (if b then before else before ++ ins) ++ Byte n line_feed ∷ []) (sym (covered-inside r.folds n out))
 
-  -- the line of a place, and the token behind it
+  -- the line of a place, and the token after it
   record Here (xs : List Token) (u : Token) : Type 0 where
     after : List Token
     elements : elements_at r (line_in xs) ≡ elements_of (pieces_of (after_last is_break xs ++ u ∷ after)) r.tab
@@ -107,7 +107,7 @@ module _ (r : Record) (lawful : IsLawful r) where
       ap (λ es. is_within es (byte_in xs)) (k.elements ∙ ap (λ (l : List Token). elements_of (pieces_of l) r.tab) shape)
       ∙ end-seam line u r.tab (subst (λ (l : List Token). AreUtf8 (texts l)) shape k.good)
 
-  -- behind a place that is inside none stands the first byte of a character
+  -- after a place that is inside none is the first byte of a character
   pub seam-first : (xs : List Token) (u : Token) (rest : List Token) (b : ℕ) (bs : List ℕ) → all_tokens ≡ xs ++ u ∷ rest → is_break u ≡ false → bytes_of u ≡ b ∷ bs →
       is_inside_at xs ≡ false → goes_on b ≡ false
   seam-first xs u rest b bs e clear first out =

@@ -1,4 +1,5 @@
--- From an offset inside an element to the offsets at the element's start and end, byte by byte, and to a joined fold's end.
+-- From an offset inside an element to the offsets at the element's start and end, byte by byte, and to a joined fold's
+-- end.
 use Rattle.std.proofs.Common.{◌≡◌, ℕ, ◌+◌, ◌<◌, ◌≤◌, Bool, true, false, cond, List, [], ◌∷◌, ◌++◌, zero, suc, length, get_or, sym, ap, ◌∙◌, subst, append-nil, length-append, inl, inr, ◌⊎◌, arith}
 use Rattle.std.specs.List.{after_last, flat_map}
 use Rattle.std.proofs.lemmas.Bool.{cases_Bool, cases_lt, false≢true}
@@ -41,7 +42,7 @@ module _ (r : Record) (lawful : IsLawful r) where
   inside-next_byte : (xs : List Token) (o b : ℕ) → is_feed b ≡ false → is_inside_at r lawful (xs ++ Byte o b ∷ []) ≡ is_within (es_at xs) (suc (byte_in xs))
   inside-next_byte xs o b h = λ i. is_within (elements_at r (line-byte xs o b h i)) (next-byte xs o b h i)
 
-  -- behind the inlays of an offset that is inside an element stands what is before them
+  -- after the inlays of an offset that is inside an element is what is before them
   same_place : (o : ℕ) → ins r lawful o ≡ [] → before r lawful o ++ ins r lawful o ≡ before r lawful o
   same_place o e = ap (λ (l : List Token). before r lawful o ++ l) e ∙ append-nil (before r lawful o)
 

@@ -15,7 +15,7 @@ IsOpenAt r s o = (bias : Bias) × IsBoundary r.text o × IsTrue (is_open r o bia
 abbrev pub IsLeastAt : Record → Spot → ℕ → Type 0
 IsLeastAt r s o = IsOpenAt r s o × ((p : ℕ) → IsOpenAt r s p → o ≤ p)
 
--- and at or behind each of them
+-- and at or after each of them
 abbrev pub IsGreatestAt : Record → Spot → ℕ → Type 0
 IsGreatestAt r s o = IsOpenAt r s o × ((p : ℕ) → IsOpenAt r s p → p ≤ o)
 

@@ -11,12 +11,12 @@ ghost use Rattle.cell_units.specs.Lawful.{IsLawful};
 ghost use Rattle.spot_laws.specs.Laws.{IsGreatestAt, IsLeastAt, IsUpTo};
 ghost use Rattle.plain_rows.specs.Spots.{back, clip, is_open, show, spot_le};
 
-/// Laws of every lawful record: its offsets are shown in order, and each spot leads back to an offset. Call it where one of
-/// them is wanted; it does nothing.
+/// Laws of every lawful record: its offsets are shown in order, and each spot leads back to an offset. Call it where
+/// one of them is wanted; it does nothing.
 ///
-/// `Show` doesn't fall as offsets rise, shows Left at or before Right, and doesn't fall among open positions. `Back` answers
-/// the least and the greatest offset with an open position at the clipped spot, and so there always is one; it doesn't fall
-/// as spots rise, and a position that is open lies between the two offsets that its own spot leads back to.
+/// `Show` doesn't fall as offsets rise, shows Left at or before Right, and doesn't fall among open positions. `Back`
+/// returns the least and the greatest offset with an open position at the clipped spot, and so there always is one. It
+/// doesn't fall as spots rise. A position that is open lies between the two offsets that its own spot leads back to.
 pub fn show_laws()
     ensures show_rises { (r : Record) (o p : ℕ) (bias : Bias) → IsLawful r → o ≤ p → p ≤ length r.text →
         IsTrue (spot_le (show r o bias) (show r p bias)) }

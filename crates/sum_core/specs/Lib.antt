@@ -1,4 +1,5 @@
--- The words of contracts on sums, and on nodes that store them.
+-- What the crate promises
+
 -- sums that are ordered by one measure
 pub mod ByMeasures
 -- the laws of a count of 64 bits, for sums that are made of counts
@@ -7,7 +8,7 @@ pub mod Counts
 pub mod Lending
 -- the laws of measures, each a number that is read off a sum
 pub mod Measures
--- what a node stands for, and when it is lawful
+-- what a node holds, and when it is lawful
 pub mod Nodes
 -- the laws of sums and of dimensions, and the sum of a list
 pub mod Sums

@@ -1,4 +1,4 @@
--- What a node stands for, and when it is lawful.
+-- What a node holds, and when it is lawful.
 use Rattle.std.specs.Prelude.{◌≡◌, ℕ, zero, suc, ◌≤◌, ◌<◌, List, length, map, All}
 use Rattle.std.specs.List.{flat_map}
 use Rattle.sum_core.specs.Sums.{total}
@@ -7,8 +7,8 @@ use Rattle.sum_core.specs.declared.node.Entries.{Entries, out-Entries, fold-Entr
 use Rattle.sum_core.specs.declared.node.Entries.TheOpen.{Entries-F, Child-F, Node-F, Leaf, Inner}
 use Rattle.sum_core.specs.declared.node.Child.{Child, out-Child}
 
--- The entries of one node with their addresses left out: a leaf's items, or for each child the stored sum, the stored
--- count and what its node holds. Equal nodes may lie at different addresses, so clauses compare their contents.
+-- The entries of one node with their addresses left out. They are a leaf's items, or for each child the stored sum, the
+-- stored count and what its node holds. Equal nodes may lie at different addresses, so clauses compare their contents.
 pub data Contents (T S E : Type 0) : Type 0 where
   leaf : List T → Contents T S E
   inner : List (S × ℕ × E) → Contents T S E
@@ -64,7 +64,8 @@ module _ {T S : Type 0} where
   items_of n = items_in (entries_of n)
 
   module _ (empty : S) (joined : S → S → S) (summary : T → S) where
-    -- A child with a node that is P and has at least `least` entries. The stored sum and count are those of the items below.
+    -- A child with a node that is P and has at least `least` entries. The stored sum and count are those of the items
+    -- below.
     pub record IsChild (P : Entries T S → Type 0) (least : ℕ) (c : S × ℕ × Entries T S) : Type 0 where
       pub below : P c.2
       pub wide : least ≤ width (contents c.2)

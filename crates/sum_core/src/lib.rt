@@ -1,9 +1,9 @@
 //! The nodes of a sum tree: a persistent B+ tree whose inner nodes store the sum and the number of the items below.
 //!
 //! Several trees may share a node. [`Node::alter`] changes it for one holder alone, and every other holder keeps the
-//! entries that it had. A node is made by [`Node::make`], read by [`Node::entries`] and changed by [`Node::alter`], each of
-//! which counts one step on the counter that it is handed, and in no other way. So a bound on the counter is a bound
-//! on the nodes that were made or opened. `IsLawful` and `IsRoot` of `specs/Nodes.antt` say when a node is well formed.
+//! entries that it had. A node is made by [`Node::make`], read by [`Node::entries`] and changed by [`Node::alter`], and
+//! in no other way. Each of these counts one step on the given counter. So a bound on the counter is a bound on the
+//! nodes that were made or opened. `IsLawful` and `IsRoot` of `specs/Nodes.antt` say when a node is well formed.
 #![tactic(auto)]
 
 mod laws;

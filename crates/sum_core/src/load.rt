@@ -6,7 +6,7 @@ use std::alloc::Global;
 
 /// What is carried beside a place, as a mark's or a splice's.
 pub trait Load: Drop {
-    /// An equal load. The only refusal is want of memory.
+    /// An equal load. The only error is `NoMemory`.
     fn copy(&self, alloc: Global) -> Result<Self, NoMemory>
         ensures { IfOk result (λ c. c ≡ self.now) };
 }

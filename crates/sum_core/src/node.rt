@@ -35,7 +35,7 @@ pub struct Child<T: Item> {
 }
 
 impl<T: Item> Node<T> {
-    /// A new node with these entries, in one step. `Err` is want of memory, and hands the entries back.
+    /// A new node with these entries, in one step. `Err` means out of memory, and hands the entries back.
     pub fn make(
         alloc: Global,
         entries: Entries<T>,
@@ -72,8 +72,9 @@ impl<T: Item> Node<T> {
         })
     }
 
-    /// Lends the entries for writing, in one step: of this node itself where nobody else holds it, and else of a copy
-    /// that takes its place. Every other holder keeps what it had. `Err` is want of memory for the copy.
+    /// Lends the entries for writing, in one step. They are those of this node itself where nobody else holds it, and
+    /// else of a copy that takes its place. Every other holder keeps what it had. `Err` means that there is no memory
+    /// for the copy.
     pub fn alter(&mut self, alloc: Global, steps: &mut Steps) -> Result<&mut Entries<T>, NoMemory>
         ensures* writes_back { sem 𝓛 (LendsEntries T.row T.Sum.row self.entry result) }
         ensures value { IfOk result (λ e. contents e.now ≡ contents (entries_of self.old)) }

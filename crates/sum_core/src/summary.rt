@@ -39,7 +39,7 @@ pub trait Item: Drop {
     fn sum(&self) -> Self::Sum
         ensures { result ≡ summary self.now };
 
-    /// An equal item. The only refusal is want of memory.
+    /// An equal item. The only error is `NoMemory`.
     fn copy(&self, alloc: Global) -> Result<Self, NoMemory>
         ensures { IfOk result (λ c. c ≡ self.now) };
 }

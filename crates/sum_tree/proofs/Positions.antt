@@ -1,4 +1,4 @@
--- The first item that passes a test, of lists one behind the other and of the items below children.
+-- The first item that passes a test, of lists one after the other and of the items below children.
 use Rattle.std.proofs.Common.{◌≡◌, ℕ, ◌+◌, ◌-◌, ◌<◌, ◌≤◌, suc, Bool, true, false, cond, not, nat_lt, None, Some, List, [], ◌∷◌, ◌++◌, ◌||◌, ◌∙◌, length, map, take, drop, get_or, refl, ap, sym, inl, inr, arith, length-append}
 use Rattle.std.specs.List.{list_any, position, position_or_len}
 use Rattle.std.specs.Prelude.{All}
@@ -93,7 +93,7 @@ module _ {T S : Type 0} where
           each-some below cs (λ i d lt. h (suc i) d (omega (arith, lt))),
         )
 
-    -- so behind a child there are at least as many items as children
+    -- so after a child there are at least as many items as children
     pub many-below : (below : ℕ) (children : List (Child T S)) (i : ℕ) (c : Child T S) → i < length children → c ≡ get_or children i c →
         IsChildList empty joined summary (IsLawful empty joined summary below) 6 (map child_value children) →
         length (items_under (take i (map child_value children))) + length (items_in (child_value c).2) + (length children - (i + 1)) ≤ length (items_under (map child_value children))

@@ -40,7 +40,7 @@ set-apart xs i y lt =
     ∙ ap (λ l. l ++ drop i (set xs i y)) (take-set xs i y)
     ∙ ap (λ l. take i xs ++ l) (drop-set xs i y lt)
 
--- one element more behind it, and another one in its place
+-- one element more after it, and another one in its place
 pub set-insert : {X : Type 0} (xs : List X) (i : ℕ) (x y : X) → i < length xs → set (insert xs (i + 1) y) i x ≡ take i xs ++ (x ∷ y ∷ drop (i + 1) xs)
 set-insert xs i x y lt =
     let front = take (i + 1) xs in
@@ -77,7 +77,7 @@ module _ {T S : Type 0} where
     pub low : offset ≤ to
     pub high : to ≤ length (items_under (take (i + 1) (map child_value children)))
 
-  -- The items below the children are those before child k, those below it, and those behind.
+  -- The items below the children are those before child k, those below it, and those after it.
   pub record IsBelow (children : List (Child T S)) (i from to offset : ℕ) (k : Child T S) (new : List T) : Type 0 where
     pub split : items_below children ≡ items_under (take i (map child_value children)) ++ (items_in (child_value k).2 ++ items_under (drop (i + 1) (map child_value children)))
     pub splice_is : splice (items_below children) from to new ≡ items_under (take i (map child_value children)) ++ (splice (items_in (child_value k).2) (from - offset) (to - offset) new ++ items_under (drop (i + 1) (map child_value children)))

@@ -1,4 +1,4 @@
--- Where a cursor stands, and what it seeks.
+-- Where a cursor is, and what it seeks.
 use Rattle.std.specs.Prelude.{◌≡◌, ℕ, zero, suc, ◌+◌, ◌<◌, ◌≤◌, Bool, true, false, List, length, take, Option, None}
 use Rattle.std.specs.List.{slice_get}
 use Rattle.std.specs.Ordering.{is_lt, is_le}
@@ -7,7 +7,8 @@ use Rattle.cell_units.specs.declared.place.Bias.{Bias}
 use Rattle.cell_units.specs.declared.place.Bias.TheVariants.{Left, Right}
 use Rattle.sum_core.specs.Sums.{total}
 
--- A cursor on a list. Its place is 0 before the first item, i + 1 on item i, and one more than the number of items past the last.
+-- A cursor on a list. Its place is 0 before the first item, i + 1 on item i, and one more than the number of items past
+-- the last.
 pub record Standing (T : Type 0) : Type 0 where
   pub items : List T
   pub place : ℕ

@@ -1,4 +1,4 @@
--- What a test of items may tell from a sum.
+-- What a test of items may learn from a sum.
 use Rattle.std.specs.Prelude.{◌≡◌, Bool, false, List}
 use Rattle.std.specs.List.{list_any}
 use Rattle.sum_core.specs.Sums.{total}

@@ -68,7 +68,8 @@ impl<'a, T: Item, D: Dimension<T::Sum>> Cursor<'a, T, D> {
         }
     }
 
-    /// Goes to the first item whose end is at least the target (Left) or greater than it (Right), or past the last item.
+    /// Goes to the first item whose end is at least the target (Left) or greater than it (Right), or past the last
+    /// item.
     pub fn seek(&mut self, target: D, bias: Bias, steps: &mut Steps)
         ensures items { self.new.items ≡ self.old.items }
         ensures sought { IsSought T.Sum.empty T.Sum.joined T.summary D.measure D.cmp self.old.items
@@ -119,7 +120,7 @@ impl<'a, T: Item, D: Dimension<T::Sum>> Cursor<'a, T, D> {
         }
     }
 
-    /// Stands on what was found, or past the last item.
+    /// Moves to what was found, or past the last item.
     fn settle(&mut self, found: Option<Found<'a, T, D>>)
         requires { IfSome found
             (λ f. IsItem T.Sum.empty T.Sum.joined T.summary D.measure self.old.items f) }
@@ -144,7 +145,8 @@ impl<'a, T: Item, D: Dimension<T::Sum>> Cursor<'a, T, D> {
         }
     }
 
-    /// Where the cursor stands: 0 before the first item, i + 1 on item i, and one more than the number of items past the last.
+    /// Where the cursor is. It is 0 before the first item, i + 1 on item i, and one more than the number of items past
+    /// the last.
     pub fn place(&self) -> usize
         ensures { result ≡ self.now.place }
     {

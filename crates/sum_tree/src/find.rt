@@ -15,12 +15,12 @@ pub fn find_child<T: Item>(children: &[Child<T>], below: usize, at: usize) -> (u
     requires within { at ≤ length (items_below children.now) }
     requires small { length (items_below children.now) < 2 ^ 32 }
 
-    // The child, and how many items stand before it.
+    // The child, and how many items are before it.
     ensures index { result.0 < length children.now }
     ensures offset { result.1 ≡
         length (items_under (take result.0 (map child_value children.now))) }
 
-    // The place is behind the start of the child, or at it where that is 0, and no further than its end.
+    // The place is after the start of the child, or at it where that is 0, and no further than its end.
     ensures low { result.1 ≤ at }
     ensures not_at_start { 0 < at → result.1 < at }
     ensures high { at ≤ length (items_under (take (result.0 + 1) (map child_value children.now))) }

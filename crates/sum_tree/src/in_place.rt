@@ -22,8 +22,10 @@ pub struct Span {
 /// Why items were not put in place. The tree is as it was.
 #[derive(Clone, Copy)]
 pub enum PutError {
-    /// Not one leaf holds all items of the span, or it would be too full or too empty. What was to be put stays as it was.
+    /// Not one leaf holds all items of the span, or it would be too full or too empty. What was to be put stays as it
+    /// was.
     NoRoom,
+    /// Out of memory.
     NoMemory,
 }
 
@@ -38,8 +40,12 @@ impl From<NoMemory> for PutError {
     }
 }
 
-/// Puts `items` in the place of those in the span, which one leaf has to hold. With them it may not be less than half full,
-/// where it is no root. Where it would be too full and its parent has room for one child more, two leaves take its place.
+/// Puts `items` in the place of those in the span, which one leaf has to hold. With them it may not be less than half
+/// full, where it is no root. Where it would be too full and its parent has room for one child more, two leaves take
+/// its place.
+///
+/// `NoRoom` where no one leaf holds the span, or that leaf would be too full or too empty. Then and at `NoMemory` the
+/// tree stays as it was.
 pub fn put_in_tree<T: Item>(
     alloc: Global,
     tree: &mut Tree<T>,
@@ -47,7 +53,7 @@ pub fn put_in_tree<T: Item>(
     items: &mut Vec<T>,
     steps: &mut Steps,
 ) -> Result<(), PutError>
-    // The span lies in the tree, and the items may stand in its place.
+    // The span lies in the tree, and the items may take its place.
     requires tree { IsLawfulTree T.Item T.Sum.Summary tree.old }
     requires can { CanRefill T.Item T.Sum.Summary (items_of tree.old.node) span items.old.items }
 
@@ -163,8 +169,8 @@ fn put_in_children<T: Item>(
     Ok(sum_children(children, height - 1))
 }
 
-/// The same without the sum: in the child that the span's end lies in or at the end of. Two leaves take the place of one
-/// that would be too full.
+/// The same without the sum: in the child that the span's end lies in or at the end of. Two leaves take the place of
+/// one that would be too full.
 #[cycle(put)]
 fn put_below<T: Item>(
     alloc: Global,
@@ -223,7 +229,7 @@ fn takes_two<T: Item>(leaf: &Child<T>, span: Span, count: usize) -> bool
     count <= 2 * MOST && MOST < kept + count && kept + count <= 2 * MOST
 }
 
-/// Two leaves with the items of one, where `items` stand in the place of those in the span.
+/// Two leaves with the items of one, where `items` replace those in the span.
 fn refill_in_two<T: Item>(
     alloc: Global,
     leaf: &Node<T>,
@@ -231,7 +237,7 @@ fn refill_in_two<T: Item>(
     items: &mut Vec<T>,
     steps: &mut Steps,
 ) -> Result<(Child<T>, Child<T>), NoMemory>
-    // A leaf in which the items may stand, and enough of them for two that are no roots.
+    // A leaf that may have the items, and enough of them for two that are no roots.
     requires leaf { IsLawfulNode T.Item T.Sum.Summary 0 leaf.now }
     requires can { CanRefill T.Item T.Sum.Summary (items_of leaf.now) span items.old.items }
     requires enough { 12 ≤ length (refilled (items_of leaf.now) span items.old.items) }
@@ -330,8 +336,8 @@ fn write_over<T: Item>(leaf: &mut Vec<T>, span: Span, items: &mut Vec<T>) -> Res
     Ok(())
 }
 
-/// The same where the room is reserved. A span that has more than the items loses its last ones first. Then, from the last
-/// item on, those beyond the span are inserted behind it, and the others are written over it.
+/// The same where the room is reserved. A span that has more than the items loses its last ones first. Then, from the
+/// last item on, those beyond the span are inserted after it, and the others are written over it.
 fn write_reserved<T: Item>(leaf: &mut Vec<T>, span: Span, items: &mut Vec<T>)
     requires order { span.from ≤ span.to }
     requires within { span.to ≤ length leaf.old.items }

@@ -17,7 +17,7 @@ pub fn meld_level<T: Item>(
     height: usize,
     steps: &mut Steps,
 ) -> Result<Vec<Child<T>>, NoMemory>
-    // Two roots, of which the items together may stand in one tree.
+    // Two roots, of which the items together may be in one tree.
     requires left { IsLawfulNode T.Item T.Sum.Summary height left.now }
     requires right { IsLawfulNode T.Item T.Sum.Summary height right.now }
     requires fits { SumFits T.Item T.Sum.Summary (items_of left.now ++ items_of right.now) }
@@ -53,7 +53,7 @@ pub fn meld<T: Item>(
     right_height: usize,
     steps: &mut Steps,
 ) -> Result<Vec<Child<T>>, NoMemory>
-    // Two roots, of which the items together may stand in one tree.
+    // Two roots, of which the items together may be in one tree.
     requires left { IsLawfulRoot T.Item T.Sum.Summary left_height left.now }
     requires right { IsLawfulRoot T.Item T.Sum.Summary right_height right.now }
     requires fits { SumFits T.Item T.Sum.Summary (items_of left.now ++ items_of right.now) }

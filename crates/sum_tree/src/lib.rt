@@ -1,11 +1,10 @@
 //! A sum tree: a persistent list that knows the sum of its items, and finds places in it by their sums.
 //!
-//! A [`SumTree`] is a B+ tree of the nodes of `sum_core`, and is seen as the list of its items. Copies share their nodes. A
-//! call that is refused for want of memory leaves the tree as it was. A few items are written in place of others, or of none,
-//! where one leaf holds those and has room, or two leaves may take its place. All else of adding, joining and cutting stands on
-//! one way to join two trees and one way to cut a tree in two.
-//! A [`Cursor`] is seen as the list and a place in it. Each call says how many nodes it opens or makes at most, on the
-//! counter that it is handed.
+//! A [`SumTree`] is a B+ tree of the nodes of `sum_core`, and is seen as the list of its items. Copies share their
+//! nodes. A call that is out of memory leaves the tree as it was. A few items are written in place of others, or of
+//! none, where one leaf holds those and has room. Or two leaves may take its place. All else of adding, joining and
+//! cutting depends on two things: joining two trees, and cutting a tree in two. A [`Cursor`] is seen as the list and a
+//! place in it. Each call says how many nodes it opens or makes at most, on the given counter.
 #![tactic(auto)]
 
 mod cursor;

@@ -28,7 +28,7 @@ impl<S: Summary> Measure<S> for Nothing {
     }
 }
 
-/// Where a place lies in a list: how many items stand before it, what their sum is, and which item it is in.
+/// Where a place lies in a list: how many items are before it, what their sum is, and which item it is in.
 #[derive(Drop)]
 pub struct Found<'a, T: Item> {
     pub index: u32,
@@ -37,7 +37,8 @@ pub struct Found<'a, T: Item> {
 }
 
 impl<'a, T: Item> Path<'a, T> {
-    /// The first item whose end, by the measure `M`, is at least the target (Left) or greater than it (Right), or the end.
+    /// The first item whose end, by the measure `M`, is at least the target (Left) or greater than it (Right), or the
+    /// end.
     pub fn find_by<M: Measure<T::Sum>>(
         self,
         target: u64,
@@ -47,7 +48,7 @@ impl<'a, T: Item> Path<'a, T> {
         // The path leads through its tree.
         requires path { IsWay T.Item T.Sum.Summary self }
 
-        // Where the item stands, and the sum of what is before it.
+        // Where the item is, and the sum of what is before it.
         ensures first { IsFirst T.Sum.empty T.Sum.joined T.summary M.number
             (items_seen self.entry.root) target bias result.index }
         ensures before { result.before ≡
@@ -82,7 +83,7 @@ impl<'a, T: Item> Path<'a, T> {
         // The path leads through its tree.
         requires path { IsWay T.Item T.Sum.Summary self }
 
-        // Where the item stands, and the sum of what is before it.
+        // Where the item is, and the sum of what is before it.
         ensures index { result.index ≡ min index (length (items_seen self.entry.root)) }
         ensures before { result.before ≡
             sum_of T.Item T.Sum.Summary (take result.index (items_seen self.entry.root)) }
@@ -113,7 +114,7 @@ impl<'a, T: Item> Path<'a, T> {
 impl<T: Item> SumTree<T> {
     /// The item of this index and the sum of those before it, or the end and the sum of all.
     pub fn find_at(&self, index: u32, steps: &mut Steps) -> Found<'_, T>
-        // Where the item stands, and the sum of what is before it.
+        // Where the item is, and the sum of what is before it.
         ensures index { result.index ≡ min index (length self.now) }
         ensures before { result.before ≡
             total T.Sum.empty T.Sum.joined T.summary (take result.index self.now) }
@@ -126,14 +127,15 @@ impl<T: Item> SumTree<T> {
         self.path().find_at(index, steps)
     }
 
-    /// The first item whose end, by the measure `M`, is at least the target (Left) or greater than it (Right), or the end.
+    /// The first item whose end, by the measure `M`, is at least the target (Left) or greater than it (Right), or the
+    /// end.
     pub fn find<M: Measure<T::Sum>>(
         &self,
         target: u64,
         bias: Bias,
         steps: &mut Steps,
     ) -> Found<'_, T>
-        // Where the item stands, and the sum of what is before it.
+        // Where the item is, and the sum of what is before it.
         ensures first { IsFirst T.Sum.empty T.Sum.joined T.summary M.number self.now target bias
             result.index }
         ensures before { result.before ≡

@@ -27,7 +27,7 @@ pub fn sum_items<T: Item>(items: &[T]) -> T::Sum
 
 /// The sum and the number of the items below the children.
 pub fn sum_children<T: Item>(children: &[Child<T>], below: usize) -> (T::Sum, usize)
-    // Children of the height `below`, of which the items may stand in one tree.
+    // Children of the height `below`, of which the items may be in one tree.
     requires children { AreChildren T.Item T.Sum.Summary below children.now }
     requires fits { SumFits T.Item T.Sum.Summary (items_below children.now) }
     requires small { length (items_below children.now) < 2 ^ 32 }
@@ -78,7 +78,7 @@ pub fn make_inner<T: Item>(
     height: usize,
     steps: &mut Steps,
 ) -> Result<Child<T>, NoMemory>
-    // Children of the height below, no more than one node holds, of which the items may stand in one tree.
+    // Children of the height below, no more than one node holds, of which the items may be in one tree.
     requires is_inner { 1 ≤ height }
     requires children { AreChildren T.Item T.Sum.Summary (height - 1) children.items }
     requires room { vec_len children ≤ 12 }
@@ -122,8 +122,8 @@ fn two<T: Item>(alloc: Global, left: Child<T>, right: Child<T>) -> Result<Vec<Ch
     Ok(pieces)
 }
 
-/// The first half of a list, and what lies behind it. The first half gives back the room that it doesn't use: a tree that
-/// grows at its end would else keep half of its memory empty.
+/// The first half of a list, and what comes after it. The first half gives back the room that it doesn't use. Otherwise
+/// a tree that grows at its end would keep half of its memory empty.
 fn halves<T: Drop>(list: Vec<T>) -> Result<(Vec<T>, Vec<T>), NoMemory>
     ensures joined { IfOk result (λ h. list.items ≡ h.0.items ++ h.1.items) }
     ensures front { IfOk result (λ h. vec_len h.0 ≡ vec_len list / 2) }
@@ -195,7 +195,7 @@ pub fn pack_children<T: Item>(
     height: usize,
     steps: &mut Steps,
 ) -> Result<Vec<Child<T>>, NoMemory>
-    // Children of the height below, no more than two nodes hold, of which the items may stand in one tree.
+    // Children of the height below, no more than two nodes hold, of which the items may be in one tree.
     requires is_inner { 1 ≤ height }
     requires children { AreChildren T.Item T.Sum.Summary (height - 1) children.items }
     requires room { vec_len children ≤ 24 }
@@ -230,7 +230,7 @@ pub fn pack_joined<T: Item>(
     height: usize,
     steps: &mut Steps,
 ) -> Result<Vec<Child<T>>, NoMemory>
-    // Children of the height below, no more than two nodes hold, of which the items may stand in one tree.
+    // Children of the height below, no more than two nodes hold, of which the items may be in one tree.
     requires is_inner { 1 ≤ height }
     requires front { AreChildren T.Item T.Sum.Summary (height - 1) front.items }
     requires back { AreChildren T.Item T.Sum.Summary (height - 1) back.items }

@@ -8,7 +8,7 @@ ghost use Rattle.sum_core.specs.Nodes.{IsChild, IsChildList, IsLawful, entries_o
 use cell_units::Steps;
 use sum_core::{Child, Entries, Item, Node};
 
-/// A test of items, which tells from the sum of several whether it is worth while to look at each.
+/// A test of items, which says from the sum of several whether any of them may pass.
 pub trait Probe<T: Item> {
     // whether the item passes
     ghost is_passed: { Self → T → Bool };
@@ -74,7 +74,7 @@ fn before_under<T: Item, Q: Probe<T>>(
     before
 }
 
-/// The same of the items below a child, which isn't opened where its sum tells that none passes.
+/// The same of the items below a child, which isn't opened where its sum says that none passes.
 #[cycle(search)]
 fn before_in<T: Item, Q: Probe<T>>(
     child: &Child<T>,

@@ -1,4 +1,4 @@
-//! Cutting a tree in two.
+//! Cutting a tree in two at a place, and joining what lies beside a path.
 ghost use Rattle.std.specs.Prelude.{◌≡◌, ◌+◌, ◌*◌, ◌-◌, ◌^◌, ◌<◌, ◌≤◌, ◌++◌, IfOk, map, length, vec_len, take, drop};
 ghost use Rattle.sum_core.specs.Nodes.{items_of};
 ghost use Rattle.sum_tree.specs.inside.Nodes.{AreChildren, IsCutNode, IsLawfulRoot, IsLawfulTree, IsTreeHolding, SumFits, items_below};
@@ -67,7 +67,7 @@ pub fn join_before<T: Item>(
     requires low { below < 2 ^ 32 }
     requires tree { IsLawfulTree T.Item T.Sum.Summary tree }
 
-    // Their items together may stand in one tree.
+    // Their items together may be in one tree.
     requires fits { SumFits T.Item T.Sum.Summary (items_below children.items ++
         items_of tree.node) }
     requires small { length (items_below children.items ++ items_of tree.node) < 2 ^ 32 }
@@ -103,7 +103,7 @@ pub fn join_after<T: Item>(
     requires low { below < 2 ^ 32 }
     requires tree { IsLawfulTree T.Item T.Sum.Summary tree }
 
-    // Their items together may stand in one tree.
+    // Their items together may be in one tree.
     requires fits { SumFits T.Item T.Sum.Summary (items_of tree.node ++
         items_below children.items) }
     requires small { length (items_of tree.node ++ items_below children.items) < 2 ^ 32 }

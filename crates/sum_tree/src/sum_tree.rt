@@ -22,7 +22,7 @@ use std::marker::Model;
 use sum_core::{Dimension, Item, Summary};
 
 /// A list of fewer than 2^32 items that knows their sum. Copies share what they have in common, and no later change of
-/// the one is seen by another. A call that is refused for want of memory leaves the list as it was.
+/// the one is seen by another. A call that is out of memory leaves the list as it was.
 ///
 /// The bounds on the steps of a call are given for each h such that n is less than 2 * 6^(h + 1). The least such h
 /// is the greatest height of a tree of n items.
@@ -49,7 +49,7 @@ impl<T: Item> Model for SumTree<T> {
 }
 
 impl<T: Item> SumTree<T> {
-    /// An empty list. It takes no memory.
+    /// An empty list. It allocates nothing.
     pub fn new(alloc: Global) -> SumTree<T>
         ensures { result ≡ [] }
     {
@@ -110,8 +110,9 @@ impl<T: Item> SumTree<T> {
         }
     }
 
-    /// The place of the first item that passes, and `None` exactly where none does. A node is opened only where the probe
-    /// says of its sum that an item may pass, and at most once; there are fewer nodes than items but for a lone root.
+    /// The place of the first item that passes, and `None` exactly where none does. A node is opened only where the
+    /// probe says of its sum that an item may pass, and at most once. There are fewer nodes than items but for a lone
+    /// root.
     pub fn position<Q: Probe<T>>(&self, probe: &Q, steps: &mut Steps) -> Option<u32>
         ensures place { result ≡ position (Q.is_passed probe.now) self.now }
         ensures counted { steps.old ≤ steps.new }
@@ -258,7 +259,7 @@ impl<T: Item> SumTree<T> {
     ) -> Result<SumTree<T>, NoMemory>
         requires { at ≤ length self.old }
 
-        // What stays, and what is answered.
+        // What stays, and what is returned.
         ensures ok { OnOk result (self.new ≡ take at self.old) }
         ensures tail { IfOk result (λ t. t ≡ drop at self.old) }
         ensures err { OnErr result (self.new ≡ self.old) }
@@ -287,7 +288,7 @@ impl<T: Item> SumTree<T> {
         items: Vec<T>,
         steps: &mut Steps,
     ) -> Result<(), NoMemory>
-        // The places stand in the list, and its sum and length after it fit.
+        // The places are in the list, and its sum and length after it fit.
         requires order { from ≤ to }
         requires within { to ≤ length self.old }
         requires fits { T.Sum.fits
@@ -363,7 +364,7 @@ impl<T: Item> SumTree<T> {
         middle: SumTree<T>,
         steps: &mut Steps,
     ) -> Result<(), NoMemory>
-        // The places stand in the list, and its sum and length after it fit.
+        // The places are in the list, and its sum and length after it fit.
         requires order { from ≤ to }
         requires within { to ≤ length self.old }
         requires fits { T.Sum.fits
@@ -400,7 +401,7 @@ impl<T: Item> SumTree<T> {
         Path::new(self.alloc, root)
     }
 
-    /// A cursor that stands before the first item, with places and sums in the dimension `D`.
+    /// A cursor before the first item, with places and sums in the dimension `D`.
     pub fn cursor<D: Dimension<T::Sum>>(&self) -> Cursor<'_, T, D>
         ensures items { result.items ≡ self.now }
         ensures place { result.place ≡ 0 }

@@ -54,7 +54,7 @@ pub fn raise<T: Item>(
     height: usize,
     steps: &mut Steps,
 ) -> Result<Tree<T>, NoMemory>
-    // Pieces of one height, of which the items may stand in one tree.
+    // Pieces of one height, of which the items may be in one tree.
     requires pieces { AreRaisable T.Item T.Sum.Summary height pieces.items }
     requires low { height < 2 ^ 32 }
     requires fits { SumFits T.Item T.Sum.Summary (items_below pieces.items) }
@@ -86,7 +86,7 @@ pub fn join<T: Item>(
     right: &Tree<T>,
     steps: &mut Steps,
 ) -> Result<Tree<T>, NoMemory>
-    // Two trees, of which the items together may stand in one.
+    // Two trees, of which the items together may be in one.
     requires left { IsLawfulTree T.Item T.Sum.Summary left.now }
     requires right { IsLawfulTree T.Item T.Sum.Summary right.now }
     requires fits { SumFits T.Item T.Sum.Summary (items_of left.now.node ++
@@ -118,14 +118,15 @@ pub fn join<T: Item>(
     raise(alloc, pieces, left.height.max(right.height), steps)
 }
 
-/// Takes the last `count` items off the list and makes a tree of them, by halves. Each item is moved at most three times.
+/// Takes the last `count` items off the list and makes a tree of them, by halves. Each item is moved at most three
+/// times.
 pub fn build_last<T: Item>(
     alloc: Global,
     items: &mut Vec<T>,
     count: usize,
     steps: &mut Steps,
 ) -> Result<Tree<T>, NoMemory>
-    // There are so many items, and they may stand in one tree.
+    // There are so many items, and they may be in one tree.
     requires within { count ≤ vec_len items.old }
     requires fits { SumFits T.Item T.Sum.Summary items.old.items }
     requires small { vec_len items.old < 2 ^ 32 }

@@ -87,7 +87,7 @@ replaced_leads None tab old new (Some b) (Some s) follow made =
 pub row_within : (s : Source) → IsWellFormed s → (place : ℕ) → row_of (shown_text s) place < length (shown_lines s)
 row_within s w place = row-lt s w place
 
--- the first line that is met isn't behind the last one, before and after
+-- the first line that is met isn't after the last one, before and after
 pub met_rises : (old new : List ℕ) (start end count : ℕ) → start ≤ end → LiesWithin old new start end count
     → (row_of old start ≤ row_of old end) × (row_of old start ≤ row_of new (start + count))
 met_rises old new start end count ordered h = (row_of-le old start end ordered, omega (arith, h.first, row_of-le new start (start + count) (omega arith)))

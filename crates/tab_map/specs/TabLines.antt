@@ -44,8 +44,8 @@ pub record LiesWithin (old new : List ℕ) (start end count : ℕ) : Type 0 wher
   pub reaches : start + count ≤ length new
   pub first : row_of new start ≡ row_of old start
 
--- The replacement lies within the texts of both layers and begins in lines of one number, and the lines that it doesn't meet
--- have pieces of the same texts in both.
+-- The replacement lies within the texts of both layers and begins in lines of one number. The lines that it doesn't
+-- meet have pieces of the same texts in both.
 abbrev pub LinesFollow : Source → Source → Option Shift → Type 0
 LinesFollow old new None = line_texts new ≡ line_texts old
 LinesFollow old new (Some s) =
@@ -76,7 +76,7 @@ abbrev pub AreReplaced : Option ℕ → Source → Source → Option Shift → O
 AreReplaced None old new below lines = AreMet old new below lines
 AreReplaced (Some tab) old new below lines = AreAll old new lines
 
--- the map shows the new layer, and the answer leads from the lines of its last snapshot to those of this one
+-- the map shows the new layer, and what is returned leads from the lines of its last snapshot to those of this one
 pub record IsSynced (old : Tabbed) (new : Source) (below : Option Shift) (after : Tabbed) (lines : List (List Element)) (answer : Option Shift) : Type 0 where
   pub map : after ≡ record { source = new; tab = old.tab; before = None }
   pub lines_are : lines ≡ lines_at new old.tab

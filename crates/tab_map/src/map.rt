@@ -14,7 +14,8 @@ use std::marker::Model;
 
 /// What a snapshot is made of: a layer, and a tab size of 1 to 16 cells.
 ///
-/// It is seen as the layer of its last snapshot, the tab size, and, where that was set since, the tab size of that snapshot.
+/// It is seen as the layer of its last snapshot, the tab size, and, where that was set since, the tab size of that
+/// snapshot.
 pub struct TabMap<L: Layer> {
     layer: L,
     tab: u32,
@@ -49,7 +50,7 @@ fn line_of<L: Layer>(layer: &L, place: u32) -> u32
     ensures line { result ≡ row_of (shown_text (L.source layer.now)) place }
     ensures fits { result + 1 < 2 ^ 32 }
 {
-    // What these two calls ensure is that the layer has the line, and no more lines than a u32 counts.
+    // For the proof: the layer has the line, and no more lines than a u32 counts.
     let _ = (layer.buffer_len(), layer.lines());
     layer.point(place).row
 }
@@ -60,7 +61,7 @@ fn met<L: Layer>(old: &L, new: &L, below: Shift) -> Shift
     ensures { AreMet (L.source old.now) (L.source new.now) (Some below) (Some result) }
 {
     let Shift { start, end, count } = below;
-    // The new text is short enough that the end of what was put into it is a u32.
+    // For the proof: the new text is short enough that the end of what was put into it is a u32.
     let _fits = new.length();
     let first = line_of(old, start);
     let last = line_of(old, end);
@@ -69,7 +70,7 @@ fn met<L: Layer>(old: &L, new: &L, below: Shift) -> Shift
 }
 
 impl<L: Layer> TabMap<L> {
-    /// A map of a layer, as if it had shown it.
+    /// A map of a layer at a tab size in cells, as if it had shown it.
     pub fn new(layer: L, tab: u32) -> TabMap<L>
         requires { IsTab tab }
         ensures { result ≡ record { source = L.source layer; tab = tab; before = None } }
@@ -98,8 +99,8 @@ impl<L: Layer> TabMap<L> {
         Ok(())
     }
 
-    /// The lines of the layer as it is now, and the lines that were replaced since the last snapshot: those that `below`
-    /// meets, or all where the tab size was set.
+    /// The lines of the layer as it is now, and the lines that were replaced since the last snapshot, counted from 0.
+    /// These are those that `below` meets, or all where the tab size was set.
     #[tactic(auto, using(crate::proofs::TabLemmas::replaced_leads))]
     pub fn sync(
         &mut self,
@@ -137,7 +138,7 @@ impl<L: Layer> TabMap<L> {
         }
     }
 
-    /// An equal map. It takes no memory: `NoMemory` is one holder too many.
+    /// An equal map. It allocates nothing, and fails with `NoMemory` only where the count of holders is full.
     pub fn share(&self) -> Result<TabMap<L>, NoMemory>
         ensures { IfOk result (λ shared. shared ≡ self.now) }
     {

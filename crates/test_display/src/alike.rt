@@ -22,6 +22,7 @@ pub fn short_line(alloc: Global, text: &str) -> Result<Vec<Element>, NoMemory>
     ensures cells { IfOk result (λ line. total_cells line.items < 2 ^ 32) }
     ensures count { IfOk result (λ line. length line.items < 2 ^ 32) }
 {
+    // For the proof: the cells of a line of so few bytes fit u32.
     line_laws();
     let mut pieces = Vec::new(alloc);
     pieces.push(Piece {

@@ -1,4 +1,4 @@
-//! What views answer.
+//! What views return.
 ghost use Rattle.std.specs.Prelude.{◌≡◌, [], IfOk, codes};
 ghost use Rattle.cell_units.specs.Text.{clean};
 

@@ -88,7 +88,7 @@ fn shown_in_order(
     Ok((shown, show(alloc, plain, second, Bias::Left)?))
 }
 
-/// Behind the name stands an inlay of five cells, so byte 9 is shown in column 14.
+/// After the name is an inlay of five cells, so byte 9 is shown in column 14.
 #[test]
 fn offsets_are_shown_in_order(rt: HostRuntime) -> Result<(), Fail> {
     let alloc = rt.alloc();
@@ -109,7 +109,7 @@ fn done<N: Lines>(alloc: Global, job: Job<N>) -> Option<Done<N>>
     }
 }
 
-/// Of two lines at a width of 5 the first is cut behind its blank, and the second isn't cut.
+/// Of two lines at a width of 5 the first is cut after its blank, and the second isn't cut.
 #[test]
 fn a_job_gives_the_cuts_of_its_lines(rt: HostRuntime) -> Result<(), Fail> {
     let alloc = rt.alloc();
@@ -142,7 +142,7 @@ fn opened_sheet(alloc: Global, text: &str) -> Result<Sheet, NoMemory>
     Sheet::opened(alloc, buffer)
 }
 
-/// A function of three lines, of which the second is folded into the first with the brace behind it.
+/// A function of three lines, of which the second is folded into the first with the brace after it.
 #[test]
 fn a_fold_joins_lines(rt: HostRuntime) -> Result<(), Fail> {
     let alloc = rt.alloc();
@@ -166,7 +166,7 @@ fn wrap_run(alloc: Global, display: &mut Display, steps: &mut Steps) -> Result<(
     display.land(alloc, done, steps).map_err(|_| NoMemory)
 }
 
-/// A line stands in one row until its run has landed, and then in two.
+/// A line is in one row until its run has landed, and then in two.
 #[test]
 fn a_landing_wraps_a_line(rt: HostRuntime) -> Result<(), Fail> {
     let alloc = rt.alloc();

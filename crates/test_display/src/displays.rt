@@ -14,7 +14,7 @@ use std::process::Abort;
 use std::test::Fail;
 use wrap_workers::{Finished, Job, do_job};
 
-/// Publishes the display, and answers the version's number.
+/// Publishes the display, and returns the version's number.
 pub(crate) fn publish(
     rt: &impl Abort,
     alloc: Global,
@@ -72,12 +72,13 @@ pub(crate) fn land(
     }
 }
 
-/// Sends the next run, does it and lands it. Answers the run's first line and how many it has, or nothing.
+/// Sends the next run, does it and lands it. Returns the run's first line and how many it has, or nothing.
 pub(crate) fn land_next(
     rt: &impl Abort,
     alloc: Global,
     display: &mut Display,
 ) -> Result<Option<(u32, u32)>, NoMemory> {
+    // For the proof: a job that was sent is out.
     job_laws();
     let Some(job) = send(rt, alloc, display)? else {
         return Ok(None);
@@ -111,6 +112,7 @@ pub(crate) fn edit(
     ensures { OnOk result ((job : JobParts (List (List Element))) →
         IsOutstanding display.old job → IsOutstanding display.new job) }
 {
+    // For the proof: a job that is out stays so over operations.
     job_laws();
     let splices = splices(alloc, ranges)?;
     assert!(rt; splices.len() <= 2000);
@@ -128,6 +130,7 @@ pub(crate) fn operate(
     ensures { OnOk result ((job : JobParts (List (List Element))) →
         IsOutstanding display.old job → IsOutstanding display.new job) }
 {
+    // For the proof: a job that is out stays so over operations.
     job_laws();
     assert!(rt; display.room() > 0);
     display.apply(alloc, &Change::One(op), &mut Steps::new())

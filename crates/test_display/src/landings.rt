@@ -85,6 +85,7 @@ fn an_edit_takes_one_mark(rt: HostRuntime) -> Result<(), Fail> {
 fn send_ten(rt: &impl Abort, alloc: Global, display: &mut Display) -> Result<Job<Held>, Fail>
     ensures { IfOk result (IsOutstanding display.new) }
 {
+    // For the proof: a job that was sent is out.
     job_laws();
     let job = send(rt, alloc, display)?.ok_or("no run")?;
     let run = job.run();
@@ -161,7 +162,7 @@ fn a_job_lands_at_its_width_that_is_set_again(rt: HostRuntime) -> Result<(), Fai
     land_again(&rt, alloc, &mut display)
 }
 
-/// An inlay with a line break behind the first letter.
+/// An inlay with a line break after the first letter.
 fn inlay(alloc: Global) -> Result<Op, NoMemory> {
     Ok(Op::Inlay {
         id: 1,

@@ -28,6 +28,7 @@ fn placed(alloc: Global, view: &View, spot: Spot) -> Result<(u32, Spot, Spot), N
     ensures { let r = present_of view.now in let o = back r spot Left in
         IfOk result (λ found. found ≡ (o, clip r spot Left, show r o Left)) }
 {
+    // For the proof: what `back` returns is a boundary.
     show_laws();
     let plain = view.plain(alloc, &mut Steps::new())?;
     let offset = back(alloc, &plain, spot, Bias::Left)?;
@@ -36,12 +37,13 @@ fn placed(alloc: Global, view: &View, spot: Spot) -> Result<(u32, Spot, Spot), N
     Ok((offset, nearest, shown))
 }
 
-/// The text between the offsets that two spots lead back to, the second of them at or behind the first.
+/// The text between the offsets that two spots lead back to, the second of them at or after the first.
 fn text_between(alloc: Global, view: &View, first: Spot, second: Spot) -> Result<Text, NoMemory>
     requires { IsTrue (spot_le first second) }
     ensures { let r = present_of view.now in IfOk result (λ text.
         text ≡ slice_range r.text (back r first Left) (back r second Left)) }
 {
+    // For the proof: the record is lawful, and what `back` returns rises with the spots.
     view.lawful();
     show_laws();
     let mut steps = Steps::new();
@@ -56,16 +58,19 @@ fn same_lines(version: &Version)
         (replayed (begun version.now.opening) (take n version.now.events)).present
         (present_of version.now) }
 {
+    // For the proof: the history is lawful, and lines of one stamp have equal elements.
     version.lawful();
     stamp_laws();
 }
 
-/// From an earlier view of a display to a later one there is a line patch, by which lines came from lines of their stamp.
+/// From an earlier view of a display to a later one there is a line patch, by which lines came from lines of their
+/// stamp.
 fn line_patch(earlier: &View, later: &View)
     ensures { (events : List Event) → later.now ≡ appended earlier.now events →
         (patch : List Edit) × IsPatchOver (state_of earlier.now) events patch
         × CameByStamp patch (present_of earlier.now) (present_of later.now) }
 {
+    // For the proof: the history is lawful, and its records have line patches between them.
     let _ = &earlier;
     later.lawful();
     line_patch_laws();
@@ -77,6 +82,7 @@ fn fitting_changes(display: &Display)
         refusal_of (present_of display.now) change ≡ None →
         EventsFit (state_of display.now) (map Did (operations_in change)) }
 {
+    // For the proof: the history is lawful, and an operation that isn't refused is allowed.
     display.lawful();
     replay_laws();
 }
@@ -86,6 +92,7 @@ fn landing_cuts(display: &Display)
     ensures { (job : JobParts (List (List Element))) → IsOutstanding display.now job →
         GivesCuts (state_of display.now) job }
 {
+    // For the proof: the history is lawful, and the cuts of a job are those of the lines that it marks.
     display.lawful();
     landing_laws();
 }

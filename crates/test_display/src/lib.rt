@@ -1,4 +1,4 @@
-//! Worked rows of the display: what it and its views answer on texts and changes that are known. Besides the lines of
+//! Worked rows of the display: what it and its views return on texts and changes that are known. Besides the lines of
 //! `cell_line` and the crews of `wrap_workers`. There is nothing here but tests.
 #![tactic(auto)]
 

@@ -41,6 +41,7 @@ fn wrapped(alloc: Global, text: &str, width: u32) -> Result<Cuts, NoMemory>
     requires short { length text.now < 1000 }
     requires lawful { IsWidth width }
 {
+    // For the proof: the cells of a line of so few bytes fit u32.
     line_laws();
     let pieces = short_piece(alloc, text)?;
     let cuts = cuts_of_pieces(alloc, pieces.as_slice(), 4, width)?;

@@ -1,4 +1,4 @@
-//! What the plain functions answer on a record that is written out.
+//! What the plain functions return on a record that is written out.
 ghost use Rattle.std.specs.Prelude.{◌≡◌, [], ◌∷◌, IfOk, codes};
 ghost use Rattle.cell_units.specs.declared.place.Bias.TheVariants.{Right};
 ghost use Rattle.cell_units.specs.Worked.{folded_record, inlay};
@@ -10,7 +10,7 @@ use std::alloc::Global;
 use std::process::Abort;
 use std::test::Fail;
 
-/// The text `let x = 1` with `: i32` behind its name, wrapped.
+/// The text `let x = 1` with `: i32` after its name, wrapped.
 pub(crate) fn typed(alloc: Global) -> Result<Plain, NoMemory>
     ensures { IfOk result (λ plain. record_of plain ≡
         folded_record (codes "let x = 1") (inlay 5 Right 1 (codes ": i32") ∷ []) []) }

@@ -28,7 +28,8 @@ impl Shown {
     }
 }
 
-/// The first and the last row that a change touches, before it and after it, and the fold that is added or taken off by it.
+/// The first and the last row that a change touches, before it and after it. With them comes the fold that is added or
+/// taken off by it.
 #[derive(Clone, Copy)]
 pub(crate) struct Change {
     pub before: (u32, u32),
@@ -37,7 +38,7 @@ pub(crate) struct Change {
 }
 
 impl Change {
-    /// Of what stands in one row.
+    /// Of what is in one row.
     pub(crate) fn at_row(row: u32) -> Change {
         Change {
             before: (row, row),
@@ -69,8 +70,8 @@ fn meets_rows(lines: &[PlainLine], start: u32, end: u32, rows: (u32, u32)) -> bo
     true
 }
 
-/// Whether the replacement that answers one change meets just the lines that have a row which this touches, before and after, and
-/// is that of its fold.
+/// Whether the replacement that comes of one change is that of its fold. It meets just the lines that have a row which
+/// the change touches, before and after.
 pub(crate) fn answers_change(
     plain: &PlainText,
     old: &Shown,
@@ -91,8 +92,8 @@ pub(crate) fn answers_change(
         && meets_rows(&new.lines, start, come, change.after)
 }
 
-/// What is replaced of what was shown where a fold is added or taken off: from its start to its end, but from the start of its row
-/// where that is on another line, and to the end of its row where that is.
+/// What is replaced of what was shown where a fold is added or taken off. It goes from its start to its end. Where the
+/// start of its row is on another line it begins there, and where the end of its row is, it ends there.
 fn ends_of(plain: &PlainText, old: &Shown, fold: PlainFold) -> (u32, u32) {
     let start = plain.place(&old.all, fold.start, Bias::Left);
     let end = plain.place(&old.all, fold.end, Bias::Right);
@@ -117,8 +118,8 @@ fn lines_to(shown: &Shown, place: u32) -> usize {
     count
 }
 
-/// Whether a layer shows what the plain lists do, wherever it is asked. That it may go to another thread is proved here, over any
-/// layer below.
+/// Whether a layer shows what the plain lists do, wherever it is asked. That it may go to another thread is proved
+/// here, over any lower layer.
 pub(crate) fn agrees<L: Layer>(
     alloc: Global,
     layer: &FoldSnapshot<L>,
@@ -215,7 +216,7 @@ fn kind_of(origin: Origin) -> PieceKind {
     }
 }
 
-/// The offset behind a piece that ends with this byte.
+/// The offset after a piece that ends with this byte.
 fn end_of(last: ShownByte, joined: &[PlainFold]) -> u32 {
     match last.origin {
         Origin::Text => last.offset.wrapping_add(1),

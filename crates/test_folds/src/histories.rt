@@ -118,8 +118,8 @@ impl Folded {
         }
     }
 
-    /// Whether a snapshot shows what is written out, and the replacement leads to it from what was shown before. Where there was
-    /// one change, it answers that; where there was none, there is none.
+    /// Whether a snapshot shows what is written out, and the replacement leads to it from what was shown before. Where
+    /// there was one change, it is that of the change; where there was none, there is none.
     fn shows_both(&mut self, answer: Stretch, edit: Stretch) -> Result<bool, NoMemory> {
         let shown = Shown::of(&self.plain)?;
         let is_exact = match self.changes {
@@ -157,7 +157,8 @@ fn differ_at(alloc: Global, seed: u64, turns: u32) -> Result<Option<u32>, Fail> 
     Ok(first_difference(Folded::new(alloc, seed)?, turns)?)
 }
 
-/// After each of 2,000 random changes in four histories, refused ones among them, the maps agree with the text that is written out.
+/// After each of 2,000 random changes in four histories, refused ones among them, the maps agree with the text that is
+/// written out.
 #[test]
 fn random_changes_show_the_text_written_out(rt: HostRuntime) -> Result<(), Fail> {
     for seed in 1..5 {

@@ -1,5 +1,5 @@
-//! Worked rows of the fold map: what is shown where of texts with folds that are known, and of texts that random changes have
-//! made. There is nothing here but tests.
+//! Worked rows of the fold map: what is shown where of texts with folds that are known, and of texts that random
+//! changes have made. There is nothing here but tests.
 #![tactic(auto)]
 
 #[cfg(test)]

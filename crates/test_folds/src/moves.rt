@@ -100,8 +100,8 @@ fn a_feed_between_folds_parts_their_line(rt: HostRuntime) -> Result<(), Fail> {
     Ok(())
 }
 
-/// A chain of 10,000 folds over as many rows is one placeholder. A letter in its first row opens few nodes, and one in a row that
-/// it hides too.
+/// A chain of 10,000 folds over as many rows is one placeholder. A letter in its first row opens few nodes, and one in
+/// a row that it hides too.
 #[test]
 fn an_edit_under_a_long_chain_takes_few_steps(rt: HostRuntime) -> Result<(), Fail> {
     let text = "a\n".repeat(rt.alloc(), 10_001)?;

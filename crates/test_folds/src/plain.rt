@@ -1,4 +1,5 @@
-//! What has to be shown, by plain lists: the text with the inlays and the folds written out, and where its offsets stand in it.
+//! What has to be shown, by plain lists: the text with the inlays and the folds written out, and where its offsets are
+//! in it.
 use cell_units::{Bias, NoMemory, Refusal};
 use std::alloc::Global;
 use test_support::inlaid::{IDS, InlaidText, Origin, Placed, ShownByte, removed, write};
@@ -35,7 +36,8 @@ impl PlainFold {
     }
 }
 
-/// What is shown, of each place of the text with its inlays where that stands or `None` where it is hidden, and the joined folds.
+/// What is shown, of each place of the text with its inlays where that is or `None` where it is hidden, and the joined
+/// folds.
 #[derive(Drop)]
 pub(crate) struct WrittenOut {
     pub bytes: Vec<ShownByte>,
@@ -50,7 +52,7 @@ impl WrittenOut {
         Ok(())
     }
 
-    /// Where what is written next stands.
+    /// Where what is written next is.
     fn mark(&mut self) -> Result<(), NoMemory> {
         let place = u32::try_from(self.bytes.len()).unwrap_or(u32::MAX);
         self.above.push(Some(place))?;
@@ -210,7 +212,7 @@ impl PlainText {
         Ok(all)
     }
 
-    /// The place at which an offset is shown: before the placeholder that hides it (Left) or behind it, if one does.
+    /// The place at which an offset is shown: before the placeholder that hides it (Left) or after it, if one does.
     pub(crate) fn place(&self, all: &WrittenOut, offset: u32, bias: Bias) -> u32 {
         let below = match (all.around(offset), bias) {
             (None, _) => self.inlaid.place(offset, bias),
@@ -241,8 +243,8 @@ impl PlainText {
 
 /// The lines.
 impl PlainText {
-    /// The row of a place. That at which a placeholder begins is in the first row that it hides, and that at which it ends in the
-    /// last.
+    /// The row of a place. That at which a placeholder begins is in the first row that it hides, and that at which it
+    /// ends in the last.
     fn row_of_shown(&self, all: &WrittenOut, place: u32) -> u32 {
         match all.below(place) {
             Some(below) => self.inlaid.row_of_place(below),
@@ -279,7 +281,7 @@ impl PlainText {
 
 /// The changes.
 impl PlainText {
-    /// Folds a range, or tells why not.
+    /// Folds a range, or returns why not.
     pub(crate) fn fold(&mut self, id: u32, start: u32, end: u32) -> Option<Refusal> {
         let is_range = start < end
             && self.inlaid.is_boundary(start)
@@ -297,12 +299,12 @@ impl PlainText {
         None
     }
 
-    /// Takes a fold off, or tells why not.
+    /// Takes a fold off, or returns why not.
     pub(crate) fn unfold(&mut self, id: u32) -> Option<Refusal> {
         removed(self.folds.get_mut(id as usize))
     }
 
-    /// Puts a text in the place of a range and moves what stands in it, or tells why not.
+    /// Puts a text in the place of a range and moves what is in it, or returns why not.
     pub(crate) fn edit(
         &mut self,
         start: u32,

@@ -37,7 +37,7 @@ fn an_end_within_a_character_is_refused(rt: HostRuntime) -> Result<(), Fail> {
     Ok(())
 }
 
-/// Of several refusals the first in their order is answered, and a refused call leaves all as it was.
+/// Of several refusals the first in their order is returned, and a refused call leaves all as it was.
 #[test]
 fn refusals_come_in_their_order(rt: HostRuntime) -> Result<(), Fail> {
     let steps = [

@@ -7,7 +7,7 @@ use crate::script::{play, play_apart};
 use cell_units::Bias::{Left, Right};
 use std::test::Fail;
 
-/// The body of a function is hidden behind a placeholder, and its three rows are one line.
+/// The body of a function is hidden by a placeholder, and its three rows are one line.
 #[test]
 fn a_folded_body_is_a_placeholder(rt: HostRuntime) -> Result<(), Fail> {
     let steps = [
@@ -31,7 +31,7 @@ fn a_folded_body_is_a_placeholder(rt: HostRuntime) -> Result<(), Fail> {
     Ok(())
 }
 
-/// An offset that is hidden stands before the placeholder and behind it.
+/// An offset that is hidden is before the placeholder and after it.
 #[test]
 fn a_hidden_offset_has_the_placeholders_ends(rt: HostRuntime) -> Result<(), Fail> {
     let steps = [
@@ -76,7 +76,8 @@ fn a_fold_over_two_line_feeds_is_one_line(rt: HostRuntime) -> Result<(), Fail> {
     Ok(())
 }
 
-/// A fold within another one shows nothing new: the placeholder is replaced by itself, and again where the inner one is taken off.
+/// A fold within another one shows nothing new: the placeholder is replaced by itself, and again where the inner one is
+/// taken off.
 #[test]
 fn a_fold_within_a_fold_replaces_the_placeholder_by_itself(rt: HostRuntime) -> Result<(), Fail> {
     let steps = [
@@ -149,8 +150,8 @@ fn a_fold_between_two_joins_them(rt: HostRuntime) -> Result<(), Fail> {
     Ok(())
 }
 
-/// Each piece of a line has the offsets that it covers: those of what a placeholder hides, and one for an inlay, which has its
-/// id.
+/// Each piece of a line has the offsets that it covers. They are those of what a placeholder hides, and one for an
+/// inlay, which has its id.
 #[test]
 fn pieces_cover_what_they_show(rt: HostRuntime) -> Result<(), Fail> {
     let steps = [
@@ -224,7 +225,8 @@ fn a_fold_hides_the_inlays_between_its_ends(rt: HostRuntime) -> Result<(), Fail>
     Ok(())
 }
 
-/// A line that begins with a placeholder spans from the row where that starts, and one that ends with one to the row where it ends.
+/// A line that begins with a placeholder spans from the row where that starts. One that ends with one spans to the row
+/// where it ends.
 #[test]
 fn placeholders_at_the_ends_of_a_line_count_their_rows(rt: HostRuntime) -> Result<(), Fail> {
     let steps = [
@@ -283,7 +285,7 @@ fn a_fold_in_a_rows_second_line_replaces_both(rt: HostRuntime) -> Result<(), Fai
     Ok(())
 }
 
-/// A fold that was added and one that was taken off are answered by one replacement that covers both.
+/// A fold that was added and one that was taken off give one replacement that covers both.
 #[test]
 fn folds_are_answered_by_one_replacement(rt: HostRuntime) -> Result<(), Fail> {
     let steps = [

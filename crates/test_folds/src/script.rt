@@ -1,4 +1,4 @@
-//! What is done to a text under inlays and folds and asked of it, step by step, and what is answered, in words.
+//! What is done to a text under inlays and folds and asked of it, step by step, and what comes of it, in words.
 use crate::laid::Laid;
 use cell_units::{Bias, Fault, Layer, NoMemory, Piece, PieceKind, Steps};
 use fold_map::FoldSnapshot;
@@ -26,7 +26,7 @@ pub(crate) enum Step<'a> {
     Remove(u32),
     /// Puts a text in the place of a range, and shows what is there then.
     Edit(u32, u32, &'a str),
-    /// Shows what is there, and tells what of it is new.
+    /// Shows what is there, and says what of it is new.
     Sync,
     /// Shows what is there.
     Show,
@@ -52,8 +52,8 @@ pub(crate) fn play(alloc: Global, text: &str, steps: &[Step]) -> Result<String, 
     Ok(steps::play(Laid::new(alloc, text)?, steps)?)
 }
 
-/// The same, and then other steps over an equal text with equal maps, and others again over the first ones. It gives the answers
-/// of the last two, with ` / ` between them.
+/// The same, and then other steps over an equal text with equal maps, and others again over the first ones. It gives
+/// the answers of the last two, with ` / ` between them.
 pub(crate) fn play_apart(
     alloc: Global,
     text: &str,
@@ -124,7 +124,7 @@ impl Laid {
     }
 }
 
-/// The answer to a question. That its layer may go to another thread is proved here, over any layer below.
+/// The answer to a question. That its layer may go to another thread is proved here, over any lower layer.
 fn look<L: Layer>(alloc: Global, layer: &FoldSnapshot<L>, step: &Step) -> Result<String, NoMemory> {
     match step {
         Step::Get(at) => listed(alloc, layer, *at),

@@ -22,7 +22,8 @@ fn a_break_in_an_inlay_makes_a_line(rt: HostRuntime) -> Result<(), Fail> {
     Ok(())
 }
 
-/// Of the two places of offset 1 the left one is on the first line and the right one on the second, each behind one byte.
+/// Of the two places of offset 1 the left one is on the first line and the right one on the second. Each is after one
+/// byte.
 #[test]
 fn places_beside_a_break_are_on_two_lines(rt: HostRuntime) -> Result<(), Fail> {
     let steps = [
@@ -53,7 +54,7 @@ fn an_inlay_may_be_a_break_alone(rt: HostRuntime) -> Result<(), Fail> {
     Ok(())
 }
 
-/// The rows of `ab` LF `cd` under `x` LF `y` at 1 stand on three lines, of which the first row has two.
+/// The rows of `ab` LF `cd` under `x` LF `y` at 1 are on three lines, of which the first row has two.
 #[test]
 fn spans_count_rows_of_the_text(rt: HostRuntime) -> Result<(), Fail> {
     let steps = [

@@ -22,7 +22,7 @@ pub(crate) fn replace(
     ensures err { OnErr result (map.new ≡ map.old) }
 {
     let bytes = rope.len();
-    // The inlays stand at boundaries of the text.
+    // For the proof: the inlays are at boundaries of the text.
     let _inlays = map.len();
     rope.replace(alloc, start, end, text, steps)?;
     let shift = Shift::new(start, end, rope.len() - (bytes - (end - start)));

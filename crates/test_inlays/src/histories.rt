@@ -12,7 +12,7 @@ use test_support::steps::{History, first_difference};
 use test_support::told::Stretch;
 use test_support::words::{GIVEN_COUNT, cleaned, drawn_bias, drawn_range, given};
 
-/// The line at the start of these bytes: its text with a bar behind each piece, and how many bytes it has.
+/// The line at the start of these bytes: its text with a bar after each piece, and how many bytes it has.
 fn first_line(alloc: Global, all: &[ShownByte]) -> Result<(Vec<u8>, u32), NoMemory> {
     let mut pieces = Vec::new(alloc);
     let mut count: u32 = 0;
@@ -36,7 +36,8 @@ fn first_line(alloc: Global, all: &[ShownByte]) -> Result<(Vec<u8>, u32), NoMemo
     Ok((pieces, count))
 }
 
-/// Whether each line begins where the one before has ended, has the pieces that are written out, and spans the rows of its ends.
+/// Whether each line begins where the one before has ended, has the pieces that are written out, and spans the rows of
+/// its ends.
 fn has_lines<L: Layer>(
     alloc: Global,
     layer: &L,
@@ -127,8 +128,8 @@ impl Inlaid {
         }
     }
 
-    /// Whether a snapshot shows what is written out, and the replacement leads to it from what was shown before the edit, if there
-    /// was one.
+    /// Whether a snapshot shows what is written out, and the replacement leads to it from what was shown before the
+    /// edit, if there was one.
     fn shows_both(&mut self, answer: Stretch, edit: Stretch) -> Result<bool, NoMemory> {
         let shown = self.plain.written_out()?;
         let laid = &self.laid;

@@ -1,5 +1,5 @@
-//! Worked rows of the inlay map: what is shown where on texts with inlays that are known, and on texts that random changes
-//! have made. There is nothing here but tests.
+//! Worked rows of the inlay map: what is shown where on texts with inlays that are known, and on texts that random
+//! changes have made. There is nothing here but tests.
 #![tactic(auto)]
 
 #[cfg(test)]

@@ -4,7 +4,7 @@ use crate::script::play;
 use cell_units::Bias::{Left, Right};
 use std::test::Fail;
 
-/// Of two inlays at 3 an insertion there leaves the Left one before it and takes the Right one behind it.
+/// Of two inlays at 3 an insertion there leaves the Left one before it and takes the Right one after it.
 #[test]
 fn an_insertion_goes_between_left_and_right(rt: HostRuntime) -> Result<(), Fail> {
     let steps = [
@@ -38,7 +38,7 @@ fn an_inlay_stays_between_replacements(rt: HostRuntime) -> Result<(), Fail> {
     Ok(())
 }
 
-/// An inlay within what is deleted comes to where that was, and one behind it moves along.
+/// An inlay within what is deleted comes to where that was, and one after it moves along.
 #[test]
 fn a_deletion_moves_inlays_to_its_start(rt: HostRuntime) -> Result<(), Fail> {
     let steps = [
@@ -57,7 +57,7 @@ fn a_deletion_moves_inlays_to_its_start(rt: HostRuntime) -> Result<(), Fail> {
     Ok(())
 }
 
-/// An inlay that was added and an edit far from it are answered by one replacement that covers both.
+/// An inlay that was added and an edit far from it give one replacement that covers both.
 #[test]
 fn changes_are_answered_by_one_replacement(rt: HostRuntime) -> Result<(), Fail> {
     let steps = [Insert(1, 5, Right, "!"), Edit(1, 2, "XYZ"), Line(0), Sync];

@@ -25,7 +25,7 @@ fn inlays_are_refused(rt: HostRuntime) -> Result<(), Fail> {
     Ok(())
 }
 
-/// An inlay stands on either side of a character of two bytes, and not within it.
+/// An inlay may be on either side of a character of two bytes, and not within it.
 #[test]
 fn an_offset_within_a_character_is_refused(rt: HostRuntime) -> Result<(), Fail> {
     let steps = [
@@ -44,7 +44,7 @@ fn an_offset_within_a_character_is_refused(rt: HostRuntime) -> Result<(), Fail> 
     Ok(())
 }
 
-/// Of several refusals the first in their order is answered, and a text of 1,024 bytes isn't too long.
+/// Of several refusals the first in their order is returned, and a text of 1,024 bytes isn't too long.
 #[test]
 fn refusals_come_in_their_order(rt: HostRuntime) -> Result<(), Fail> {
     let steps = [

@@ -4,7 +4,7 @@ use crate::script::{play, play_apart};
 use cell_units::Bias::{Left, Right};
 use std::test::Fail;
 
-/// `: i32` behind the fifth byte of `let x = 1` is a piece of its own.
+/// `: i32` after the fifth byte of `let x = 1` is a piece of its own.
 #[test]
 fn an_inlay_is_shown_where_it_was_added(rt: HostRuntime) -> Result<(), Fail> {
     let steps = [Insert(1, 5, Right, ": i32"), Sync, Line(0), Lines, Length];
@@ -13,7 +13,7 @@ fn an_inlay_is_shown_where_it_was_added(rt: HostRuntime) -> Result<(), Fail> {
     Ok(())
 }
 
-/// Offset 5 has a place before the inlay and one behind it, and no offset has a place inside.
+/// Offset 5 has a place before the inlay and one after it, and no offset has a place inside.
 #[test]
 fn no_offset_has_a_place_inside_an_inlay(rt: HostRuntime) -> Result<(), Fail> {
     let steps = [
@@ -31,7 +31,7 @@ fn no_offset_has_a_place_inside_an_inlay(rt: HostRuntime) -> Result<(), Fail> {
     Ok(())
 }
 
-/// `>` at the end of `abc` has its place before and behind it.
+/// `>` at the end of `abc` has its place before and after it.
 #[test]
 fn an_inlay_at_the_end_has_two_places(rt: HostRuntime) -> Result<(), Fail> {
     let steps = [
@@ -62,7 +62,7 @@ fn an_inlay_at_the_start_stands_before_the_text(rt: HostRuntime) -> Result<(), F
     Ok(())
 }
 
-/// At one offset Left stands before Right, and of one bias the lesser id first, in whatever order they come.
+/// At one offset Left is before Right, and of one bias the lesser id first, in whatever order they come.
 #[test]
 fn inlays_at_one_offset_stand_by_bias_and_id(rt: HostRuntime) -> Result<(), Fail> {
     let steps = [
@@ -82,7 +82,8 @@ fn inlays_at_one_offset_stand_by_bias_and_id(rt: HostRuntime) -> Result<(), Fail
     Ok(())
 }
 
-/// A snapshot lists its inlays by offset, bias and id, each with its text as it was given, and past the last there is none.
+/// A snapshot lists its inlays by offset, bias and id, each with its text as it was given, and past the last there is
+/// none.
 #[test]
 fn inlays_are_listed_in_order(rt: HostRuntime) -> Result<(), Fail> {
     let steps = [
@@ -108,7 +109,7 @@ fn inlays_are_listed_in_order(rt: HostRuntime) -> Result<(), Fail> {
     Ok(())
 }
 
-/// What stands over no text is all that is shown, and the one offset has both its ends.
+/// What is over no text is all that is shown, and the one offset has both its ends.
 #[test]
 fn an_empty_text_shows_its_inlays(rt: HostRuntime) -> Result<(), Fail> {
     let steps = [
@@ -139,7 +140,7 @@ fn a_removed_inlay_is_gone_from_one_map(rt: HostRuntime) -> Result<(), Fail> {
     Ok(())
 }
 
-/// An equal map answers and shows what the first one does.
+/// An equal map returns and shows what the first one does.
 #[test]
 fn a_shared_map_shows_the_same(rt: HostRuntime) -> Result<(), Fail> {
     let before = [Insert(1, 5, Right, ": i32")];

@@ -1,4 +1,4 @@
-//! What is done to a text under inlays and asked of it, step by step, and what is answered, in words.
+//! What is done to a text under inlays and asked of it, step by step, and what comes of it, in words.
 use crate::laid::Laid;
 use cell_units::{Bias, Fault, Layer, NoMemory, Steps};
 use inlay_map::InlaySnapshot;
@@ -38,8 +38,8 @@ pub(crate) fn play(alloc: Global, text: &str, steps: &[Step]) -> Result<String, 
     Ok(steps::play(Laid::new(alloc, text)?, steps)?)
 }
 
-/// The same, and then other steps over an equal map, and others again over the first one. It gives the answers of the last two,
-/// with ` / ` between them.
+/// The same, and then other steps over an equal map, and others again over the first one. It gives the answers of the
+/// last two, with ` / ` between them.
 pub(crate) fn play_apart(
     alloc: Global,
     text: &str,

@@ -34,7 +34,7 @@ fn a_caret_leaps_over_an_inlay(rt: HostRuntime) -> Result<(), Fail> {
     Ok(())
 }
 
-/// A tab of four cells, a wide character and a flag of two each, and two letters, of which the first has an accent: the
+/// A tab of four cells, a wide character and a flag of two each, and two letters, of which the first has an accent. The
 /// valid columns are 0, 4, 6, 8, 9 and 10.
 #[test]
 fn a_caret_walks_over_clusters(rt: HostRuntime) -> Result<(), Fail> {

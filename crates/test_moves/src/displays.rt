@@ -55,6 +55,7 @@ fn land(
 
 /// Wraps the first run of lines that wait, if any do.
 fn wrap(rt: &impl Abort, alloc: Global, display: &mut Display) -> Result<(), NoMemory> {
+    // For the proof: a job that was sent is out.
     job_laws();
     let Some(job) = send(rt, alloc, display)? else {
         return Ok(());

@@ -1,5 +1,5 @@
-//! Worked rows of carets and selections: where motions lead, and what selections cover, on texts that are known. There is
-//! nothing here but tests.
+//! Worked rows of carets and selections: where motions lead, and what selections cover, on texts that are known. There
+//! is nothing here but tests.
 #![tactic(auto)]
 
 #[cfg(test)]

@@ -21,7 +21,8 @@ fn push_spots(
     Ok(())
 }
 
-/// The spots at which some offset of a text of so many bytes is shown, in order. A spot is in it as often as one is shown there.
+/// The spots at which some offset of a text of so many bytes is shown, in order. A spot is in it as often as one is
+/// shown there.
 pub(crate) fn valid_spots(alloc: Global, view: &View, bytes: u32) -> Result<Vec<Spot>, NoMemory> {
     let mut spots = Vec::new(alloc);
     for offset in 0..=bytes {

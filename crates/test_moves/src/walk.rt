@@ -1,4 +1,5 @@
-//! Walks of 10,000 random motions in all, and random selections, beside the definitions over the list of all valid spots.
+//! Walks of 10,000 random motions in all, and random selections, beside the definitions over the list of all valid
+//! spots.
 use crate::displays::{block, inlay_at, view_of};
 use crate::plain::{caret, spans, valid_spots};
 use cell_units::{Motion, NoMemory, Side, Spot, Steps};
@@ -9,13 +10,13 @@ use std::process::Abort;
 use std::test::Fail;
 use view_moves::{select, step};
 
-/// Lines with a tab, wide characters, a flag, accents, a zero-width space and words that are wrapped, an empty one, and one
-/// that is empty at the end.
+/// Lines with a tab, wide characters, a flag, accents, a zero-width space and words that are wrapped. Also an empty
+/// one, and one that is empty at the end.
 const TEXT: &str =
     "fn main() {\n\tlet x = 1;\n\n  a long line of words that is wrapped\n\u{6f22}\u{5b57}\u{304b}\u{306a} wide \u{6f22}\u{5b57}\n\u{1f1e9}\u{1f1ea}\u{1f1eb}\u{1f1f7} e\u{301}e\u{301} a\u{200b}b\n}\n";
 
-/// A width, inlays of three lines and of wide characters, a fold within a line and one over a line's end, and blocks above
-/// the first line, below one and below the last.
+/// A width, inlays of three lines and of wide characters, a fold within a line and one over a line's end. Also blocks
+/// above the first line, below one and below the last.
 fn operations(alloc: Global, cells: u32) -> Result<Vec<Op>, NoMemory> {
     let narrow = Op::Width { cells };
     let lines = inlay_at(alloc, 1, 8, "x\ny\nz")?;

@@ -1,4 +1,4 @@
--- What a call answers that is accepted or refused.
+-- What a call returns that is accepted or refused.
 use Rattle.std.specs.Prelude.{Option, Some, None, Result, Ok, Err}
 use Rattle.cell_units.specs.declared.fault.Fault.{Fault}
 use Rattle.cell_units.specs.declared.fault.Fault.TheVariants as faults

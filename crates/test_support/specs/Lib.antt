@@ -1,3 +1,4 @@
+-- What the crate promises
 pub mod Answered
 pub mod Words
 pub mod Told

@@ -33,7 +33,7 @@ abbrev pub refused_told : Result (Unit {0}) Refusal → List ℕ
 refused_told (Ok _) = codes "ok"
 refused_told (Err refusal) = refusal_told refusal
 
--- want of memory is no answer
+-- out of memory is no answer
 abbrev pub fault_told : Fault → Option (List ℕ)
 fault_told (faults.Refused refusal) = Some (refusal_told refusal)
 fault_told faults.NoMemory = None
@@ -48,7 +48,7 @@ edited_told (Err fault) = fault_told fault
 
 -- ---- lines
 
--- pieces with a bar behind each
+-- pieces with a bar after each
 abbrev pub barred_told : List Piece → List ℕ
 barred_told pieces = flat_map (λ piece. piece.text ++ codes "|") pieces
 

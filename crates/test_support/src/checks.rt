@@ -16,7 +16,8 @@ fn moved_byte(shown: ShownByte, edit: Stretch) -> ShownByte {
     }
 }
 
-/// Whether all before a replacement is the same in both, and all behind it the same, moved. None leads from bytes to the same.
+/// Whether all before a replacement is the same in both, and all after it the same, moved. None leads from bytes to the
+/// same.
 pub fn leads(old: &[ShownByte], new: &[ShownByte], answer: Stretch, edit: Stretch) -> bool {
     let (start, end, count) = answer.unwrap_or((0, 0, 0));
     let come = start.wrapping_add(count) as usize;
@@ -75,7 +76,7 @@ pub fn leads_back<L: Layer>(layer: &L, placed: &[Placed]) -> bool {
     true
 }
 
-/// Whether each place stands on the line and behind the bytes that are counted.
+/// Whether each place is on the line and after the bytes that are counted.
 pub fn has_points<L: Layer>(layer: &L, all: &[ShownByte]) -> bool {
     let mut place: u32 = 0;
     let mut line: u32 = 0;

@@ -1,4 +1,4 @@
-//! A text with inlays by plain lists: what has to be shown, byte by byte, and where the text's offsets stand in it.
+//! A text with inlays by plain lists: what has to be shown, byte by byte, and where the text's offsets are in it.
 use crate::lists::{count_of, moved, on_boundary, replaced, row_at};
 use crate::words::cleaned;
 use cell_units::{Bias, NoMemory, Refusal};
@@ -23,7 +23,7 @@ pub enum Origin {
     Placeholder,
 }
 
-/// A byte that is shown, and the offset at which it stands: for a placeholder, at which its fold starts.
+/// A byte that is shown, and its offset: for a placeholder, that at which its fold starts.
 #[derive(Clone, Copy, PartialEq, Eq)]
 pub struct ShownByte {
     pub byte: u8,
@@ -99,12 +99,13 @@ impl InlaidText {
         self.inlays.get(id as usize).copied().flatten()
     }
 
-    /// The offset at which the inlay of an id stands.
+    /// The offset of the inlay of an id.
     pub fn offset_of(&self, id: u32) -> Option<u32> {
         self.inlay(id).map(|inlay| inlay.offset)
     }
 
-    /// The place of an offset: the offset and the bytes of all inlays before it, and for Right those of the inlays at it too.
+    /// The place of an offset: the offset and the bytes of all inlays before it, and for Right those of the inlays at
+    /// it too.
     pub fn place(&self, offset: u32, bias: Bias) -> u32 {
         let mut place = offset;
         for id in 0..IDS {
@@ -179,7 +180,7 @@ impl InlaidText {
 
 /// The changes.
 impl InlaidText {
-    /// Adds an inlay, or tells why not.
+    /// Adds an inlay, or returns why not.
     pub fn insert(&mut self, id: u32, offset: u32, bias: Bias, word: u32) -> Option<Refusal> {
         let on_boundary = self.is_boundary(offset);
         let Some(slot) = self.inlays.get_mut(id as usize) else {
@@ -198,12 +199,12 @@ impl InlaidText {
         None
     }
 
-    /// Takes an inlay away, or tells why not.
+    /// Takes an inlay away, or returns why not.
     pub fn remove(&mut self, id: u32) -> Option<Refusal> {
         removed(self.inlays.get_mut(id as usize))
     }
 
-    /// Puts a text in the place of a range and moves the inlays, or tells why not.
+    /// Puts a text in the place of a range and moves the inlays, or returns why not.
     pub fn edit(&mut self, start: u32, end: u32, word: u32) -> Result<Option<Refusal>, NoMemory> {
         if start > end || !self.is_boundary(start) || !self.is_boundary(end) {
             return Ok(Some(Refusal::BadRange));
@@ -220,7 +221,7 @@ impl InlaidText {
     }
 }
 
-/// Writes a text that stands at an offset.
+/// Writes a text that is at an offset.
 pub fn write(
     text: &str,
     offset: u32,
@@ -237,7 +238,7 @@ pub fn write(
     Ok(())
 }
 
-/// Empties a slot, or tells why not.
+/// Empties a slot, or returns why not.
 pub fn removed<T: Copy>(slot: Option<&mut Option<T>>) -> Option<Refusal> {
     let Some(slot) = slot else {
         return Some(Refusal::UnknownId);

@@ -1,5 +1,5 @@
-//! What crates of tests have in common: edits of plain lists, the texts that random changes put in, a text with inlays written
-//! out, what is asked of a layer and compared with that, and answers in words.
+//! What crates of tests have in common: edits of plain lists, the texts that random changes put in, and a text with
+//! inlays written out. Also what is asked of a layer and compared with that, and answers in words.
 #![tactic(auto)]
 
 pub mod checks;

@@ -22,7 +22,7 @@ fn before(text: &[u8], offset: u32) -> &[u8]
     &text[..text.len().min(offset as usize)]
 }
 
-/// The bytes before a range, those that are put in, and those behind it.
+/// The bytes before a range, those that are put in, and those after it.
 pub fn replaced(
     alloc: Global,
     text: &[u8],
@@ -39,7 +39,7 @@ pub fn replaced(
     Ok(all)
 }
 
-/// Where an anchor stands after so many bytes took the place of a range, or the greatest offset where it would be greater.
+/// Where an anchor is after so many bytes took the place of a range, or the greatest offset where it would be greater.
 pub fn moved(offset: u32, bias: Bias, start: u32, end: u32, count: u32) -> u32
     ensures { result ≡ min (move offset bias start end count) u32.MAX }
 {
@@ -62,7 +62,7 @@ pub fn on_boundary(text: &[u8], offset: u32) -> bool
     }
 }
 
-/// The row of an offset: how many line feeds stand before it.
+/// The row of an offset: how many line feeds are before it.
 pub fn row_at(text: &[u8], offset: u32) -> u32
     ensures { result ≡ min (row_of text.now offset) u32.MAX }
 {
@@ -75,7 +75,7 @@ pub fn row_at(text: &[u8], offset: u32) -> u32
     row
 }
 
-/// Whether a call answered as it has to: with this refusal, or none.
+/// Whether a call returned what it has to: this refusal, or none.
 pub fn answers(answer: Result<(), Fault>, refusal: Option<Refusal>) -> bool
     ensures { IsTrue result ↔ (answer ≡ answer_of refusal) }
 {

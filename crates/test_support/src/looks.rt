@@ -22,7 +22,7 @@ pub fn pieces<L: Layer>(alloc: Global, layer: &L, line: u32) -> Result<Option<Ve
     Ok(Some(layer.pieces(alloc, line)?))
 }
 
-/// Pieces, with a bar behind each.
+/// Pieces, with a bar after each.
 fn barred(alloc: Global, pieces: &[Piece]) -> Result<String, NoMemory>
     ensures { IfOk result (λ told. string_bytes told ≡ barred_told pieces.now) }
 {
@@ -34,7 +34,7 @@ fn barred(alloc: Global, pieces: &[Piece]) -> Result<String, NoMemory>
     Ok(all)
 }
 
-/// The pieces of a display line, with a bar behind each. Where there is no such line it is a question mark.
+/// The pieces of a display line, with a bar after each. Where there is no such line it is a question mark.
 pub fn line_told<L: Layer>(alloc: Global, layer: &L, line: u32) -> Result<String, NoMemory>
     ensures { IfOk result (λ told. string_bytes told
         ≡ line_told (slice_get (shown_lines (L.source layer.now)) line)) }

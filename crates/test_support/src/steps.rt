@@ -1,5 +1,5 @@
-//! Steps that are taken one by one, and their answers in words. All here owns what the steps change, so that no test does: a
-//! function that owns a map takes the prover minutes, and these are proved once for all maps.
+//! Steps that are taken one by one, and their answers in words. All here owns what the steps change, so that no test
+//! does. A function that owns a map takes the prover minutes, and these are proved once for all maps.
 use cell_units::NoMemory;
 use std::alloc::Global;
 
@@ -14,7 +14,7 @@ pub trait Played<S>: Drop {
     /// An equal one.
     fn share(&self) -> Result<Self, NoMemory>;
 
-    /// Takes a step, and tells its answer.
+    /// Takes a step, and returns its answer.
     fn take_step(&mut self, step: &S) -> Result<String, NoMemory>;
 
     /// What is shown now.
@@ -60,8 +60,8 @@ pub fn play<S, P: Played<S>>(mut played: P, steps: &[S]) -> Result<String, NoMem
     take(&mut played, steps)
 }
 
-/// Takes the first steps, the second ones over an equal one, and then the third. It gives the answers of the last two, with ` / `
-/// between them.
+/// Takes the first steps, the second ones over an equal one, and then the third. It gives the answers of the last two,
+/// with ` / ` between them.
 pub fn play_apart<S, P: Played<S>>(
     mut played: P,
     before: &[S],
@@ -76,8 +76,8 @@ pub fn play_apart<S, P: Played<S>>(
     Ok(all)
 }
 
-/// Takes the first steps and then the second ones, and asks the third of what was shown before these, and of what is shared of
-/// that. It gives the answers of the second, and with ` / ` before each those of the third.
+/// Takes the first steps and then the second ones. Then it asks the third of what was shown before these, and of what
+/// is shared of that. It gives the answers of the second, and with ` / ` before each those of the third.
 pub fn play_behind<S, P: Played<S>>(
     mut played: P,
     before: &[S],
@@ -96,7 +96,7 @@ pub fn play_behind<S, P: Played<S>>(
 
 /// Two that are changed alike, of which one is plain.
 pub trait History: Drop {
-    /// Makes a random change of both, and tells whether they answer it alike and then show the same.
+    /// Makes a random change of both, and returns whether they answer it alike and then show the same.
     fn turns_alike(&mut self) -> Result<bool, NoMemory>;
 }
 

@@ -73,7 +73,7 @@ pub fn refused(alloc: Global, answer: Result<(), Refusal>) -> Result<String, NoM
     Ok(String::from_str(alloc, told)?)
 }
 
-/// `ok`, or the refusal. Want of memory is no answer.
+/// `ok`, or the refusal. Out of memory is no answer.
 pub fn accepted(alloc: Global, answer: Result<(), Fault>) -> Result<String, NoMemory>
     ensures { IfOk result (λ told. Some (string_bytes told) ≡ accepted_told answer) }
 {
@@ -84,7 +84,7 @@ pub fn accepted(alloc: Global, answer: Result<(), Fault>) -> Result<String, NoMe
     }
 }
 
-/// What is replaced, or the refusal. Want of memory is no answer.
+/// What is replaced, or the refusal. Out of memory is no answer.
 pub fn edited(alloc: Global, answer: Result<Stretch, Fault>) -> Result<String, NoMemory>
     ensures { IfOk result (λ told. Some (string_bytes told) ≡ edited_told answer) }
 {

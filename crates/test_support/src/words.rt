@@ -105,8 +105,8 @@ pub fn drawn_side(generator: &mut Generator) -> Side
     }
 }
 
-/// A range that starts in a text of so many bytes, which may reach past the end. Its end is drawn from so many offsets from the one
-/// before its start on.
+/// A range that starts in a text of so many bytes, which may reach past the end. Its end is drawn from so many offsets
+/// from the one before its start on.
 pub fn drawn_range(generator: &mut Generator, len: u32, ends: u32) -> (u32, u32)
     ensures start { result.0
         ≡ (draw (max 1 (min (len + 1) u32.MAX)) generator.old.state).value }

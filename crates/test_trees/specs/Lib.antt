@@ -1,2 +1,3 @@
+-- What its parts say to each other
 pub mod Tested
 pub mod Weights

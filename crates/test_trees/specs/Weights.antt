@@ -1,4 +1,4 @@
--- What the sum of a list tells of each of its items.
+-- What the sum of a list says of each of its items.
 use Rattle.std.specs.Prelude.{◌≡◌, ℕ, ◌+◌, ◌||◌, nat_le, false, List, [], ◌∷◌, refl}
 use Rattle.std.specs.List.{list_any}
 use Rattle.std.proofs.Common.{ap, ◌∙◌, arith}

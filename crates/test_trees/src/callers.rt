@@ -23,7 +23,7 @@ use sum_tree::SumTree;
 use tab_map::{TabMap, TabSnapshot};
 use text_rope::Rope;
 
-/// Two positions become three, of which the last two are deleted with the one behind them.
+/// Two positions become three, of which the last two are deleted with the one after them.
 #[test]
 fn composes_across_an_edge(rt: HostRuntime) -> Result<(), Fail> {
     let replaces = one(rt.alloc(), edit(2, 4, 2, 5))?;
@@ -68,7 +68,7 @@ fn node_alter_leaves_the_other_holder(rt: HostRuntime) -> Result<(), Fail> {
     Ok(())
 }
 
-/// [5, 9, 9, 4] where a copy that was shared before is still [5, 3, 4]. Behind 14 comes the second 9.
+/// [5, 9, 9, 4] where a copy that was shared before is still [5, 3, 4]. After 14 comes the second 9.
 #[test]
 fn a_place_is_found_by_sums(rt: HostRuntime) -> Result<(), Fail> {
     let alloc = rt.alloc();
@@ -102,7 +102,7 @@ fn shares_a_text(rt: HostRuntime) -> Result<(), Fail> {
     Ok(())
 }
 
-/// Of two marks at 3 the Right one goes behind two bytes that are put there. A copy that was shared before has it at 3.
+/// Of two marks at 3 the Right one goes after two bytes that are put there. A copy that was shared before has it at 3.
 #[test]
 fn an_insertion_takes_a_right_mark_along(rt: HostRuntime) -> Result<(), Fail> {
     let alloc = rt.alloc();
@@ -123,7 +123,7 @@ fn an_insertion_takes_a_right_mark_along(rt: HostRuntime) -> Result<(), Fail> {
     Ok(())
 }
 
-/// A list of one splice: behind two bytes that are kept three others are laid in.
+/// A list of one splice: after two bytes that are kept three others are laid in.
 fn laid_in(alloc: Global, steps: &mut Steps) -> Result<SpliceTree<Bytes, NoLoad>, NoMemory>
     ensures { IfOk result (λ tree. map (measured bytes_of) tree ≡ record { gap = 2; old = 0; new = 3 } ∷ []) }
 {
@@ -132,7 +132,7 @@ fn laid_in(alloc: Global, steps: &mut Steps) -> Result<SpliceTree<Bytes, NoLoad>
     SpliceTree::from_vec(alloc, vec![in alloc; splice]?, steps)
 }
 
-/// Place 2 stands before the three bytes (Left) or behind them (Right), and a place inside them leads back to it.
+/// Place 2 is before the three bytes (Left) or after them (Right), and a place inside them leads back to it.
 #[test]
 fn a_place_is_carried_past_what_is_laid_in(rt: HostRuntime) -> Result<(), Fail> {
     let mut steps = Steps::new();

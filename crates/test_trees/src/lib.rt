@@ -1,5 +1,5 @@
-//! Worked rows of the crates below the maps: what each call returns on values that are known. There is nothing here but
-//! tests.
+//! Worked rows of the crates that the maps depend on: what each call returns on values that are known. There is nothing
+//! here but tests.
 #![tactic(auto)]
 
 #[cfg(test)]

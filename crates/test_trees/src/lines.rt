@@ -28,6 +28,7 @@ fn wrapped(alloc: Global, text: &str, width: u32) -> Result<Cuts, NoMemory>
     requires long { length text.now < 300000 }
     requires lawful { IsWidth width }
 {
+    // For the proof: the cells of a line of so few bytes fit u32.
     line_laws();
     let pieces = long_piece(alloc, text)?;
     let cuts = cuts_of_pieces(alloc, pieces.as_slice(), 4, width)?;
@@ -55,8 +56,8 @@ fn are_at_each(cuts: &[u32], elements: u32) -> bool {
     true
 }
 
-/// 200,000 letters with no blank between fill 2,500 rows of 80 cells. Of words of two letters 27 fill a row, and the blank
-/// after the last one hangs: 80,000 such words fill 2,962 rows, and 26 words are left.
+/// 200,000 letters with no blank between fill 2,500 rows of 80 cells. Of words of two letters 27 fill a row, and the
+/// blank after the last one hangs. So 80,000 such words fill 2,962 rows, and 26 words are left.
 #[test]
 fn lines_of_200_000_bytes_are_cut_at_each_row(rt: HostRuntime) -> Result<(), Fail> {
     let alloc = rt.alloc();

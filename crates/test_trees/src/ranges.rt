@@ -49,8 +49,8 @@ fn ranges_are_met_and_have_their_ids_alone(rt: HostRuntime) -> Result<(), Fail> 
     Ok(())
 }
 
-/// Of these ranges a deletion of [1, 4) empties the first, which is dropped, and shortens the second. A copy that was shared
-/// before has both.
+/// Of these ranges a deletion of [1, 4) empties the first, which is dropped, and shortens the second. A copy that was
+/// shared before has both.
 #[test]
 fn ranges_are_shortened_and_dropped(rt: HostRuntime) -> Result<(), Fail> {
     let alloc = rt.alloc();
@@ -84,8 +84,8 @@ fn ranges_are_shortened_and_dropped(rt: HostRuntime) -> Result<(), Fail> {
     Ok(())
 }
 
-/// Adds two ranges that start at 1, of which the longer one has the lesser id, and one after them, and puts one byte in the
-/// place of [3, 7). It returns the ids of what is dropped.
+/// Adds two ranges that start at 1, of which the longer one has the lesser id, and one after them. Puts one byte in the
+/// place of [3, 7), and returns the ids of what is dropped.
 fn replace_ends(alloc: Global, tree: &mut RangeTree, steps: &mut Steps) -> Result<Vec<u32>, Fault>
     requires { tree.old ≡ [] }
 {
@@ -100,8 +100,8 @@ fn replace_ends(alloc: Global, tree: &mut RangeTree, steps: &mut Steps) -> Resul
     Ok(tree.apply(alloc, replacement, steps)?)
 }
 
-/// Of ranges that start before the replaced bytes [3, 7), for which one byte comes, the ends move; of two that start
-/// at 1 the longer one has the lesser id and comes to the same end.
+/// Of ranges that start before the replaced bytes [3, 7), for which one byte comes, the ends move. Of two that start at
+/// 1 the longer one has the lesser id and comes to the same end.
 #[test]
 fn ranges_that_start_before_a_replacement_are_sorted_again(rt: HostRuntime) -> Result<(), Fail> {
     let alloc = rt.alloc();

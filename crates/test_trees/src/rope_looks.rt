@@ -105,7 +105,7 @@ pub(crate) struct Put<'a> {
     pub(crate) text: &'a str,
 }
 
-/// Replaces, and returns whether just these edits tell of it.
+/// Replaces, and returns whether the patch of it is just these edits.
 pub(crate) fn is_told_by(
     alloc: Global,
     rope: &mut Rope,

@@ -92,8 +92,8 @@ fn length_without_first(alloc: Global, rope: &Rope, steps: &mut Steps) -> Result
     Ok(short.len())
 }
 
-/// Within a batch a text may be twice as long: this one has a byte more than a text may have, and is short again after the next
-/// replacement.
+/// Within a batch a text may be twice as long. This one has a byte more than a text may have, and is short again after
+/// the next replacement.
 #[test]
 fn keeps_a_text_over_the_limit(rt: HostRuntime) -> Result<(), Fail> {
     let alloc = rt.alloc();
@@ -175,8 +175,8 @@ fn type_lines(alloc: Global, rope: &mut Rope, times: u32, steps: &mut Steps) -> 
     Ok(())
 }
 
-/// Deletes four bytes a hundred times from the end of 400. It returns the first turn at which one edit doesn't tell of that,
-/// or others are left.
+/// Deletes four bytes a hundred times from the end of 400. Returns the first turn of which the patch isn't one edit, or
+/// after which others are left.
 fn first_wrong_deletion(
     alloc: Global,
     rope: &mut Rope,
@@ -204,7 +204,8 @@ fn first_wrong_deletion(
     Ok(None)
 }
 
-/// A text that is typed letter by letter at its start, and then deleted from its end. Nothing in the place of nothing is no edit.
+/// A text that is typed letter by letter at its start, and then deleted from its end. Nothing in the place of nothing
+/// is no edit.
 #[test]
 fn types_and_deletes(rt: HostRuntime) -> Result<(), Fail> {
     let alloc = rt.alloc();

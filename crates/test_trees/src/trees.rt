@@ -104,7 +104,7 @@ fn replace_and_push_leave_a_shared_copy(rt: HostRuntime) -> Result<(), Fail> {
     Ok(())
 }
 
-/// 9 in the place of 3, 7 before it and 1 at the end make [5, 7, 9, 4, 1] of [5, 3, 4], which a shared copy still is.
+/// 9 in the place of 3, 7 before it and 1 at the end make [5, 7, 9, 4, 1] of [5, 3, 4]. A shared copy still is that.
 #[test]
 fn single_items_are_put_where_they_belong(rt: HostRuntime) -> Result<(), Fail> {
     let alloc = rt.alloc();

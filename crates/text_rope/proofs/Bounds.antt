@@ -15,13 +15,13 @@ one_turn at first x s0 s1 s2 order so_far more =
 pub turns_within : (n m x s0 s1 : ℕ) → n ≤ m → s1 ≤ s0 + n * x → s1 ≤ s0 + m * x
 turns_within n m x s0 s1 le so_far = omega (arith, so_far, mul-le n x m x le (omega arith))
 
--- a turn gathers the bytes of a chunk behind another one, which isn't short
+-- a turn gathers the bytes of a chunk after another one, which isn't short
 pub turns_few : (chunks : List (List ℕ)) (at first k n m : ℕ) → AreFull chunks → at < length chunks → 0 < first → first ≤ at → 60 * (at - first) + k ≤ n → m ≡ length (get_or chunks at []) → 60 * (at + 1 - first) + k ≤ n + m
 turns_few chunks at first k n m full within some order few e =
     let more : 1 < length chunks = omega (arith, within, some, order) in
     omega (arith, few, order, e, All-get_or (λ (c : List ℕ). least ≤ length c) chunks at [] within (full more))
 
--- a way to the first chunk of a slice, and one for each 60 of the bytes behind that and for what is left of them
+-- a way to the first chunk of a slice. And one for each 60 of the bytes after that, and for what is left of them
 pub slice_steps : (n more h s0 s1 s2 : ℕ) → more ≤ n → s1 ≤ s0 + (h + 1) → s2 ≤ s1 + (more / 60 + 1) * (h + 1) → s2 ≤ s0 + 3 * (n / 64 + 1) * (h + 1)
 slice_steps n more h s0 s1 s2 le first then =
     let x = h + 1 in

@@ -20,7 +20,7 @@ target_at offset = record { bytes = offset; feeds = 0; chunks = 0 }
 abbrev pub IsFound : List (List ℕ) → ℕ → ℕ → Type 0
 IsFound chunks offset place = IsSought no_size joined_size size_of (λ (s : TextSize). s) size_cmp chunks (target_at offset) Left place
 
--- what stands before it ends at the offset or before it
+-- what is before it ends at the offset or before it
 pub found_start : (chunks : List (List ℕ)) (offset place : ℕ) → IsFound chunks offset place → (total_size (take (place - 1) chunks)).bytes ≤ offset
 found_start chunks offset place sought =
     elim (cases_lt 1 place) [
@@ -30,7 +30,7 @@ found_start chunks offset place sought =
           subst (λ (n : ℕ). (total_size (take n chunks)).bytes ≤ offset) none (omega arith)
     ]
 
--- and it ends itself at the offset or behind it
+-- and it ends itself at the offset or after it
 pub found_end : (chunks : List (List ℕ)) (offset place : ℕ) → offset ≤ length (concat chunks) → IsFound chunks offset place → offset ≤ length (concat (take (place - 1 + 1) chunks))
 found_end chunks offset place within sought =
     let same : place ≡ place - 1 + 1 = omega (arith, sought.past_start) in
@@ -42,7 +42,7 @@ found_end chunks offset place within sought =
           omega (arith, reached, total_bytes (take place chunks))
     ])
 
--- so many chunks stand before it
+-- so many chunks are before it
 pub found_count : (chunks : List (List ℕ)) (place : ℕ) → place ≤ length chunks + 1 → (total_size (take (place - 1) chunks)).chunks ≡ place - 1
 found_count chunks place within = total_chunks (take (place - 1) chunks) ∙ length-take-le (place - 1) chunks (omega (arith, within))
 

@@ -36,7 +36,7 @@ module _ (chunks : List (List ℕ)) (offset : ℕ) (r : TextSize) (m : List ℕ)
             (subst (λ (t : List ℕ). IsCharBoundary t (j - r.bytes)) (sym e) (boundary_into chunks offset j r are found (omega (arith, from, found.start)) (omega (arith, before, (out k boundary).0)) b));
       }
 
--- the row of the offset, by the line feeds of the chunks before and of the chunk's front
+-- the row of the offset, by the line feeds of the chunks before and of the chunk's prefix
 pub row_here : (chunks : List (List ℕ)) (offset : ℕ) (r : TextSize) (front : List ℕ) → IsBefore chunks offset r → front ≡ take (offset - r.bytes) (get_or chunks r.chunks []) → r.feeds + count_by is_feed front ≡ row_of (concat chunks) offset
 row_here chunks offset r front found e =
     let before : r.feeds ≡ count_by is_feed (concat (take r.chunks chunks)) = ap (λ (t : TextSize). t.feeds) found.size ∙ total_feeds (take r.chunks chunks) in

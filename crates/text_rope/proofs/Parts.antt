@@ -40,14 +40,14 @@ pub chunks_utf8 : (chunks : List (List ℕ)) → AreChunks chunks → IsUtf8 (co
 chunks_utf8 [] are = IsUtf8-nil
 chunks_utf8 (c ∷ cs) are = IsUtf8-append c (concat cs) (All-head IsChunk c cs are).utf8 (chunks_utf8 cs (All-tail IsChunk c cs are))
 
--- a place within the chunks: they are the text, and n bytes of it stand in the first k of them
+-- a place within the chunks: they are the text, and n bytes of it are in the first k of them
 pub in_two : (chunks : List (List ℕ)) (k : ℕ) → concat (take k chunks) ++ concat (drop k chunks) ≡ concat chunks
 in_two chunks k = sym (concat-append (take k chunks) (drop k chunks)) ∙ ap concat (take-append-drop k chunks)
 
 pub bytes_before : (chunks : List (List ℕ)) (r : TextSize) → r ≡ total_size (take r.chunks chunks) → r.bytes ≡ length (concat (take r.chunks chunks))
 bytes_before chunks r size = ap (λ (t : TextSize). t.bytes) size ∙ total_bytes (take r.chunks chunks)
 
--- the text is a front, the part m, and a rest
+-- the text is a prefix, the part m, and a rest
 pub record IsPartAt (text : List ℕ) (n : ℕ) (m : List ℕ) : Type 0 where
   pub front : List ℕ
   pub rest : List ℕ

@@ -15,7 +15,7 @@ use Rattle.text_rope.specs.Sizes.{total_size}
 use Rattle.text_rope.specs.declared.chunk.TextSize.{TextSize}
 use Rattle.text_rope.proofs.Parts.{IsPartAt, boundary_in, bytes_before, chunks_utf8, in_two}
 
--- a chunk and what is behind it, also past the last one
+-- a chunk and what comes after it, also past the last one
 pub next_chunk : (chunks : List (List ℕ)) (k : ℕ) → get_or chunks k [] ++ concat (drop (k + 1) chunks) ≡ concat (drop k chunks)
 next_chunk chunks k = elim (cases_lt k (length chunks)) [
   | inl within ↦ ap concat (sym (drop_more chunks k [] within))
@@ -41,7 +41,7 @@ chunk_small chunks k are = elim (cases_lt k (length chunks)) [
   | inr past ↦ omega (arith, ap length (get_or_past chunks k [] past))
 ]
 
--- the text is the chunks before, the chunk, and the chunks behind
+-- the text is the chunks before, the chunk, and the chunks after
 pub in_three : (chunks : List (List ℕ)) (k : ℕ) → concat (take k chunks) ++ (get_or chunks k [] ++ concat (drop (k + 1) chunks)) ≡ concat chunks
 in_three chunks k = ap (λ (t : List ℕ). concat (take k chunks) ++ t) (next_chunk chunks k) ∙ in_two chunks k
 
@@ -70,7 +70,7 @@ drop_at text front m rest i o e place within =
     ap (λ (k : ℕ). drop k text) (sym place) ∙ ap (λ (t : List ℕ). drop (length front + i) t) (sym e) ∙ drop-append-add front (m ++ rest) i
     ∙ drop-append-le i m rest within
 
--- what stands before a place of the chunk, and behind it
+-- what is before a place of the chunk, and after it
 pub take_in_chunk : (chunks : List (List ℕ)) (r : TextSize) (i : ℕ) → r ≡ total_size (take r.chunks chunks) → i ≤ length (get_or chunks r.chunks []) →
     take (r.bytes + i) (concat chunks) ≡ concat (take r.chunks chunks) ++ take i (get_or chunks r.chunks [])
 take_in_chunk chunks r i size within =
@@ -120,7 +120,7 @@ boundary_here chunks offset r are found =
       λ b. boundary_into chunks offset offset r are found found.start (within_chunk chunks offset r found) b,
     )
 
--- a test in the chunk of an offset tells whether that is a boundary of the text
+-- a test in the chunk of an offset says whether that is a boundary of the text
 pub tested_here : (chunks : List (List ℕ)) (offset : ℕ) (r : TextSize) (m : List ℕ) (t : Bool) → AreChunks chunks → IsBefore chunks offset r → m ≡ get_or chunks r.chunks [] → (IsTrue t ↔ IsCharBoundary m (offset - r.bytes)) → IsTrue t ↔ IsBoundary (concat chunks) offset
 tested_here chunks offset r m t are found e test =
     let here = boundary_here chunks offset r are found in (

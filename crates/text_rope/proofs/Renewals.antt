@@ -70,7 +70,7 @@ more_is_longer (c ∷ cs) (suc m) (suc n) are lt within =
 regroup : (left front s back right : List ℕ) → (left ++ ((front ++ s) ++ back)) ++ right ≡ (left ++ front) ++ (s ++ (back ++ right))
 regroup left front s back right = simp append_assoc
 
--- a text and what stands between two places of the chunks, up to the range and from it on
+-- a text and what lies between two places of the chunks, up to the range and from it on
 record IsAround (chunks : List (List ℕ)) (start end from to : ℕ) (front back : List ℕ) : Type 0 where
   order : from ≤ to
   within : to ≤ length chunks

@@ -1,4 +1,4 @@
--- Where a cursor finds the line feed behind which a row starts, and that the row starts there.
+-- Where a cursor finds the line feed after which a row starts, and that the row starts there.
 use Rattle.std.proofs.Common.{◌≡◌, ℕ, suc, ◌+◌, ◌-◌, ◌<◌, ◌≤◌, ◌++◌, false, List, [], ◌∷◌, length, length-append, count_by, take, drop, get_or, take_all, ap, sym, ◌∙◌, subst, inl, inr, arith}
 use Rattle.std.specs.List.{concat}
 use Rattle.std.specs.Ordering.{is_le, nat_cmp, ordering_then}
@@ -61,7 +61,7 @@ row_found chunks items seen row place r e f some within sought s =
       end = subst (λ (n : ℕ). row ≤ count_by is_feed (concat (take (n + 1) chunks))) (sym count) (row_found_end chunks row place within here);
     }
 
--- ---- a row starts behind its line feed
+-- ---- a row starts after its line feed
 
 pub starts_behind : (text : List ℕ) (row place : ℕ) → IsBehindFeed text row place → place ≡ line_start text row
 starts_behind text row place behind = from (place - 1) (omega (arith, behind.some)) where
@@ -107,11 +107,11 @@ feeds_enough chunks row r found =
     let feeds : r.feeds ≡ count_by is_feed (concat (take r.chunks chunks)) = ap (λ (t : RowSize). t.feeds) found.size ∙ total_feeds (take r.chunks chunks) in
     omega (arith, feeds, found.end, ap (λ (t : List ℕ). count_by is_feed t) (last_chunk chunks r.chunks), feeds-append (concat (take r.chunks chunks)) (get_or chunks r.chunks []))
 
--- the line feeds of a chunk's front are among its own
+-- the line feeds of a chunk's prefix are among its own
 pub front_feeds : (m : List ℕ) (n : ℕ) → n ≤ length m → count_by is_feed (take n m) ≤ count_by is_feed m
 front_feeds m n le = omega (arith, row_of-le m n (length m) le, ap (λ (t : List ℕ). count_by is_feed t) (take_all (length m) m (omega arith)))
 
--- the chunk of an offset has the line feed before it, where one stands there
+-- the chunk of an offset has the line feed before it, where there is one
 pub row_in_chunk : (chunks : List (List ℕ)) (offset row k : ℕ) (r : TextSize) → IsBefore chunks offset r → row ≡ r.feeds + k → 0 < k → k ≤ count_by is_feed (get_or chunks r.chunks []) → IsBeforeRow chunks row (row_size_of r)
 row_in_chunk chunks offset row k r found e some le =
     let feeds : r.feeds ≡ count_by is_feed (concat (take r.chunks chunks)) = ap (λ (t : TextSize). t.feeds) found.size ∙ total_feeds (take r.chunks chunks) in
@@ -122,7 +122,7 @@ row_in_chunk chunks offset row k r found e some le =
       end = omega (arith, e, feeds, le, ap (λ (t : List ℕ). count_by is_feed t) (last_chunk chunks r.chunks), feeds-append (concat (take r.chunks chunks)) (get_or chunks r.chunks []));
     }
 
--- a row's chunk has the line feed of the next one too, where more stand there
+-- a row's chunk has the line feed of the next one too, where there are more
 pub next_in_chunk : (chunks : List (List ℕ)) (row : ℕ) (r : RowSize) → IsBeforeRow chunks row r → row - r.feeds < count_by is_feed (get_or chunks r.chunks []) → IsBeforeRow chunks (row + 1) r
 next_in_chunk chunks row r found more =
     let feeds : r.feeds ≡ count_by is_feed (concat (take r.chunks chunks)) = ap (λ (t : RowSize). t.feeds) found.size ∙ total_feeds (take r.chunks chunks) in

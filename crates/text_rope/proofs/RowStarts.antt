@@ -15,11 +15,11 @@ use Rattle.cell_units.proofs.PlainLayers.{line_of_offset}
 use Rattle.cell_units.proofs.ReplacedRows.{row_of-le, row_of-lt}
 use Rattle.text_rope.proofs.Chunks.{total_feeds}
 
--- the sum of a rope's chunks tells how many lines there are
+-- the sum of a rope's chunks says how many lines there are
 pub line_count_sum : (chunks : List (List ℕ)) (text : List ℕ) (sum : TextSize) → sum ≡ total_size chunks → concat chunks ≡ text → sum.feeds + 1 ≡ line_count text
 line_count_sum chunks text sum e f = ap (λ (n : ℕ). n + 1) (ap (λ (s : TextSize). s.feeds) e ∙ total_feeds chunks ∙ ap (λ (t : List ℕ). count_by is_feed t) f) ∙ sym (line_count-is text)
 
--- before a row's start stands a line feed, where that isn't the text's start
+-- before a row's start is a line feed, where that isn't the text's start
 feed_before : (text : List ℕ) (row : ℕ) → row < line_count text → 0 < line_start text row → line_start text row ≤ length text → is_feed (get_or text (line_start text row - 1) 0) ≡ true
 feed_before text zero lt some within = absurd (omega (arith, some))
 feed_before text (suc row) lt some within =
@@ -28,7 +28,7 @@ feed_before text (suc row) lt some within =
     let next : line_end text row + 1 ≡ line_start text (suc row) = line_end_next text row (omega (arith, lt)) ∙ ap (line_start text) one in
     ap (λ (k : ℕ). is_feed (get_or text k 0)) (omega (arith, next)) ∙ ap is_feed (feed_at_end text row before (omega (arith, next, within)))
 
--- between a row's start and an offset in it no line feed stands
+-- between a row's start and an offset in it there is no line feed
 pub feedless : (text : List ℕ) (o k : ℕ) → o ≤ length text → line_start text (row_of text o) ≤ k → k < o → is_feed (get_or text k 0) ≡ false
 feedless text o k le from before = go (is_feed (get_or text k 0)) refl where
   go : (b : Bool) → is_feed (get_or text k 0) ≡ b → b ≡ false

@@ -14,7 +14,8 @@ ChangesText cost before after old new = (h : ℕ) → HasHeight h before → Has
 abbrev pub ways : ℕ → ℕ → ℕ
 ways count h = count * (h + 1)
 
--- n bytes are read: one way to each of their chunks, of which all but the first and the last have at least 60 of them
+-- n bytes are read: one way to each of their chunks. All of these but the first and the last have at least 60 of the
+-- bytes
 abbrev pub slicing : ℕ → ℕ → ℕ
 slicing n h = 3 * (n / 64 + 1) * (h + 1)
 

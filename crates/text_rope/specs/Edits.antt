@@ -15,7 +15,7 @@ use Rattle.cell_units.specs.declared.limits.TheConstants.{TEXT_LIMIT}
 abbrev pub IsRange : List ℕ → ℕ → ℕ → Type 0
 IsRange text start end = (start ≤ end) × IsBoundary text start × IsBoundary text end
 
--- the range was replaced by the clean text s, of which the patch tells, and the new text is within the limit
+-- the range was replaced by the clean text s, as the patch says, and the new text is within the limit
 pub record IsReplacedWithin (limit : ℕ) (old : List ℕ) (start end : ℕ) (s new : List ℕ) (patch : List Edit) : Type 0 where
   pub range : IsRange old start end
   pub small : length new ≤ limit
@@ -26,8 +26,8 @@ pub record IsReplacedWithin (limit : ℕ) (old : List ℕ) (start end : ℕ) (s 
 abbrev pub IsReplaced : List ℕ → ℕ → ℕ → List ℕ → List ℕ → List Edit → Type 0
 IsReplaced = IsReplacedWithin TEXT_LIMIT
 
--- The fault tells why the range isn't replaced by the clean text s, where the new text may have so many bytes. The range is
--- judged first, and then the length, for which there may be no memory.
+-- The fault says why the range isn't replaced by the clean text s, where the new text may have so many bytes. The range
+-- is judged first, and then the length, for which there may be no memory.
 abbrev pub IsFaultWithin : ℕ → List ℕ → ℕ → ℕ → List ℕ → Fault → Type 0
 IsFaultWithin limit text start end s (Refused BadRange) = ¬ IsRange text start end
 IsFaultWithin limit text start end s (Refused TooLong) = IsRange text start end × (limit < length (replaced_text text start end s))
@@ -45,7 +45,7 @@ pub record IsNeighbourBefore (chunks : List (List ℕ)) (place at : ℕ) (text :
   pub full : 0 < at → (1 < length chunks) × (least ≤ length text)
   pub small : length text ≤ 128
 
--- the text of the chunk at the place, and the place behind that chunk
+-- the text of the chunk at the place, and the place after that chunk
 pub record IsNeighbourBehind (chunks : List (List ℕ)) (place at : ℕ) (text : List ℕ) : Type 0 where
   pub whole : text ++ concat (drop at chunks) ≡ concat (drop place chunks)
   pub within : at ≤ length chunks

@@ -1,4 +1,6 @@
--- The words of contracts on texts that are kept as chunks.
+-- What the crate promises: all but those named next
+-- What its parts say to each other: Orders, RowSizes
+
 -- how large a part of a text is
 pub mod Sizes
 -- how many steps a call on a text takes at most

@@ -16,6 +16,6 @@ pub record IsRope (chunks : List (List ℕ)) : Type 0 where
 abbrev pub HasHeight : ℕ → List ℕ → Type 0
 HasHeight h text = length text < 120 * 6 ^ (h + 1)
 
--- the text begins with the front
+-- the text begins with the prefix
 abbrev pub IsFront : List ℕ → List ℕ → Type 0
 IsFront front text = (rest : List ℕ) × (front ++ rest ≡ text)

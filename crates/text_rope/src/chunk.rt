@@ -171,7 +171,7 @@ fn share_of(len: usize) -> usize
     }
 }
 
-/// The front of a text that goes into one chunk, and the rest. Neither is short unless the text is.
+/// The prefix of a text that goes into one chunk, and the rest. Neither is short unless the text is.
 fn cut(text: &str) -> (&str, &str)
     // There is text to cut.
     requires { 0 < length text.now }
@@ -181,7 +181,7 @@ fn cut(text: &str) -> (&str, &str)
     ensures chunk { IsChunk result.0.now }
     ensures shorter { length result.1.now < length text.now }
 
-    // The front has at least 60 bytes or the whole text, and the rest at least 60 or none.
+    // The prefix has at least 60 bytes or the whole text, and the rest at least 60 or none.
     ensures front { min least (length text.now) ≤ length result.0.now }
     ensures rest { 0 < length result.1.now → least ≤ length result.1.now }
 {

@@ -1,5 +1,5 @@
-//! How a range of a text is replaced: by making anew the one chunk in which it lies, where that chunk stays neither short
-//! nor too long, and else the chunks that it meets, with a neighbour on each side.
+//! How a range of a text is replaced. The one chunk in which it lies is made anew, where that chunk stays neither short
+//! nor too long. Else the chunks that it meets are, with a neighbour on each side.
 ghost use Rattle.std.specs.Prelude.{◌≡◌, ◌+◌, ◌*◌, ◌≤◌, ◌<◌, ◌++◌, ◌^◌, ◌↔◌, [], ℕ, length, slice_index_or, string_bytes, IfOk, IfErr, IfNone, IfSome, IsTrue, OnOk};
 ghost use Rattle.std.specs.List.{concat};
 ghost use Rattle.cell_units.specs.Operation.{replaced_text};
@@ -20,7 +20,7 @@ use edit_patch::Patch;
 use std::alloc::Global;
 use sum_tree::SumTree;
 
-/// Text that begins or ends between two chunks, with the place of the first chunk behind that border.
+/// Text that begins or ends between two chunks, with the place of the first chunk after that border.
 #[derive(Drop)]
 pub(crate) struct Part {
     pub at: u32,
@@ -54,7 +54,7 @@ fn neighbour_before<'a>(chunks: &'a SumTree<Chunk>, at: u32, steps: &mut Steps) 
     (at - 1, text_at(chunks, at - 1, steps))
 }
 
-/// The chunk behind a place, and the place behind that; no text where there is none.
+/// The chunk after a place, and the place after that; no text where there is none.
 fn neighbour_behind<'a>(chunks: &'a SumTree<Chunk>, at: u32, steps: &mut Steps) -> (u32, &'a str)
     requires { IsRope chunks.now }
     ensures found { IsNeighbourBehind chunks.now at result.0 result.1.now }
@@ -94,7 +94,7 @@ fn part_before(
     Ok(Part { at, text })
 }
 
-/// The text behind the offset, up to the end of the neighbour of its chunk, which was found.
+/// The text after the offset, up to the end of the neighbour of its chunk, which was found.
 fn part_behind(
     alloc: Global,
     chunks: &SumTree<Chunk>,
@@ -106,7 +106,7 @@ fn part_behind(
     requires rope { IsRope chunks.now }
     requires boundary { IsBoundary (concat chunks.now) offset }
 
-    // The chunk that was found there, and the size of what stands before it.
+    // The chunk that was found there, and the size of what is before it.
     requires found { IsBefore chunks.now offset found.before }
     requires here { found.text.now ≡ slice_index_or chunks.now found.before.chunks [] }
 
@@ -132,7 +132,7 @@ fn joined_chunk(
     back: &str,
     least: usize,
 ) -> Result<Option<Chunk>, NoMemory>
-    // Front and back fit one chunk, and at least one byte is asked of it.
+    // What comes first and last fits one chunk, and at least one byte is asked of it.
     requires kept { length front.now + length back.now ≤ CHUNK_BYTES }
     requires some { 0 < least }
 
@@ -155,8 +155,8 @@ fn joined_chunk(
     Ok(Some(Chunk::new(alloc, whole.as_str())?))
 }
 
-/// The chunk that was found at the end of the range, made anew by itself; none where the range begins before it, or where
-/// it would be too long, or short without being alone.
+/// The chunk that was found at the end of the range, made anew by itself. There is none where the range begins before
+/// it. Nor is there one where it would be too long, or short without being alone.
 fn renewal_within(
     alloc: Global,
     chunks: &SumTree<Chunk>,
@@ -169,7 +169,7 @@ fn renewal_within(
     requires rope { IsRope chunks.now }
     requires range { IsRange (concat chunks.now) start end }
 
-    // The chunk that was found at the range's end, and the size of what stands before it.
+    // The chunk that was found at the range's end, and the size of what is before it.
     requires found { IsBefore chunks.now end found.before }
     requires here { found.text.now ≡ slice_index_or chunks.now found.before.chunks [] }
 
@@ -259,8 +259,9 @@ pub(crate) fn is_range(chunks: &SumTree<Chunk>, start: u32, end: u32, steps: &mu
     found.text.is_char_boundary(first)
 }
 
-/// The chunks that hold the text, with its line breaks cleaned, in the place of the range, and the patch that tells of that.
-/// `BadRange` where that is no range of the text, and else `TooLong` where the new text would be over the limit.
+/// The chunks that hold the text, with its line breaks cleaned, in the place of the range, and the patch of that
+/// change. `BadRange` where that is no range of the text, and else `TooLong` where the new text would be over the
+/// limit.
 pub(crate) fn renewed(
     alloc: Global,
     chunks: &SumTree<Chunk>,
@@ -279,7 +280,7 @@ pub(crate) fn renewed(
     ensures small { let made = replaced_text (concat chunks.now) start end (clean text.now) in
         OnOk result (length made ≤ limit) }
 
-    // With the renewal the cleaned text is in the place of the range, and the patch tells of that.
+    // With the renewal the cleaned text is in the place of the range, and the patch says so.
     ensures renewed { let put = clean text.now in
         IfOk result (λ r. let new = r.0 in
         IsRenewed chunks.now start end put new.from new.to new.chunks.items) }

@@ -14,7 +14,7 @@ use cell_units::{Bias, NoMemory, Steps};
 use std::alloc::Global;
 use sum_tree::SumTree;
 
-/// The text of a chunk, with the size of what stands before it.
+/// The text of a chunk, with the size of what is before it.
 #[derive(Clone, Copy)]
 pub(crate) struct Found<'a> {
     pub before: TextSize,
@@ -31,13 +31,13 @@ pub(crate) fn text_of<'a>(chunk: Option<&'a Chunk>) -> &'a str
     }
 }
 
-/// The first chunk that ends at the offset or behind it.
+/// The first chunk that ends at the offset or after it.
 pub(crate) fn found_at<'a>(chunks: &'a SumTree<Chunk>, offset: u32, steps: &mut Steps) -> Found<'a>
     // The chunks of a rope, and an offset in its text or at its end.
     requires rope { IsRope chunks.now }
     requires within { offset ≤ length (concat chunks.now) }
 
-    // The chunk that the offset lies in or at an end of, and the size of what stands before it.
+    // The chunk that the offset lies in or at an end of, and the size of what is before it.
     ensures found { IsBefore chunks.now offset result.before }
     ensures here { result.text.now ≡ slice_index_or chunks.now result.before.chunks [] }
 
@@ -110,7 +110,7 @@ pub(crate) fn near_boundary(
     found.before.bytes + near as u32
 }
 
-/// The row of an offset: how many line feeds stand before it.
+/// The row of an offset: how many line feeds are before it.
 pub(crate) fn row_at(chunks: &SumTree<Chunk>, offset: u32, steps: &mut Steps) -> u32
     // The chunks of a rope, and an offset in its text or at its end.
     requires rope { IsRope chunks.now }
@@ -141,10 +141,10 @@ pub(crate) fn gather(
     requires within { found.before.chunks ≤ length chunks.now }
     requires here { found.text.now ≡ slice_index_or chunks.now found.before.chunks [] }
 
-    // At least `count` bytes stand from there on.
+    // At least `count` bytes follow from there on.
     requires some { count ≤ length (concat (drop found.before.chunks chunks.now)) }
 
-    // A front of the text from there on, of as many bytes or more.
+    // A prefix of the text from there on, of as many bytes or more.
     ensures front { let rest = concat (drop found.entry.before.chunks chunks.now) in
         IfOk result (λ s. IsFront (string_bytes s) rest) }
     ensures enough { IfOk result (λ s. count ≤ length (string_bytes s)) }

@@ -1,4 +1,5 @@
-//! The rope as a layer: a text without inlays and folds, whose lines are its own and whose boundaries stand at their offsets.
+//! The rope as a layer: a text without inlays and folds, whose lines are its own and whose boundaries are at their
+//! offsets.
 
 use crate::rope::Rope;
 use cell_units::{Bias, Layer, NoMemory, Piece, PieceKind, Point, Steps};

@@ -25,7 +25,7 @@ use sum_tree::SumTree;
 
 /// A text. Ropes share what they have in common, and no later change of the one is seen by another.
 ///
-/// The bounds on the steps of a call are given for each h such that the text has fewer than 120 * 6^(h + 1) bytes. The
+/// Bounds on the steps of a call are given for each h such that the text has fewer than 120 * 6^(h + 1) bytes. The
 /// least such h is the greatest height of the rope's tree.
 pub struct Rope {
     chunks: SumTree<Chunk>,
@@ -50,8 +50,9 @@ impl Model for Rope {
 }
 
 impl Rope {
-    /// The text of these bytes, with each CR LF and then each lone CR turned into LF. `TooLong` where there are more than
-    /// 33,554,432 bytes, and else `NotUtf8` where they aren't UTF-8, with the length of the longest prefix that is.
+    /// The text of these bytes, with each CR LF and then each lone CR turned into LF. `TooLong` where there are more
+    /// than 33,554,432 bytes, and else `NotUtf8` where they aren't UTF-8, with the length of the longest prefix that
+    /// is.
     pub fn from_bytes(alloc: Global, bytes: &[u8], steps: &mut Steps) -> Result<Rope, TextFault>
         ensures cases { MatchResult result
             (λ r. (r ≡ clean bytes.now) × IsAccepted bytes.now) (IsTextRefused bytes.now) }
@@ -88,10 +89,10 @@ impl Rope {
         self.chunks.sum().feeds + 1
     }
 
-    /// Puts the text, with each CR LF and then each lone CR turned into LF, in the place of the range, and tells of that
-    /// by a patch: of one edit, or of none where nothing replaces nothing. `BadRange` where the range is backwards or one
-    /// of its ends is past the text's or within a character, and else `TooLong` where there would be more than 33,554,432
-    /// bytes.
+    /// Puts the text, with each CR LF and then each lone CR turned into LF, in the place of the range of bytes. Returns
+    /// the patch of that: one edit, or none where nothing replaces nothing. `BadRange` where the range is backwards or
+    /// one of its ends is past the text's or within a character. Else `TooLong` where there would be more than
+    /// 33,554,432 bytes.
     pub fn replace(
         &mut self,
         alloc: Global,
@@ -115,7 +116,8 @@ impl Rope {
         Ok(patch)
     }
 
-    /// The text after such a replacement, and the patch that tells of it. This one stays as it is.
+    /// The text after such a replacement, and the patch of it. This one stays as it is. The errors are those of
+    /// `replace`.
     pub fn replaced(
         &self,
         alloc: Global,
@@ -135,8 +137,8 @@ impl Rope {
         self.replaced_within(alloc, start, end, text, TEXT_LIMIT, steps)
     }
 
-    /// The same where `TooLong` is the refusal of more bytes than `limit`, which is at most 67,108,864: within a batch of
-    /// replacements a text may be longer than the one after all of it.
+    /// The same where `TooLong` is the refusal of more bytes than `limit`, which is at most 67,108,864. Within a batch
+    /// of replacements a text may be longer than the one after all of it. `BadRange` comes first, as in `replace`.
     pub fn replaced_within(
         &self,
         alloc: Global,
@@ -207,7 +209,7 @@ impl Rope {
         range_of_row(&self.chunks, row, steps)
     }
 
-    /// The row of an offset, which is at most the text's length.
+    /// The row of an offset, counted from 0. The offset is at most the text's length in bytes.
     pub fn row_of(&self, offset: u32, steps: &mut Steps) -> u32
         requires { offset ≤ length self.now }
         ensures row { result ≡ row_of self.now offset }
@@ -217,7 +219,8 @@ impl Rope {
         row_at(&self.chunks, offset, steps)
     }
 
-    /// The row of an offset, which is at most the text's length, and its column of bytes in that row.
+    /// The row of an offset, counted from 0, and its column of bytes in that row. The offset is at most the text's
+    /// length in bytes.
     pub fn point_of(&self, offset: u32, steps: &mut Steps) -> Point
         requires { offset ≤ length self.now }
         ensures point { result ≡ point_of self.now offset }
@@ -227,8 +230,8 @@ impl Rope {
         point_at(&self.chunks, offset, steps)
     }
 
-    /// The offset of a point: past the last row the text's end, past a row's end that end, and inside a character its start
-    /// (Left) or its end (Right).
+    /// The offset of a point (*Points*): past the last row the text's end, and past a row's end that end. Inside a
+    /// character it is its start (Left) or its end (Right).
     pub fn offset_of(&self, point: Point, bias: Bias, steps: &mut Steps) -> u32
         ensures offset { result ≡ offset_at self.now point bias }
         ensures boundary { IsBoundary self.now result }
@@ -246,7 +249,7 @@ impl Rope {
         near_boundary(&self.chunks, start + point.column, bias, steps)
     }
 
-    /// The text of a row, without its line feed.
+    /// The text of a row, counted from 0, without its line feed.
     pub fn line_text(&self, alloc: Global, row: u32, steps: &mut Steps) -> Result<Text, NoMemory>
         requires { row < line_count self.now }
         ensures text { IfOk result (λ t. slice_get (buffer_lines self.now) row ≡ Some t) }
@@ -258,7 +261,7 @@ impl Rope {
         self.slice(alloc, start, end, steps)
     }
 
-    /// The text from one boundary to another, which isn't before the first.
+    /// The text from one boundary to another, in bytes. The second isn't before the first.
     pub fn slice(
         &self,
         alloc: Global,

@@ -15,7 +15,7 @@ use cell_units::{Bias, Point, Steps};
 use sum_core::Dimension;
 use sum_tree::SumTree;
 
-/// The size of a part of a text, where rows are sought: of two parts that begin at one place the one with more line
+/// The size of a part of a text, where rows are sought. Of two parts that begin at one place the one with more line
 /// feeds is the greater.
 #[derive(Clone, Copy, Debug, PartialEq, Eq, PartialOrd, Ord)]
 pub struct RowSize {
@@ -52,21 +52,21 @@ impl Dimension<TextSize> for RowSize {
     }
 }
 
-/// The text of a chunk, with the size of what stands before it.
+/// The text of a chunk, with the size of what is before it.
 #[derive(Clone, Copy)]
 struct FoundRow<'a> {
     before: RowSize,
     text: &'a str,
 }
 
-/// The chunk with the line feed behind which the row starts.
+/// The chunk with the line feed after which the row starts.
 fn found_row<'a>(chunks: &'a SumTree<Chunk>, row: u32, steps: &mut Steps) -> FoundRow<'a>
     // The chunks of a rope, and a row of its text that isn't the first.
     requires rope { IsRope chunks.now }
     requires some { 0 < row }
     requires within { row ≤ count_by is_feed (concat chunks.now) }
 
-    // The chunk with the line feed right before the row, and the size of what stands before that chunk.
+    // The chunk with the line feed right before the row, and the size of what is before that chunk.
     ensures found { IsBeforeRow chunks.now row result.before }
     ensures here { result.text.now ≡ slice_index_or chunks.now result.before.chunks [] }
 
@@ -87,7 +87,7 @@ fn found_row<'a>(chunks: &'a SumTree<Chunk>, row: u32, steps: &mut Steps) -> Fou
     }
 }
 
-/// The place right behind the line feed that is number `feeds`, counted from 1.
+/// The place right after the line feed that is number `feeds`, counted from 1.
 fn behind_feed(text: &str, feeds: u32) -> usize
     requires some { 0 < feeds }
     requires within { feeds ≤ count_by is_feed text.now }
@@ -176,7 +176,7 @@ pub(crate) fn end_of_row(chunks: &SumTree<Chunk>, row: u32, steps: &mut Steps) -
     }
 }
 
-/// The first offset of a row and its end. An end in the chunk behind whose line feed the row begins isn't sought.
+/// The first offset of a row and its end. An end in the chunk after whose line feed the row begins isn't sought.
 pub(crate) fn range_of_row(chunks: &SumTree<Chunk>, row: u32, steps: &mut Steps) -> (u32, u32)
     // The chunks of a rope, and a row of its text.
     requires rope { IsRope chunks.now }

@@ -46,11 +46,11 @@ becomes_tied seat v x y same views h at =
     let w : View = record { known = Some y.kept } in
     (w, set_tied y views seat w (λ j u e. of_equal x.kept.board y.kept.board u.known same (h j u e)) refl, refl)
 
--- what a seat knows may be told
+-- what a seat knows may be passed on
 pub forks : (seat : ℕ) (v : View) → Forks AreTied seat v v v
 forks seat v x views h at = snoc_tied x (set views seat v) v (set_tied x views seat v h (h seat v at)) (h seat v at)
 
--- a seat takes what it was told in place of what it knew
+-- a seat takes what it was given in place of what it knew
 pub merges : (seat : ℕ) (v : View) (other : ℕ) (u : View) → Merges AreTied seat v other u u (record { known = None })
 merges seat v other u x views h at apart there =
     let was : get_elem? views other ≡ some u =

@@ -1,4 +1,4 @@
--- What a contract sees of a writer, of a reader and of what is told.
+-- What a contract sees of a writer, of a reader and of what is passed on.
 use Rattle.std.specs.Prelude.{◌≡◌, ◌⊎◌, true, All, List, [], ◌∷◌, ◌++◌}
 use mathlib.Core.List.{IsPrefix}
 use Rattle.logbook.specs.Pages.{Book}

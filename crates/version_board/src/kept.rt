@@ -41,13 +41,14 @@ impl Model for Kept {
 }
 
 impl Kept {
+    /// The version that ends the known beginning of the row.
     pub fn version(&self) -> &Version
         ensures { result.now ≡ self.now.newest }
     {
         &self.version
     }
 
-    /// The same once more. It allocates nothing: `Err` is one owner of the version too many.
+    /// The same once more. It allocates nothing, and fails only where the count of owners of the version is full.
     pub fn share(&self) -> Result<Kept, AllocError>
         ensures same { IfOk result (λ kept. kept ≡ self.now) }
         ensures row { IfOk result (λ kept. IsRowTo kept.row kept.newest) }
@@ -59,7 +60,7 @@ impl Kept {
         })
     }
 
-    /// Of the rows of two of one board one begins the other.
+    /// One of the rows of two of one board begins the other.
     pub fn compare(&self, other: &Kept)
         requires { other.now.board ≡ self.now.board }
         ensures { AgreeOnRow self.now other.now }

@@ -2,14 +2,14 @@
 //!
 //! A board has one row of versions (`specs/Rows.antt`). `publish` adds to its end, and `tell` names its newest. What a
 //! reader gets is a version of that row whose journal begins with that of each version that the reader saw or learnt
-//! of; once it learnt of the last version, it gets that one. `look`, `learn` and `tell` are given no right to wait, and
+//! of. Once it learnt of the last version, it gets that one. `look`, `learn` and `tell` are given no right to wait, and
 //! no version is copied: a reader holds a share.
 //!
 //! The row is the log of a `logbook`, which exists in proofs alone. What threads share of it is one word, the number of
-//! the newest version, and a token without bytes beside each share of a version says which beginning of the row that
+//! the newest version. A token without bytes beside each share of a version says which beginning of the row that
 //! version ends. `left_right` shows the newest, under the rule that all that is shown is of one row.
 //!
-//! Nothing is promised of when a reader sees a version that it wasn't told of.
+//! Nothing is promised of when a reader sees a version that it wasn't notified of.
 #![tactic(auto)]
 
 mod kept;

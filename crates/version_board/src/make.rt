@@ -1,4 +1,4 @@
-//! Making a board.
+//! Making a board, with its writer and its readers.
 ghost use Rattle.std.specs.Prelude.{◌≡◌, ◌≤◌, [], ◌∷◌, IfOk, replicate, vec_len};
 ghost use Rattle.version_board.specs.Rows.{IsFirst};
 ghost use Rattle.version_board.specs.inside.Ties.{IsTied, known_at};

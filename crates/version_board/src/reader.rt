@@ -1,12 +1,12 @@
-//! The readers.
+//! A reader: it looks at the newest version, and never waits.
 use crate::kept::Kept;
 use crate::seats::{Seat, enter};
 use crate::writer::Told;
 use display_map::Version;
 use std::marker::Model;
 
-/// One that looks at the board. It is seen as what it knows of the row: each version up to the newest that it saw or learnt
-/// of, which it keeps.
+/// One that looks at the board. It is seen as what it knows of the row: each version up to the newest that it saw or
+/// learnt of, which it keeps.
 pub struct Reader {
     pub(crate) seat: Option<Seat>,
     pub(crate) kept: Kept,
@@ -43,8 +43,8 @@ impl Reader {
     ghost use Rattle.version_board.specs.Looking.{Sees};
     ghost use Rattle.version_board.specs.Rows.{BeginsWith};
 
-    /// The newest version, where the board can be entered and the version shared, and else the one that this reader keeps.
-    /// It waits for nobody.
+    /// The newest version, where the board can be entered and the version shared, and else the one that this reader
+    /// keeps. It waits for nobody.
     pub fn look(&mut self) -> &Version
         ensures* sees { sem 𝓛 (Sees self.entry result.now) }
         ensures begins { All (λ v. BeginsWith result.now v) self.old.row }
@@ -77,7 +77,7 @@ impl Reader {
         }
     }
 
-    /// Learns of the version that this board's writer told.
+    /// Learns of the version that this board's writer named (*Row of versions*).
     pub fn learn(&mut self, told: Told)
         requires { told.board ≡ self.old.board }
         ensures this { GoesOn self.old self.new }

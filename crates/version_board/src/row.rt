@@ -1,4 +1,5 @@
-//! The row of versions as a log that exists in proofs alone. Threads share its one word: the number of the newest version.
+//! The row of versions as a log that exists in proofs alone. Threads share its one word: the number of the newest
+//! version.
 use display_map::Version;
 use logbook::{Gain, Opening, Plain, Play, Rule, Seen, Word};
 

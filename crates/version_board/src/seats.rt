@@ -10,7 +10,7 @@ use left_right::{reader, writer};
 use std::alloc::AllocError;
 use std::sync::Wait;
 
-/// What a seat knows: a version of the row, once it was told of one. No value of it is made.
+/// What a seat knows: a version of the row, once it was notified of one. No value of it is made.
 pub struct View {
     pub known: Option<Kept>,
 }
@@ -95,8 +95,8 @@ pub fn enter(seat: Seat, number: u64) -> (Seat, Option<Kept>)
 
 /// Shows a version of the same row.
 ///
-/// Once a first version was shown, the list of operations has room for the two that it holds at most, and the version has
-/// two owners when it gets a third. So `Err`, which the types allow, has no cause.
+/// Once a first version was shown, the list of operations has room for the two that it holds at most. And the version
+/// has two owners when it gets a third. So `Err`, which the types allow, has no cause.
 #[tactic(auto, using(crate::proofs::Tying::last_wins))]
 pub fn show<R: Wait>(rt: &R, desk: Desk, kept: Kept) -> (Desk, Result<(), AllocError>)
     requires { kept.board ≡ desk.desk.shown.value.kept.board }
@@ -110,7 +110,8 @@ pub fn show<R: Wait>(rt: &R, desk: Desk, kept: Kept) -> (Desk, Result<(), AllocE
     desk.publish_as::<See, R>(rt)
 }
 
-/// Shows once more what is shown, so that the desk's seat knows the row, and its list of operations has room.
+/// Shows once more what is shown, so that the desk's seat knows the row, and its list of operations has room. `Err`
+/// means out of memory.
 #[tactic(auto, using(crate::proofs::Tying::last_wins))]
 pub fn show_first<R: Wait>(rt: &R, desk: Desk, kept: Kept) -> (Desk, Result<(), AllocError>)
     requires same { kept ≡ desk.desk.shown.value.kept }

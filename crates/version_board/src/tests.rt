@@ -65,6 +65,7 @@ fn publish_next<R: Wait>(
     ensures events { OnOk result (length display.new.events ≡ length display.old.events + 2) }
     ensures board { writer.new.board ≡ writer.old.board }
 {
+    // For the proof: a version that is published next follows the last one in a row.
     row_laws();
     display.note_line(alloc, 1)?;
     let next = display.publish(alloc, last)?;

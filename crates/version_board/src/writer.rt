@@ -1,4 +1,4 @@
-//! The writer, and what it tells.
+//! The writer, and what it names.
 ghost use Rattle.std.specs.Prelude.{◌≡◌, IfOk, OnOk, OnErr};
 ghost use Rattle.version_board.specs.Known.{added};
 ghost use Rattle.version_board.specs.Rows.{Follows, IsRowTo};
@@ -38,7 +38,7 @@ impl Model for Writer {
         × (w.desk.desk.shown.value.kept ≡ w.newest) };
 }
 
-/// A share of the newest version, as the writer told it. It is seen as what the writer knew of the row.
+/// A share of the newest version, as the writer named it. It is seen as what the writer knew of the row.
 #[derive(Drop)]
 pub struct Told {
     pub(crate) kept: Kept,
@@ -81,7 +81,8 @@ impl Writer {
         Ok(())
     }
 
-    /// Names the newest version. It allocates nothing: `NoMemory` is one owner of the version too many.
+    /// Names the newest version. It allocates nothing, and fails with `NoMemory` only where the count of owners of the
+    /// version is full.
     pub fn tell(&mut self) -> Result<Told, NoMemory>
         ensures told { IfOk result (λ told. told ≡ self.old) }
         ensures row { IsRowTo self.old.row self.old.newest }

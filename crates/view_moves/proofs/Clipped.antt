@@ -157,7 +157,8 @@ end-clipped spots c w goal wide cols m (GreatestBefore v n le all) =
     (greatest-is (λ x. x.row == c.row) spots w n (row_test w c.row row) (λ x k h. all x k (to_end c x wide (row_of_test x c.row h) (cols x k))))
 end-clipped spots c w goal wide cols m (LeastOfAll v first none) = absurd (false≢true (sym (none c m) ∙ to_end c c wide refl (cols c m)))
 
--- at the goal of a row that has a spot: the clip of the goal where that is in the row, and otherwise that of the row's first column
+-- at the goal of a row that has a spot: the clip of the goal where that is in the row. Else it is the clip of the row's
+-- first column
 goal_le : (row goal : ℕ) (x : Spot) → x.row ≡ row → nat_le x.col goal ≡ true → spot_le x (at row goal) ≡ true
 goal_le row goal x e h = grind (arith, nat_tests, e, h)
 

@@ -1,3 +1,4 @@
+-- What the crate promises
 pub mod Moves
 pub mod Laws
 pub mod Worked

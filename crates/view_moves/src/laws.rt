@@ -14,8 +14,8 @@ ghost use Rattle.view_moves.specs.Worked.{span_of};
 
 /// Laws of every caret. Call it where one of them is wanted; it does nothing.
 ///
-/// A caret is at a valid spot. Left and Right undo each other where there is a spot to go to, and Up and Down lead back to
-/// the row.
+/// A caret is at a valid spot. Left and Right undo each other where there is a spot to go to, and Up and Down lead back
+/// to the row.
 pub fn caret_laws()
     ensures caret_is_valid { (r : Record) (d : Spot) (goal : ℕ) (motion : Motion) →
         IsValidSpot r (caret r d goal motion).spot }

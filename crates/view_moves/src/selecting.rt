@@ -93,7 +93,8 @@ fn ends_of(s: Spot, t: Spot) -> Ends
     }
 }
 
-/// What a selection between two spots covers, in any order of the two, in four clips and two for each of its rows.
+/// What a selection between two spots covers, in any order of the two (*Carets and selections*). It takes four clips,
+/// and two for each of its rows.
 pub fn select<S: Sheet>(
     alloc: Global,
     view: &ViewOn<S>,
@@ -109,6 +110,7 @@ pub fn select<S: Sheet>(
         s.spans.items ≡ (selection (present_of view.now) one other).spans) }
     ensures counted { steps.old ≤ steps.new }
 {
+    // For the proof: the history of the view is lawful, and so is its record.
     view.lawful();
     let s = view.clip(alloc, one, Bias::Left, steps)?;
     let t = view.clip(alloc, other, Bias::Left, steps)?;

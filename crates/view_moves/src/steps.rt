@@ -239,7 +239,8 @@ fn next_goal(goal: u32, spot: Spot, motion: Motion) -> u32
     }
 }
 
-/// The caret after a motion from the nearest valid spot at or before `from`, in at most four clips.
+/// The caret after a motion from the nearest valid spot at or before `from` (*Carets and selections*). The goal is a
+/// column in cells. It takes at most four clips.
 pub fn step<S: Sheet>(
     alloc: Global,
     view: &ViewOn<S>,
@@ -251,6 +252,7 @@ pub fn step<S: Sheet>(
     ensures caret { IfOk result (λ s. s ≡ caret (present_of view.now) from goal motion) }
     ensures counted { steps.old ≤ steps.new }
 {
+    // For the proof: the history of the view is lawful, and so is its record.
     view.lawful();
     let c = view.clip(alloc, from, Bias::Left, steps)?;
     let spot = moved(alloc, view, c, goal, motion, steps)?;

@@ -19,7 +19,7 @@ use Rattle.wrap_map.specs.inside.Landings.{IsPut}
 use Rattle.wrap_map.proofs.Carried.{length-marks_landed, length-wraps, mark-landed, wrap-is}
 use Rattle.wrap_map.proofs.Synced.{length-stood_of, marks-stood, standing-after, sync-long, sync-stood, synced}
 
--- a map of lines as they stand
+-- a map of lines as they are wrapped
 abbrev pub map_of : Standing → ℕ → Wrapped
 map_of s width = record { standing = s; width = width }
 

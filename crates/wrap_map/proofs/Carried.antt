@@ -30,7 +30,7 @@ use Rattle.wrap_map.proofs.Synced.{length-stood_of}
 
 -- ---- lines that land
 
--- lines as they stand when the run has landed
+-- lines as they are wrapped when the run has landed
 abbrev pub landed_standing : Standing → List Edit → Run → ℕ → Standing
 landed_standing s since run width = record s { marks = marks_landed since run width s.marks }
 
@@ -47,7 +47,7 @@ mark-landed since run width marks i h =
     ∙ ap f (get_or-enumerate_from 0 marks i (0, 0) h)
     ∙ ap (λ (n : ℕ). cond (is_landed since run n) width (get_or marks i 0)) (zero-add i)
 
--- how a line stands
+-- how a line is wrapped
 pub stood-at : (lines : List (List Element)) (marks : List ℕ) (i : ℕ) → i < length lines → length marks ≡ length lines
     → stood_at (stood_of (record { lines = lines; marks = marks })) i ≡ stood_with (line_at lines i) (get_or marks i 0)
 stood-at lines marks i h e = pair-at stood lines marks i unwrapped e h
@@ -70,7 +70,7 @@ landed-plan s since run width e =
           (cases_lt i (length s.lines));
     }
 
--- a line that landed stands at the width
+-- a line that landed is wrapped at the width
 pub landed-stood : (s : Standing) (since : List Edit) (run : Run) (width i : ℕ) → length s.marks ≡ length s.lines → i < length s.lines
     → is_landed since run i ≡ true → stood_at (stood_of (landed_standing s since run width)) i ≡ stood_with (line_at s.lines i) width
 landed-stood s since run width i e h t =
@@ -121,7 +121,8 @@ came-same since old new i o p f came h =
     let w = came-within since old new i o p f came h in
     get_or_from_slice_get new i (line_at old o) [] (f.same i o w came ∙ slice_get-get_or old o [] h)
 
--- the lines that came from those of the run before one of them stand before a place, and all others that came behind it do not
+-- the lines that came from those of the run before one of them are before a place; all others that came after it are
+-- not
 pub record IsCarriedTo (since : List Edit) (run : Run) (next end : ℕ) : Type 0 where
   pub before : (i o : ℕ) → origin_of since i ≡ Some o → run.first ≤ o → o < next → i < end
   pub behind : (i o : ℕ) → origin_of since i ≡ Some o → next ≤ o → end ≤ i
@@ -169,7 +170,7 @@ none-between since run next end line p c at i a b =
     ] in
     f (origin_of since i) refl
 
--- nor behind the last line of the run
+-- nor after the last line of the run
 pub none-behind : (since : List Edit) (run : Run) (end : ℕ) → IsCarriedTo since run (run.first + run.count) end
     → (i : ℕ) → end ≤ i → is_landed since run i ≡ false
 none-behind since run end c i a =

@@ -1,4 +1,4 @@
--- A landing in two steps: first the lines that land are put in one row each, and then they stand at the width.
+-- A landing in two steps: first the lines that land are put in one row each, and then they are wrapped at the width.
 use Rattle.std.proofs.Common.{◌≡◌, inl, ⊎_elim, ℕ, zero, suc, ◌+◌, ◌<◌, ◌≤◌, ◌^◌, true, false, List, [], ◌∷◌, All, length, map, take, drop, get_or, replicate, Some, None, refl, ap, sym, subst, ◌∙◌, arith}
 use Rattle.std.specs.Prelude.{option_and_then}
 use Rattle.std.proofs.lemmas.Bool.{cases_Bool, cases_lt, cond-true, cond-false}
@@ -85,7 +85,7 @@ cuts-cleared s since run i e t =
     (λ h. ap (λ (st : Stood). length st.cuts) (get_or-eq_default (stood_of new) unwrapped (omega (arith, long, h))))
     (cases_lt i (length s.lines))
 
--- they have no more rows than any lines that stand as these do where they don't land
+-- they have no more rows than any lines that are wrapped as these are where they don't land
 cleared-below : (s : Standing) (since : List Edit) (run : Run) (ys : List Stood) → length s.marks ≡ length s.lines
     → ((i : ℕ) → is_landed since run i ≡ false → stood_at (stood_of s) i ≡ stood_at ys i)
     → AreBelow (stood_of (landed_standing s since run 0)) ys

@@ -9,16 +9,16 @@ use Rattle.std.proofs.lemmas.List.Elements.{All-push}
 use Rattle.std.proofs.lemmas.List.Sums.{sum_by-append}
 use Rattle.edit_patch.proofs.Origin.{origin-kept, origin-new, origin-past}
 
--- how many positions have to be kept behind the edits, before another one
+-- how many positions have to be kept after the edits, before another one
 abbrev pub gap_behind : List Edit → ℕ
 gap_behind es = min 1 (length es)
 
--- more edits may follow behind these
+-- more edits may follow after these
 abbrev pub Follow : List Edit → ℕ → ℕ → List Edit → Type 0
 Follow es o n rest = IsPatchFrom (gap_behind es) o n rest
 
--- edits up to an old and a new position: with those that may follow they are a patch, which says of later positions what
--- those that follow say
+-- edits up to an old and a new position. With those that may follow they are a patch, which says of later positions
+-- what those that follow say
 pub record AreEditsTo (es : List Edit) (o n : ℕ) : Type 0 where
   pub patch : (rest : List Edit) → Follow es o n rest → IsPatch (es ++ rest)
   pub behind : (rest : List Edit) (i : ℕ) → Follow es o n rest → n ≤ i → origin_of (es ++ rest) i ≡ origin_from o n rest i
@@ -36,7 +36,7 @@ no_edits = record {
 gap_behind-push : (es : List Edit) (e : Edit) → gap_behind (es ++ e ∷ []) ≡ 1
 gap_behind-push es e = let h = length-append es (e ∷ []) in omega (arith, h)
 
--- what follows behind one more edit follows, with it, behind those before
+-- what follows after one more edit follows, with it, after those before
 pub follow-push : (es : List Edit) (o n : ℕ) (e : Edit) (rest : List Edit) → IsNext (gap_behind es) o n e
     → Follow (es ++ e ∷ []) e.old_end e.new_end rest → Follow es o n (e ∷ rest)
 follow-push es o n e rest next f = (next, subst (λ (g : ℕ). IsPatchFrom g e.old_end e.new_end rest) (gap_behind-push es e) f)

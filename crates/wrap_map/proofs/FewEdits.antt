@@ -1,5 +1,5 @@
--- A landing replaces rows by no more edits than the run has lines: each edit has rows of lines that landed, and rows that stay stand
--- between two of them.
+-- A landing replaces rows by no more edits than the run has lines. Each edit has rows of lines that landed, and rows
+-- that stay lie between two of them.
 use Rattle.std.proofs.Common.{◌≡◌, ℕ, zero, suc, ◌+◌, ◌-◌, ◌<◌, ◌≤◌, Bool, true, false, cond, List, [], ◌∷◌, length, take, Option, Some, None, refl, sym, ap, subst, ◌∙◌, inl, inr, arith, length-append}
 use Rattle.std.specs.Prelude.{All}
 use Rattle.std.proofs.lemmas.Bool.{cases_Bool, cases_lt, cond-false, cond-true}
@@ -19,8 +19,8 @@ use Rattle.wrap_map.proofs.Rises.{came-from}
 
 -- ---- of any numbered lines
 
--- The rows that a patch replaces are of numbered lines, and those that stay are not. A row is of one line before the patch and after it,
--- and the lines rise with their rows, as the numbers do with the lines.
+-- The rows that a patch replaces are of numbered lines, and those that stay are not. A row is of one line before the
+-- patch and after it. The lines rise with their rows, as the numbers do with the lines.
 record AreNumbered (all : List Edit) (NewIn OldIn HasNumber : ℕ → ℕ → Type 0) (total was last : ℕ) : Type 0 where
   new : (q : ℕ) → q < total → origin_of all q ≡ None → (l : ℕ) × (v : ℕ) × NewIn q l × HasNumber l v
   old : (j : ℕ) → j < was → IsReplaced all j → (l : ℕ) × (v : ℕ) × OldIn j l × HasNumber l v

@@ -66,7 +66,7 @@ length-with_last [] s = omega arith
 length-with_last (t ∷ []) s = omega (arith, length-two (are_alike t.stood s.stood) t s)
 length-with_last (t ∷ u ∷ us) s = omega (arith, length-with_last (u ∷ us) s)
 
--- the last one grows, or one more is put behind it
+-- the last one grows, or one more is put after it
 pub with_last-grown : (ss : List Stretched) (s t : Stretched) (i : ℕ) → i + 1 ≡ length ss → t ≡ get_or ss i t → are_alike t.stood s.stood ≡ true → set ss i (grown t s) ≡ with_last ss s
 with_last-grown [] s t i at is e = absurd (omega arith)
 with_last-grown (u ∷ []) s t zero at is e =
@@ -90,7 +90,7 @@ pub with_last-first : (ss : List Stretched) (s : Stretched) → length ss ≡ 0 
 with_last-first [] s none = refl
 with_last-first (u ∷ us) s none = absurd (omega arith)
 
--- ---- how the first and the last stand
+-- ---- how the first and the last are wrapped
 
 -- the first of some, or this one
 abbrev first_or : List Stretched → Option Stood → Option Stood
@@ -110,7 +110,7 @@ last-two : (b : Bool) (t s : Stretched) → are_alike t.stood s.stood ≡ b → 
 last-two true t s e = ap Some (alike-same t.stood s.stood e)
 last-two false t s e = refl
 
--- the last of a list with something in front
+-- the last of a list with something before it
 last-cons : (t : Stretched) (ss : List Stretched) (l : Stood) → last_of ss ≡ Some l → last_of (t ∷ ss) ≡ Some l
 last-cons t [] l e = absurd (cc)
 last-cons t (s ∷ ss) l e = e
@@ -122,7 +122,7 @@ last-with_last (t ∷ u ∷ us) s = last-cons t (with_last (u ∷ us) s) s.stood
 
 -- ---- no two neighbours could be one
 
--- a list with one in front that its first couldn't join
+-- a list with one before it that its first couldn't join
 apart-cons : (t : Stretched) (ss : List Stretched) → AreSeparate (Some t.stood) (first_of ss) → AllAdjacent AreUnlike ss → AllAdjacent AreUnlike (t ∷ ss)
 apart-cons t [] a b = tt
 apart-cons t (s ∷ ss) a b = (a, b)

@@ -11,7 +11,7 @@ use Rattle.wrap_map.specs.inside.Landings.{Landings, closed, closed_if_any, edit
 use Rattle.wrap_map.proofs.Edits.{AreEditsTo, Follow, edits-kept, edits-new, edits-push, follow-push, gap_behind, no_edits, push-rest}
 use Rattle.wrap_map.proofs.StoodRows.{drop-mixed, mixed, mixed-on, rows-agree, rows-next, rows-span, take-mixed}
 
--- the same lines before and after, of which some landed, and the others stand as they did
+-- the same lines before and after, of which some landed, and the others are wrapped as they were
 pub record IsPlan (before after : List Stood) (landed : ℕ → Bool) : Type 0 where
   pub same_long : length after ≡ length before
   pub kept : (i : ℕ) → landed i ≡ false → stood_at before i ≡ stood_at after i
@@ -29,7 +29,7 @@ pub record IsDoneTo (before after : List Stood) (landed : ℕ → Bool) (lines :
       → line < done → k < 1 + length (stood_at after line).cuts
       → origin_of (edits ++ rest) (rows_in (take line after) + k) ≡ row_from before landed line k
 
--- and the open group has the lines that land from its start on, behind a line that is kept
+-- and the open group has the lines that land from its start on, after a line that is kept
 pub record IsOpen (before after : List Stood) (landed : ℕ → Bool) (l : Landings) (done : ℕ) : Type 0 where
   pub done_to : IsDoneTo before after landed l.lines l.edits done
   pub gap : done + gap_behind l.edits ≤ l.start

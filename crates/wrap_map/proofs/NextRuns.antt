@@ -18,7 +18,7 @@ mark-of ls width k = get_or-map (λ (l : Stood). l.mark) ls k unwrapped
 count-of : (ls : List Stood) → length (marks_in ls) ≡ length ls
 count-of ls = length-map ls (λ (l : Stood). l.mark)
 
--- not where it stands at the width
+-- not where it is wrapped at the width
 pub settled : (ls : List Stood) (width : ℕ) (out : List Run) (k : ℕ)
     → (stood_at ls k).mark ≡ width → waits (marks_in ls) width out k ≡ false
 settled ls width out k h =
@@ -75,7 +75,7 @@ pub record IsPassed (ls : List Stood) (width : ℕ) (out : List Run) (j line : �
 one_more : (P : ℕ → Type 0) (j : ℕ) → ((i : ℕ) → i < j → P i) → P j → (i : ℕ) → i < j + 1 → P i
 one_more P j below at i h = ⊎_elim (λ a. below i a) (λ a. let e : j ≡ i = omega arith in subst P e at) (cases_lt i j)
 
--- past a run that begins at or before the next line that stands at another mark
+-- past a run that begins at or before the next line that has another mark
 pub passed-on : (ls : List Stood) (width : ℕ) (out : List Run) (j line found next : ℕ) (run : Run)
     → IsPassed ls width out j line → j < length out → run ≡ get_or out j run
     → IsOther ls line width found → run.first ≤ found → length ls < 2 ^ 32
@@ -139,7 +139,7 @@ next-before ls width out j line found end run next apart p other within is some 
     (cases_lt end (length ls)))
     r
 
--- behind all runs that are out
+-- after all runs that are out
 pub next-behind : (ls : List Stood) (width : ℕ) (out : List Run) (line found end : ℕ) (next : Run)
     → IsPassed ls width out (length out) line → IsOther ls line width found → end ≡ length ls
     → IsRunFrom ls width found end next → IsNext (marks_in ls) width out next
@@ -149,7 +149,7 @@ next-behind ls width out line found end next p other end-is r =
     (past_end ls width out end (omega arith))
     r
 
--- no line waits where from here on all stand at the width
+-- no line waits where from here on all are wrapped at the width
 pub none_waits : (ls : List Stood) (width : ℕ) (out : List Run) (j line : ℕ)
     → IsPassed ls width out j line → IsOtherIfAny ls line width None → (k : ℕ) → waits (marks_in ls) width out k ≡ false
 none_waits ls width out j line p none k =

@@ -18,7 +18,7 @@ use Rattle.wrap_map.proofs.Spreads.{extents, lines-spread}
 abbrev pub switches_to : List Stretched → ℕ → ℕ
 switches_to ss i = (extents (take i ss)).switches
 
--- the first stretch whose end, in changes, is behind so many
+-- the first stretch whose end, in changes, is after so many
 abbrev pub IsAtSwitch : List Stretched → ℕ → ℕ → Type 0
 IsAtSwitch ss n i = IsFirst no_extent joined_extents extent_of (λ (t : Extent). t.switches) ss n Right i
 
@@ -85,7 +85,7 @@ switches-more ss m (suc n) le within = elim (cases_lt n m) [
       omega (arith, one, step, switches-more ss m n more (omega arith))
 ]
 
--- what holds behind some stretches: the last stands at the width, and so does each line of them from one on
+-- what holds after some stretches: the last is wrapped at the width, and so is each line of them from one on
 record AreSame (ss : List Stretched) (width i m : ℕ) : Type 0 where
   last : mark_of (extents (take m ss)).ends ≡ width
   some : (f : Ends) × ((extents (take m ss)).ends ≡ Some f)
@@ -203,7 +203,7 @@ none-past ss n width i e at =
 
 -- ---- from change to change
 
--- the lines from one on up to a stretch stand at other marks than the width, and that line is not behind the stretch
+-- the lines from one on up to a stretch have other marks than the width, and that line is not after the stretch
 pub record IsPassedTo (ss : List Stretched) (line width i : ℕ) : Type 0 where
   pub behind : (s : Stretched) → slice_get ss i ≡ Some s → line < lines_to ss i + s.lines
   pub other : (k : ℕ) → line ≤ k → k < lines_to ss i → (stood_at (spread ss) k).mark ≢ width
@@ -220,7 +220,7 @@ module _ (ss : List Stretched) (line width i : ℕ) (s : Stretched) (each : All 
   pub from-within : max (lines_to ss i) line < lines_to ss i + s.lines
   from-within = omega (arith, passed.behind s e, (All-at IsStretch ss i s e each).some)
 
-  -- it stands at the width
+  -- it is wrapped at the width
   pub next-here : (end : ℕ) → line < end → s.stood.mark ≡ width → IsNextAt (spread ss) line end width (min (max (lines_to ss i) line) end)
   next-here end some mark = record {
     order = omega arith;
@@ -232,7 +232,7 @@ module _ (ss : List Stretched) (line width i : ℕ) (s : Stretched) (each : All 
         ∙ ap (λ (l : Stood). l.mark) (stood-in ss i (max (lines_to ss i) line) s e (omega arith) from-within) ∙ mark;
   }
 
-  -- it stands at another mark, and goes on to the end
+  -- it has another mark, and goes on to the end
   pub next-end : (end : ℕ) → line < end → s.stood.mark ≢ width → end ≤ lines_to ss i + s.lines → IsNextAt (spread ss) line end width end
   next-end end some other reached = record {
     order = omega arith;
@@ -244,7 +244,7 @@ module _ (ss : List Stretched) (line width i : ℕ) (s : Stretched) (each : All 
     at = λ less. absurd (omega arith);
   }
 
-  -- it stands at another mark, and so do all up to the next change
+  -- it has another mark, and so do all up to the next change
   pub passed-on : (j : ℕ) → s.stood.mark ≢ width → IsAtSwitch ss (switches_to ss (i + 1)) j → IsPassedTo ss line width j × (max (lines_to ss i) line < lines_to ss j)
   passed-on j other found =
       let behind = found-behind ss i j s e found in

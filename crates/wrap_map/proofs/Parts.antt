@@ -77,7 +77,7 @@ module _ {X : Type 0} where
 
 -- ---- the stretch of a line
 
--- how many lines stand before the stretch of an index
+-- how many lines are before the stretch of an index
 abbrev pub lines_to : List Stretched → ℕ → ℕ
 lines_to ss i = length (spread (take i ss))
 
@@ -106,7 +106,7 @@ drop-in ss i n k s e is le =
     ∙ drop-past (spread (take i ss)) (replicate s.lines s.stood ++ spread (drop (suc i) ss)) n k is
     ∙ drop-block s.lines k s.stood (spread (drop (suc i) ss)) le
 
--- each line of the stretch stands as it says
+-- each line of the stretch is wrapped as it says
 pub stood-in : (ss : List Stretched) (i n : ℕ) (s : Stretched) → slice_get ss i ≡ Some s → lines_to ss i ≤ n → n < lines_to ss i + s.lines → stood_at (spread ss) n ≡ s.stood
 stood-in ss i n s e low high =
     let k = n - lines_to ss i in
@@ -163,7 +163,7 @@ line-high-Left ss n i s e found =
     let within = slice_get_within ss i s e in
     omega (arith, lines-next ss i s e, found.reaching within)
 
--- what stands before the stretch ends before the line
+-- what is before the stretch ends before the line
 pub short-Left : (ss : List Stretched) (n i : ℕ) → IsAtLine ss n Left i → 0 < i → lines_to ss i < n
 short-Left ss n i found more = omega (arith, lines-spread (take i ss), found.short more)
 
@@ -213,7 +213,7 @@ module _ {X : Type 0} where
   pub found-none : (xs : List X) (i : ℕ) (o : Option (Bor X)) → option_copied o ≡ slice_get xs i → o ≡ None → slice_get xs i ≡ None
   found-none xs i o e is = sym e ∙ ap option_copied is
 
--- what stands before it
+-- what is before it
 pub before-lines : (ss : List Stretched) (i : ℕ) (t : Extent) → t ≡ extents (take i ss) → t.lines ≡ lines_to ss i
 before-lines ss i t e = ap (λ (t : Extent). t.lines) e ∙ sym (lines-spread (take i ss))
 
@@ -226,7 +226,7 @@ not-past ss n i found within e =
     let total = ap (λ (l : List Stretched). length (spread l)) (all-before ss i e) in
     omega (arith, line-low Right ss n i found, total)
 
--- how its line stands
+-- how its line is wrapped
 pub stood-found : (ss : List Stretched) (n i : ℕ) (s : Stretched) → IsAtLine ss n Right i → slice_get ss i ≡ Some s → s.stood ≡ stood_at (spread ss) n
 stood-found ss n i s found e = sym (stood-in ss i n s e (line-low Right ss n i found) (line-high-Right ss n i s e found))
 

@@ -142,7 +142,7 @@ last-append (s ∷ []) [] some = absurd (omega arith)
 last-append (s ∷ []) (t ∷ ts) some = refl
 last-append (s ∷ t ∷ ts) b some = last-append (t ∷ ts) b some
 
--- what stands between the head and the tail
+-- what lies between the head and the tail
 abbrev pub middle : List Stretched → List Stretched → List Stretched → List Stretched
 middle head fresh tail = gathered (gathered head fresh) tail
 

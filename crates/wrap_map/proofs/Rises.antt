@@ -1,5 +1,5 @@
--- How many rows there are while lines land, where no line that lands has been put in one row before: no more than there were, and
--- one for each cut of the run.
+-- How many rows there are while lines land, where no line that lands has been put in one row before. They are no more
+-- than there were, and one for each cut of the run.
 use Rattle.std.proofs.Common.{◌≡◌, ⊎_elim, ℕ, zero, suc, ◌+◌, ◌-◌, ◌<◌, ◌≤◌, ◌^◌, Bool, true, false, cond, List, [], ◌∷◌, ◌++◌, length, map, take, drop, get_or, Option, Some, None, refl, ap, sym, ◌∙◌, arith, add-one}
 use Rattle.std.specs.Prelude.{sum_by}
 use Rattle.std.specs.Option.{option_map_or}

@@ -1,4 +1,4 @@
--- Lines of few elements have few rows, at whatever marks they stand.
+-- Lines of few elements have few rows, whatever their marks.
 use Rattle.std.proofs.Common.{ℕ, zero, suc, ◌+◌, ◌-◌, ◌<◌, ◌≤◌, ◌==◌, ◌^◌, List, [], ◌∷◌, length, arith}
 use Rattle.std.specs.Prelude.{nat_lt, sum_by}
 use Rattle.std.proofs.lemmas.Bool.{cond_both}

@@ -150,7 +150,7 @@ one-run ms first end width (suc n) is within some each ends =
 mark-at : (ls : List Stood) (k : ℕ) → get_or (marks_in ls) k 0 ≡ (stood_at ls k).mark
 mark-at ls k = get_or-map (λ (l : Stood). l.mark) ls k unwrapped
 
--- one run, and the runs behind it
+-- one run, and the runs after it
 pub record IsTurn (ls : List Stood) (line first end width : ℕ) : Type 0 where
   pub some : first < end
   pub within : end ≤ length ls
@@ -191,7 +191,7 @@ turn ls line first width end (Some n) at is other e =
     subst (λ (n : ℕ). IsTurn ls line first n width) (sym e)
     (turn-to ls line first n width at is more (omega arith) other.before (inr (within, other.other)))
 
--- behind the last run
+-- after the last run
 pub no-turn : (ls : List Stood) (line : ℕ) → line ≤ length ls → IsOtherIfAny ls line 0 None → rest_of (marks_in ls) line ≡ []
 no-turn ls line within none =
     let count : length (marks_in ls) ≡ length ls = length-map ls (λ (l : Stood). l.mark) in

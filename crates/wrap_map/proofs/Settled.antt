@@ -1,4 +1,4 @@
--- Whether all lines stand at a width, by the sum of their stretches.
+-- Whether all lines are wrapped at a width, by the sum of their stretches.
 use Rattle.std.proofs.Common.{◌≡◌, ℕ, zero, suc, ◌+◌, ◌≤◌, Bool, true, false, List, [], ◌∷◌, ◌++◌, map, replicate, Option, Some, None, refl, sym, ap, ◌∙◌, inl, inr, arith}
 use Rattle.std.specs.List.{list_all}
 use Rattle.std.specs.Prelude.{◌==◌, ◌&&◌, if◌then◌else◌, All}
@@ -21,7 +21,7 @@ twice : (a b : Bool) → (a && (a && b)) ≡ (a && b)
 twice true b = refl
 twice false b = refl
 
--- so many lines that stand so, and others
+-- so many lines that are wrapped so, and others
 block : (p : Stood → Bool) (n : ℕ) (l : Stood) (rest : List Stood) → 1 ≤ n → list_all p (replicate n l ++ rest) ≡ (p l && list_all p rest)
 block p zero l rest some = absurd (omega arith)
 block p (suc zero) l rest some = refl
@@ -73,6 +73,6 @@ spread-told width (s ∷ ss) each =
     ∙ ap (λ (b : Bool). (s.stood.mark == width) && b) (spread-told width ss (All-tail IsStretch s ss each))
     ∙ joined s.stood.mark width (extents ss).switches (extents ss).ends (none-changes ss)
 
--- all marks are the width where the sum tells so
+-- all marks are the width where the sum says so
 pub marks-told : (width : ℕ) (ss : List Stretched) → All IsStretch ss → list_all (λ mark. mark == width) (marks_in (spread ss)) ≡ are_at width (extents ss).switches (extents ss).ends
 marks-told width ss each = list_all-map (λ mark. mark == width) (λ (l : Stood). l.mark) (spread ss) ∙ spread-told width ss each

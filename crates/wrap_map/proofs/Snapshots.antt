@@ -1,4 +1,4 @@
--- What is read of lines as they stand.
+-- What is read of lines as they are wrapped.
 use Rattle.std.proofs.Common.{◌≡◌, ℕ, zero, suc, ◌+◌, ◌-◌, ◌<◌, ◌≤◌, ◌^◌, List, [], ◌∷◌, length, map, get_or, take, drop, Some, None, sym, ap, ◌∙◌, arith, length-append}
 use Rattle.std.specs.List.{slice_get, zip}
 use Rattle.std.proofs.lemmas.List.{drop_more, take_more}

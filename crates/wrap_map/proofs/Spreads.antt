@@ -126,7 +126,7 @@ runs-block (suc n) l rest some one = elim one [
       subst (λ (m : ℕ). runs_in (l ∷ (replicate m l ++ rest)) ≡ runs_in (l ∷ rest)) z refl
 ]
 
--- a stretch begins as all its lines stand
+-- a stretch begins as all its lines are wrapped
 begins-block : (n : ℕ) (l : Stood) (rest : List Stood) → 1 ≤ n → replicate n l ++ rest ≡ l ∷ (replicate (n - 1) l ++ rest)
 begins-block zero l rest some = absurd (omega arith)
 begins-block (suc n) l rest some =

@@ -1,4 +1,4 @@
--- The rows of lines as they stand, and what a replacement of lines does to them.
+-- The rows of lines as they are wrapped, and what a replacement of lines does to them.
 use Rattle.std.proofs.Common.{◌≡◌, ℕ, zero, suc, ◌+◌, ◌<◌, ◌≤◌, List, [], ◌∷◌, ◌++◌, length, map, get_or, take, drop, replicate, refl, ap, sym, ◌∙◌, arith, append_assoc, length-append, length-drop}
 use Rattle.std.specs.List.{zip}
 use Rattle.std.proofs.Math.Seq.{take-append_seam, drop-append_seam}
@@ -40,7 +40,7 @@ pub rows_in-unwrapped : (n : ℕ) → rows_in (replicate n unwrapped) ≡ n
 rows_in-unwrapped zero = refl
 rows_in-unwrapped (suc n) = let h = rows_in-unwrapped n in omega (arith, h)
 
--- a line with its mark as it stands, and the texts of its rows
+-- a line with its mark, and the texts of its rows
 abbrev pub stood : List Element × ℕ → Stood
 stood p = stood_with p.0 p.1
 
@@ -55,7 +55,7 @@ rows_of-texts (p ∷ ps) =
     let b = length-row_texts p.0 p.1 in
     omega (arith, h, a, b)
 
--- the rows before a line, by how the lines before it stand
+-- the rows before a line, by how the lines before it are wrapped
 pub rows_before-stood : (s : Standing) (k : ℕ) → rows_before (shown_rows s) k ≡ rows_in (take k (stood_of s))
 rows_before-stood s k =
     let ps = zip s.lines s.marks in
@@ -104,7 +104,7 @@ zip-drop (suc n) (x ∷ xs) (u ∷ us) = zip-drop n xs us
 
 -- ---- a replacement of lines
 
--- what stands in a list from one place to another
+-- what lies in a list from one place to another
 pub drop-add : {X : Type 0} (n m : ℕ) (xs : List X) → drop n (drop m xs) ≡ drop (m + n) xs
 drop-add n zero xs = ap (λ (k : ℕ). drop k xs) (omega arith)
 drop-add n (suc m) [] = drop_all n [] (omega arith) ∙ sym (drop_all (suc m + n) [] (omega arith))

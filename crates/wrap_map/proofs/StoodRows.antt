@@ -96,7 +96,8 @@ length-mixed xs ys d h e =
 pub rows-parts : (d : ℕ) (ls : List Stood) → rows_in ls ≡ rows_in (take d ls) + rows_in (drop d ls)
 rows-parts d ls = ap rows_in (sym (take-append-drop d ls)) ∙ rows-append (take d ls) (drop d ls)
 
--- the rows before the group's start and its end, and behind it, in the lines before any landed, just before it and after it
+-- the rows before the group's start and its end, and after it, in the lines before any landed, just before it and after
+-- it
 pub record AreRound (before lines after : List Stood) (start end : ℕ) : Type 0 where
   pub behind : ℕ
   pub first : rows_in before ≡ rows_in (take end before) + behind

@@ -18,7 +18,7 @@ use Rattle.wrap_map.proofs.Standings.{all-unwrapped, length-pairs, mapped-after,
 pub length-stood_of : (s : Standing) → length s.marks ≡ length s.lines → length (stood_of s) ≡ length s.lines
 length-stood_of s one_each = length-pairs stood s.lines s.marks one_each
 
--- how lines stand after a replacement
+-- how lines are wrapped after a replacement
 pub stood-after : (s : Standing) (lines : List (List Element)) (below : Shift) → LeadsAt s.lines lines below.start below.end below.count
     → length s.marks ≡ length s.lines → stood_of (standing_after s lines (Some below)) ≡ cleared below (stood_of s)
 stood-after s lines below l one_each =
@@ -58,7 +58,7 @@ rows-replaced s below rows r = record {
   count_is = r.count_is;
 }
 
--- ---- lines as they stand
+-- ---- lines as they are wrapped
 
 pub marks-stood : (lines : List (List Element)) (marks : List ℕ) → length marks ≡ length lines → marks_in (stood_of (record { lines = lines; marks = marks })) ≡ marks
 marks-stood [] [] h = refl

@@ -1,4 +1,5 @@
--- How many steps a call on a map takes at most, as costs of a height h for which its lines are fewer than 2 * 6 ^ (h + 1).
+-- How many steps a call on a map takes at most. They are costs of a height h for which its lines are fewer than 2 * 6 ^
+-- (h + 1).
 use Rattle.std.specs.Prelude.{ℕ, ◌+◌, ◌*◌, List, length}
 use Rattle.sum_tree.specs.Bounds.{TakesAtMost, building}
 use Rattle.cell_line.specs.MarkRuns.{runs_from}

@@ -21,12 +21,12 @@ cuts_of_run lines run width = map (λ elements. cuts_of elements width) (take ru
 abbrev pub is_landed : List Edit → Run → ℕ → Bool
 is_landed since run line = option_map_or (has_line run) (origin_of since line) false
 
--- these lines stand at the width, and all others as before
+-- these lines are wrapped at the width, and all others as before
 abbrev pub marks_landed : List Edit → Run → ℕ → List ℕ → List ℕ
 marks_landed since run width marks =
     map (λ p. if is_landed since run p.0 then width else p.1) (enumerate_from 0 marks)
 
--- the lines as they stand then
+-- the lines as they are wrapped then
 abbrev pub standing_landed : List Edit → Run → ℕ → Standing → Standing
 standing_landed since run width s = record s { marks = marks_landed since run width s.marks }
 

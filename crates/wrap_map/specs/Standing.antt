@@ -1,4 +1,4 @@
--- Lines as they stand wrapped.
+-- Lines as they are wrapped.
 use Rattle.std.specs.Prelude.{◌≡◌, ℕ, ◌+◌, ◌==◌, ◌&&◌, ◌<◌, ◌^◌, if◌then◌else◌, List, [], ◌∷◌, ◌++◌, All, length, map, take, drop, replicate, slice_index_or, Option, Some, None}
 use Rattle.std.specs.List.{zip}
 use Rattle.cell_line.specs.declared.element.Element.{Element}
@@ -12,12 +12,12 @@ use Rattle.cell_line.specs.declared.lines.MarkRun.{MarkRun}
 use Rattle.edit_patch.specs.Leads.{LeadsBy}
 use Rattle.wrap_map.specs.Stood.{Stood, marks_in}
 
--- lines, and the mark of each: the width at which it stands wrapped, 0 where it stands in one row
+-- lines, and the mark of each: the width at which it is wrapped, 0 where it is in one row
 pub record Standing : Type 0 where
   pub lines : List (List Element)
   pub marks : List ℕ
 
--- what a map is seen as: lines as they stand, and the width that they are to stand at
+-- what a map is seen as: lines as they are wrapped, and the width at which they are to be wrapped
 pub record Wrapped : Type 0 where
   pub standing : Standing
   pub width : ℕ
@@ -29,11 +29,11 @@ mark_at s line = slice_index_or s.marks line 0
 abbrev pub cuts_at : Standing → ℕ → List ℕ
 cuts_at s line = cuts_of (line_at s.lines line) (mark_at s line)
 
--- how a line stands at a mark
+-- how a line of a mark is wrapped
 abbrev pub stood_with : List Element → ℕ → Stood
 stood_with elements mark = record { mark = mark; cuts = cuts_of elements mark }
 
--- how each line stands
+-- how each line is wrapped
 abbrev pub stood_of : Standing → List Stood
 stood_of s = map (λ p. stood_with p.0 p.1) (zip s.lines s.marks)
 
@@ -52,11 +52,11 @@ pub record IsStanding (s : Standing) : Type 0 where
   pub lawful : All IsWidth s.marks
   pub room : HasRoom s
 
--- lines with the marks at which they stand
+-- lines with their marks
 abbrev pub standing_of : List (List Element) → List Stood → Standing
 standing_of lines ls = record { lines = lines; marks = marks_in ls }
 
--- lines stand lawfully, and so
+-- lines are wrapped lawfully, and so
 abbrev pub StandSo : List (List Element) → List Stood → Type 0
 StandSo lines ls = IsStanding (standing_of lines ls) × (ls ≡ stood_of (standing_of lines ls))
 
@@ -75,7 +75,7 @@ marks_after (Some s) marks = take s.start marks ++ replicate s.count 0 ++ drop s
 abbrev pub standing_after : Standing → List (List Element) → Option Shift → Standing
 standing_after s lines below = record { lines = lines; marks = marks_after below s.marks }
 
--- the rows of the replaced lines, replaced by one row for each line that stands there now
+-- the rows of the replaced lines, replaced by one row for each line that is there now
 pub record AreRowsOf (s : Standing) (below rows : Shift) : Type 0 where
   pub start_is : rows.start ≡ rows_before (shown_rows s) below.start
   pub end_is : rows.end ≡ rows_before (shown_rows s) below.end
@@ -88,7 +88,7 @@ AreReplaced s None (Some rows) = ⊥
 AreReplaced s (Some below) None = ⊥
 AreReplaced s (Some below) (Some rows) = AreRowsOf s below rows
 
--- the map shows the new lines, and the answer leads from the rows that it showed to those that it shows
+-- the map shows the new lines, and what is returned leads from the rows that it showed to those that it shows
 pub record IsSynced (old : Wrapped) (lines : List (List Element)) (below : Option Shift)
     (new : Wrapped) (shown : Standing) (rows : Option Shift) : Type 0 where
   pub map : new ≡ record old { standing = standing_after old.standing lines below }

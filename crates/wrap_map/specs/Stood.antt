@@ -1,7 +1,7 @@
--- How lines stand: each at a mark, with its cuts.
+-- How lines are wrapped: each has a mark, with its cuts.
 use Rattle.std.specs.Prelude.{ℕ, ◌≡◌, ◌≢◌, ◌+◌, ◌<◌, ◌≤◌, ◌==◌, ◌&&◌, Bool, if◌then◌else◌, List, [], ◌∷◌, ◌++◌, length, map, take, drop, slice_index_or, Option, Some, None}
 
--- the width at which a line stands wrapped, 0 where it stands in one row, and where it is cut
+-- the width at which a line is wrapped, 0 where it is in one row, and where it is cut
 pub record Stood : Type 0 where
   pub mark : ℕ
   pub cuts : List ℕ
@@ -10,7 +10,7 @@ pub record Stood : Type 0 where
 abbrev pub unwrapped : Stood
 unwrapped = record { mark = 0; cuts = [] }
 
--- how the line of a number stands
+-- how the line of a number is wrapped
 abbrev pub stood_at : List Stood → ℕ → Stood
 stood_at lines line = slice_index_or lines line unwrapped
 
@@ -36,20 +36,20 @@ runs_in [] = 0
 runs_in (a ∷ []) = 1
 runs_in (a ∷ b ∷ ls) = (if are_alike a b then 0 else 1) + runs_in (b ∷ ls)
 
--- the first line from this one on that stands at another mark than the width
+-- the first line from this one on whose mark is another than the width
 pub record IsOther (lines : List Stood) (from width line : ℕ) : Type 0 where
   pub order : from ≤ line
   pub within : line < length lines
   pub other : (stood_at lines line).mark ≢ width
   pub before : (k : ℕ) → from ≤ k → k < line → (stood_at lines k).mark ≡ width
 
--- none where all lines from this one on stand at the width
+-- none where all lines from this one on are wrapped at the width
 abbrev pub IsOtherIfAny : List Stood → ℕ → ℕ → Option ℕ → Type 0
 IsOtherIfAny lines from width None =
     (k : ℕ) → from ≤ k → k < length lines → (stood_at lines k).mark ≡ width
 IsOtherIfAny lines from width (Some line) = IsOther lines from width line
 
--- the first line from this one on, before an end, that stands at the width, or the end
+-- the first line from this one on, before an end, that is wrapped at the width, or the end
 pub record IsNextAt (lines : List Stood) (from end width line : ℕ) : Type 0 where
   pub order : from ≤ line
   pub within : line ≤ end

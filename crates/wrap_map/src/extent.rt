@@ -11,9 +11,9 @@ pub struct Ends {
     pub last: u32,
 }
 
-/// So many lines and rows, how often the mark changes between neighbouring stretches, and the marks at
-/// both ends. With the changes a mark other than a given one is found by one seek: where a stretch has
-/// the given one, the next change leaves it.
+/// So many lines and rows, how often the mark changes between neighbouring stretches, and the marks at both ends. With
+/// the changes a mark other than a given one is found by one seek. Where a stretch has the given one, the next change
+/// leaves it.
 #[derive(Clone, Copy)]
 pub struct Extent {
     pub lines: u32,
@@ -50,7 +50,7 @@ impl Extent {
     ghost use Rattle.std.specs.Prelude.{◌≡◌};
     ghost use Rattle.wrap_map.specs.inside.Extents.{are_at};
 
-    /// Whether lines with this sum all stand at the width.
+    /// Whether lines with this sum are all wrapped at the width.
     pub(crate) fn is_at(self, width: u32) -> bool
         ensures { result ≡ are_at width self.switches self.ends }
     {

@@ -6,7 +6,7 @@ ghost use Rattle.wrap_map.specs.inside.Stretches.{IsStretch, spread};
 use crate::stretch::Stretch;
 use cell_units::NoMemory;
 
-/// Adds a stretch behind others: where it is alike the last one, that one grows.
+/// Adds a stretch after others: where it is alike the last one, that one grows.
 fn add(stretches: &mut Vec<Stretch>, stretch: Stretch) -> Result<(), NoMemory>
     requires { length (spread stretches.old.items) + stretch.lines < 2 ^ 32 }
     ensures added { OnOk result (stretches.new.items ≡ with_last stretches.old.items stretch) }
@@ -22,7 +22,7 @@ fn add(stretches: &mut Vec<Stretch>, stretch: Stretch) -> Result<(), NoMemory>
     Ok(())
 }
 
-/// Adds stretches behind others, one after the other.
+/// Adds stretches after others, one after the other.
 pub fn gather(stretches: &mut Vec<Stretch>, fresh: Vec<Stretch>) -> Result<(), NoMemory>
     requires { length (spread stretches.old.items) + length (spread fresh.items) < 2 ^ 32 }
     ensures made { OnOk result (stretches.new.items ≡ gathered stretches.old.items fresh.items) }

@@ -22,8 +22,8 @@ use std::alloc::Global;
 use std::marker::Model;
 use std::mem;
 
-/// Lines with those that landed so far, and the edits of the rows that this replaced. Neighbours that land are one group,
-/// which is put in place at once: the last one is open until a line lands elsewhere.
+/// Lines with those that landed so far, and the edits of the rows that this replaced. Neighbours that land are one
+/// group, which is put in place at once: the last one is open until a line lands elsewhere.
 #[derive(Drop)]
 pub struct Landing {
     stretches: Stretches,
@@ -154,7 +154,7 @@ impl Landing {
         Ok(())
     }
 
-    /// Behind the open group.
+    /// After the open group.
     fn end(&self) -> u32
         requires { end_of self.now < 2 ^ 32 }
         ensures { result ≡ end_of self.now }
@@ -221,8 +221,8 @@ impl Landing {
     }
 }
 
-/// Puts stretches in the place of the lines from `start` to `end`, and answers the edit that replaces their rows. From `start` on
-/// all lines stand as they did before any landed.
+/// Puts stretches in the place of the lines from `start` to `end`, and returns the edit that replaces their rows. From
+/// `start` on all lines are wrapped as they were before any landed.
 fn put_group(
     alloc: Global,
     lines: &mut Stretches,
@@ -238,7 +238,8 @@ fn put_group(
     requires within { end ≤ length lines.old }
     requires rows_fit { rows_in (put_in start end (spread fresh.items) lines.old) < 2 ^ 32 }
 
-    // The group is in place, and the edit leads from the rows before any line landed. What stays at want of memory.
+    // The group is in place, and the edit leads from the rows before any line landed. What stays if it is out of
+    // memory.
     ensures put { OnOk result (lines.new ≡ put_in start end (spread fresh.items) lines.old) }
     ensures edit { IfOk result (λ edit. edit ≡ edit_between before.now lines.new start end) }
     ensures unchanged { OnErr result (lines.new ≡ lines.old) }
@@ -249,7 +250,7 @@ fn put_group(
 {
     let all = lines.rows();
     let rows = lines.put(alloc, start, end, fresh, steps)?;
-    // As many rows stand behind the group as before any line landed.
+    // As many rows come after the group as before any line landed.
     let behind = all - rows.end;
     let old_end = before.rows() - behind;
     Ok(Edit {
@@ -260,8 +261,8 @@ fn put_group(
     })
 }
 
-/// The lines of a run that are still there, put at a mark with the cuts that the run's lines have there: all lines as they
-/// stand then, and the patch that replaces the rows of those.
+/// The lines of a run that are still there, put at a mark with the cuts that the run's lines have there. Returns all
+/// lines as they are wrapped then, and the patch that replaces the rows of those.
 fn put_run<N: Lines>(
     alloc: Global,
     lines: &N,
@@ -284,7 +285,7 @@ fn put_run<N: Lines>(
     ensures counted { steps.old ≤ steps.new }
     ensures steps { TakesAtMost (putting_run run.count) (length from.now) steps.old steps.new }
 {
-    // The lines of the run are u32, and what `since` keeps in its type is what its edits ensure.
+    // For the proof: the lines of the run are u32, and `since` is a patch.
     let _lines = old.lines();
     let _edits = since.edits();
     let mut landing = Landing::new(alloc, from.share()?);
@@ -295,8 +296,8 @@ fn put_run<N: Lines>(
     landing.finish(alloc, from, steps)
 }
 
-/// The same where only the rows at the end are known to be u32. Lines are put in one row each before they stand at the mark,
-/// so rows fall before they rise: at no time are there more of them than before and after.
+/// The same where only the rows at the end are known to be u32. Lines are put in one row each before they get the mark,
+/// so rows fall before they rise. At no time are there more of them than before and after.
 fn put_twice<N: Lines>(
     alloc: Global,
     lines: &N,
@@ -315,7 +316,7 @@ fn put_twice<N: Lines>(
     requires rows_fit { let standing = standing_of (N.elements_by_line lines.now) from.now in
         length (all_rows (shown_rows (standing_landed since.now run mark standing))) < 2 ^ 32 }
 
-    // The lines that are still there stand at the mark, and the patch replaces exactly their rows.
+    // The lines that are still there have the mark, and the patch replaces exactly their rows.
     ensures put { let standing = standing_of (N.elements_by_line lines.now) from.now in
         IfOk result (λ made. IsPut standing since.now run mark made.0 made.1) }
 
@@ -352,7 +353,8 @@ fn may_rise(from: &Stretches, wraps: &[Cuts]) -> bool
     rows <= u32::MAX as u64
 }
 
-/// The lines of a run that are still there, put at once where there is room for all rows that are added, and else twice.
+/// The lines of a run that are still there, put at once where there is room for all rows that are added, and else
+/// twice.
 pub fn put_landed<N: Lines>(
     alloc: Global,
     lines: &N,
@@ -371,7 +373,7 @@ pub fn put_landed<N: Lines>(
     requires rows_fit { let standing = standing_of (N.elements_by_line lines.now) from.now in
         length (all_rows (shown_rows (standing_landed since.now run mark standing))) < 2 ^ 32 }
 
-    // Other lines stand as before, and the patch replaces exactly the rows of those that landed.
+    // Other lines are wrapped as before, and the patch replaces exactly the rows of those that landed.
     ensures put { let standing = standing_of (N.elements_by_line lines.now) from.now in
         IfOk result (λ made. IsPut standing since.now run mark made.0 made.1) }
 
@@ -379,7 +381,7 @@ pub fn put_landed<N: Lines>(
     ensures counted { steps.old ≤ steps.new }
     ensures steps { TakesAtMost (landing run.count) (length from.now) steps.old steps.new }
 {
-    // What `since` keeps in its type is what its edits ensure.
+    // For the proof: `since` is a patch.
     let _edits = since.edits();
     if may_rise(from, wraps) {
         put_run(alloc, lines, from, old, since, run, mark, wraps, steps)

@@ -1,8 +1,9 @@
-//! The rows of lines by the width at which each line stands.
+//! The rows of lines by the width at which each line is wrapped.
 //!
-//! A `WrapMap` is seen as its lines, the mark of each and the width that they are to stand at. It keeps one tree of
-//! stretches: a line with its cuts, or a maximal run of lines without cuts at one mark. The sums of the tree count lines,
-//! rows and changes of the mark, so that a line, a row, or the next line that stands at another width is one seek.
+//! A `WrapMap` is seen as its lines, the mark of each and the width at which they are to be wrapped. It keeps one tree
+//! of stretches: a line with its cuts, or a maximal run of lines without cuts at one mark. The sums of the tree count
+//! lines, rows and changes of the mark. So a line, a row, or the next line that is wrapped at another width is one
+//! seek.
 #![tactic(auto)]
 
 mod extent;

@@ -25,7 +25,7 @@ use edit_patch::Patch;
 use std::alloc::Global;
 use std::marker::Model;
 
-/// Lines that stand wrapped, and the width that they are to stand at.
+/// Lines as they are wrapped, and the width at which they are to be wrapped.
 pub struct WrapMap<N: Lines> {
     lines: N,
     stretches: Stretches,
@@ -55,7 +55,7 @@ impl<N: Lines> Model for WrapMap<N> {
 }
 
 impl<N: Lines> WrapMap<N> {
-    /// A map of lines that stand in one row each.
+    /// A map of lines that are in one row each, and are to be wrapped at a width in cells.
     pub fn new(
         alloc: Global,
         lines: N,
@@ -82,9 +82,9 @@ impl<N: Lines> WrapMap<N> {
         })
     }
 
-    /// Sets the width that the lines are to stand at. `BadNumber` where it is neither 0 nor 2 to 10,000.
+    /// Sets the width in cells at which the lines are to be wrapped. `BadNumber` where it is neither 0 nor 2 to 10,000.
     pub fn set_width(&mut self, width: u32) -> Result<(), Refusal>
-        // A lawful width is set, and how the lines stand stays.
+        // A lawful width is set, and how the lines are wrapped stays.
         ensures set { OnOk result (self.new ≡ record self.old { width = width }) }
         ensures accepted { OnOk result (IsWidth width) }
 
@@ -100,8 +100,8 @@ impl<N: Lines> WrapMap<N> {
         Ok(())
     }
 
-    /// The lines as they are now, and the rows that were replaced. The lines that `below` replaced stand in one row each,
-    /// and all others stand as they did.
+    /// The lines as they are now, and the rows that were replaced, both counted from 0. The lines that `below` replaced
+    /// are in one row each, and all others are wrapped as they were.
     pub fn sync(
         &mut self,
         alloc: Global,
@@ -134,8 +134,8 @@ impl<N: Lines> WrapMap<N> {
         Ok((snapshot, rows))
     }
 
-    /// The first line that doesn't stand at the width and that no run of `out` has, with the lines behind it of the same
-    /// kind, up to 128. `None` exactly where there is no such line.
+    /// The first line that isn't wrapped at the width and that no run of `out` has. With it come the lines after it of
+    /// the same kind, up to 128. `None` exactly where there is no such line.
     pub fn next_run(&self, out: &[Run], steps: &mut Steps) -> Option<Run>
         // Each run that is out ends before all later ones begin.
         requires { AreApart out.now }
@@ -153,8 +153,8 @@ impl<N: Lines> WrapMap<N> {
         next_run(&self.stretches, self.width, out, steps)
     }
 
-    /// Gives each line that `since` carries from the run its cuts and mark, and answers the rows that were replaced. Where
-    /// the width isn't the present one, nothing changes.
+    /// Gives each line that `since` carries from the run its cuts and mark, and returns the rows that were replaced.
+    /// Where the width isn't the present one, nothing changes. Rows and lines are counted from 0.
     pub fn land(
         &mut self,
         alloc: Global,
@@ -174,8 +174,8 @@ impl<N: Lines> WrapMap<N> {
             let landed = standing_landed since.now run width self.old.standing in
             length (all_rows (shown_rows landed)) < 2 ^ 32 }
 
-        // At the present width the lines that the run still has stand at it; at another nothing changes. The patch has no more edits
-        // than the run has lines.
+        // At the present width the lines that the run still has are wrapped at it; at another nothing changes. The
+        // patch has no more edits than the run has lines.
         ensures landed { width ≡ self.old.width →
             IfOk result (IsLanded self.old since.now run self.new) }
         ensures other_width { (width ≡ self.old.width → ⊥) → IfOk result (λ patch. patch ≡ []) }
@@ -191,7 +191,7 @@ impl<N: Lines> WrapMap<N> {
         if width != self.width {
             return Ok(Patch::none(alloc));
         }
-        // What `since` keeps in its type is what its edits ensure.
+        // For the proof: `since` is a patch.
         let _edits = since.edits();
         let (stretches, patch) = put_landed(
             alloc,
@@ -208,14 +208,15 @@ impl<N: Lines> WrapMap<N> {
         Ok(patch)
     }
 
-    /// Whether every line stands at the width.
+    /// Whether every line is wrapped at the width.
     pub fn is_settled(&self) -> bool
         ensures { result ≡ list_all (λ mark. mark == self.now.width) self.now.standing.marks }
     {
         self.stretches.are_at(self.width)
     }
 
-    /// The lines as they stand. It takes no memory: `NoMemory` is one holder too many.
+    /// The lines as they are wrapped. It allocates nothing, and fails with `NoMemory` only where the count of holders
+    /// is full.
     pub fn snapshot(&self) -> Result<WrapSnapshot<N>, NoMemory>
         ensures { IfOk result (λ snapshot. snapshot ≡ self.now.standing) }
     {
@@ -225,7 +226,7 @@ impl<N: Lines> WrapMap<N> {
         })
     }
 
-    /// An equal map. It takes no memory: `NoMemory` is one holder too many.
+    /// An equal map. It allocates nothing, and fails with `NoMemory` only where the count of holders is full.
     pub fn share(&self) -> Result<WrapMap<N>, NoMemory>
         ensures { IfOk result (λ shared. shared ≡ self.now) }
     {
@@ -236,8 +237,8 @@ impl<N: Lines> WrapMap<N> {
         })
     }
 
-    /// How many items the map keeps: each line with cuts is one, and so is each maximal run of lines without cuts at one
-    /// mark.
+    /// How many items the map keeps: each line with cuts is one, and so is each maximal run of lines without cuts at
+    /// one mark.
     pub fn items(&self) -> u32
         ensures { result ≡ items_of self.now.standing }
     {

@@ -1,4 +1,4 @@
-//! How lines stand after a replacement.
+//! How lines are wrapped after a replacement.
 ghost use Rattle.std.specs.Prelude.{◌≡◌, ◌^◌, ◌<◌, ◌≤◌, length, replicate, IfOk, IfSome};
 ghost use Rattle.sum_tree.specs.Bounds.{ChangesAtMost};
 ghost use Rattle.wrap_map.specs.Bounds.{syncing};
@@ -11,7 +11,7 @@ use crate::stretches::Stretches;
 use cell_units::{NoMemory, Shift, Steps};
 use std::alloc::Global;
 
-/// How the lines stand after a replacement, if there was one, and the rows that it replaced.
+/// How the lines are wrapped after a replacement, if there was one, and the rows that it replaced.
 pub fn replaced_if_any(
     alloc: Global,
     lines: &Stretches,
@@ -22,7 +22,7 @@ pub fn replaced_if_any(
     requires within { IfSome below (λ shift. shift.end ≤ length lines.now) }
     requires rows_fit { rows_in (cleared_if_any below lines.now) < 2 ^ 32 }
 
-    // The lines met stand in one row each, and all others as they did.
+    // The lines met are in one row each, and all others are wrapped as they were.
     ensures lines { IfOk result (λ made. made.0 ≡ cleared_if_any below lines.now) }
     ensures rows { IfOk result (λ made. AreRowsIfAny lines.now below made.1) }
 
@@ -52,7 +52,7 @@ fn replaced(
     requires within { below.end ≤ length lines.now }
     requires rows_fit { rows_in (cleared below lines.now) < 2 ^ 32 }
 
-    // The lines that stand there now have one row each, which replace the rows of those that went.
+    // The lines that are there now have one row each, which replace the rows of those that went.
     ensures lines { IfOk result (λ made. made.0 ≡ cleared below lines.now) }
     ensures rows { IfOk result (λ made. AreRowsIn lines.now below made.1) }
 

@@ -1,4 +1,4 @@
-//! Lines as they stood at one moment.
+//! Lines as they were wrapped at one moment.
 ghost use Rattle.std.specs.Prelude.{◌≡◌, ◌+◌, ◌*◌, ◌^◌, ◌<◌, ◌≤◌, length, IfOk};
 ghost use Rattle.sum_tree.specs.Bounds.{TakesAtMost, way};
 ghost use Rattle.wrap_map.specs.Bounds.{ListsAtMost};
@@ -11,8 +11,7 @@ use cell_units::{NoMemory, Rows, Steps, Text};
 use std::alloc::Global;
 use std::marker::Model;
 
-/// Lines as they stand wrapped. Copies share what they have in common, and no later change of the map
-/// is seen.
+/// Lines as they are wrapped. Copies share what they have in common, and no later change of the map is seen.
 pub struct WrapSnapshot<N: Lines> {
     pub(crate) lines: N,
     pub(crate) stretches: Stretches,
@@ -38,7 +37,7 @@ impl<N: Lines> Model for WrapSnapshot<N> {
 }
 
 impl<N: Lines> WrapSnapshot<N> {
-    /// The width in cells at which a line stands wrapped, 0 where it stands in one row.
+    /// The width in cells at which a line is wrapped, 0 where it is in one row.
     pub fn mark(&self, line: u32, steps: &mut Steps) -> u32
         requires { line < length self.now.lines }
         ensures mark { result ≡ mark_at self.now line }
@@ -67,7 +66,7 @@ impl<N: Lines> WrapSnapshot<N> {
         self.stretches.marks(alloc, steps)
     }
 
-    /// An equal snapshot. It takes no memory: `NoMemory` is one holder too many.
+    /// An equal snapshot. It allocates nothing, and fails with `NoMemory` only where the count of holders is full.
     pub fn share(&self) -> Result<WrapSnapshot<N>, NoMemory>
         ensures { IfOk result (λ shared. shared ≡ self.now) }
     {

@@ -18,9 +18,9 @@ pub struct Stretch {
     kept: Kept,
 }
 
-/// How a stretch is kept. A leaf has room for the cuts of most lines, so these take no allocation, neither when the line lands
-/// nor when the leaf is copied. Many cuts are shared by all copies. The mark stands in each variant, beside the tag, where it
-/// takes no room of its own.
+/// How a stretch is kept. A leaf has room for the cuts of most lines. So these take no allocation, neither when the
+/// line lands nor when the leaf is copied. Many cuts are shared by all copies. The mark is in each variant, beside the
+/// tag, where it takes no room of its own.
 #[derive(Drop)]
 enum Kept {
     Uncut { mark: u32, lines: u32 },
@@ -106,14 +106,14 @@ impl Stretch {
         Ok(Stretch { kept })
     }
 
-    /// Both have no cuts, and stand at one mark.
+    /// Both have no cuts, and have one mark.
     pub fn is_alike(&self, other: &Stretch) -> bool
         ensures { result ≡ are_alike self.now.stood other.now.stood }
     {
         self.mark() == other.mark() && self.cut_count() == 0 && other.cut_count() == 0
     }
 
-    /// Adds so many lines, which stand as its own do, to one without cuts.
+    /// Adds so many lines, which are wrapped as its own are, to one without cuts.
     pub fn grow(&mut self, lines: u32)
         requires fits { self.old.lines + lines < 2 ^ 32 }
         requires uncut { self.old.stood.cuts ≡ [] }
@@ -122,6 +122,7 @@ impl Stretch {
         *self = Stretch::uncut(self.mark(), self.lines() + lines);
     }
 
+    /// The width in cells at which its lines are wrapped, 0 where each is in one row.
     pub fn mark(&self) -> u32
         ensures { result ≡ self.now.stood.mark }
     {

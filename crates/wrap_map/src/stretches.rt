@@ -1,4 +1,4 @@
-//! How each line stands, kept as one tree of stretches.
+//! How each line is wrapped, kept as one tree of stretches.
 ghost use Rattle.std.specs.Prelude.{◌≡◌, ◌+◌, ◌-◌, ◌*◌, ◌^◌, ◌<◌, ◌≤◌, ◌++◌, ◌==◌, [], length, take, replicate, IfOk, OnOk, OnErr};
 ghost use Rattle.std.specs.List.{list_all};
 ghost use Rattle.sum_tree.specs.Bounds.{TakesAtMost, way};
@@ -22,7 +22,7 @@ use std::sync::Arc;
 use sum_core::Item;
 use sum_tree::SumTree;
 
-/// A list of lines, each as it stands. Copies share what they have in common.
+/// A list of lines, each as it is wrapped. Copies share what they have in common.
 pub struct Stretches {
     tree: SumTree<Stretch>,
     /// An empty list, to be lent as the cuts of lines without cuts.
@@ -61,8 +61,8 @@ fn stretch_of<'a>(tree: &'a SumTree<Stretch>, line: u32, steps: &mut Steps) -> &
     }
 }
 
-/// A part of one stretch, or nothing, the place where the stretches that stay end or begin, and how many rows stand before
-/// the line at which the stretch is parted.
+/// A part of one stretch, or nothing, and the place where the stretches that stay end or begin. It has how many rows
+/// are before the line at which the stretch is parted.
 #[derive(Drop)]
 struct Part {
     stretches: Vec<Stretch>,
@@ -70,7 +70,7 @@ struct Part {
     rows: u32,
 }
 
-/// The rows of some lines, from the first of them up to the one behind them.
+/// The rows of some lines, from the first of them up to the one after them.
 #[derive(Clone, Copy)]
 pub struct RowRange {
     pub start: u32,
@@ -84,7 +84,7 @@ fn part_before(
     line: u32,
     steps: &mut Steps,
 ) -> Result<Part, NoMemory>
-    // The tree is one of stretches, and the line is one of theirs or behind all.
+    // The tree is one of stretches, and the line is one of theirs or after all.
     requires stretches { AreStretches tree.now }
     requires within { line ≤ length (spread tree.now) }
 
@@ -121,11 +121,11 @@ fn part_behind(
     line: u32,
     steps: &mut Steps,
 ) -> Result<Part, NoMemory>
-    // The tree is one of stretches, and the line is one of theirs or behind all.
+    // The tree is one of stretches, and the line is one of theirs or after all.
     requires stretches { AreStretches tree.now }
     requires within { line ≤ length (spread tree.now) }
 
-    // One stretch at most, where those behind it begin, and the rows of all lines before the line.
+    // One stretch at most, where those after it begin, and the rows of all lines before the line.
     ensures tail { IfOk result (λ part. IsTail tree.now line part.stretches.items part.at) }
     ensures rows { IfOk result (λ part. part.rows ≡ rows_in (take line (spread tree.now))) }
 
@@ -133,7 +133,7 @@ fn part_behind(
     ensures counted { steps.old ≤ steps.new }
     ensures steps { TakesAtMost way (length tree.now) steps.old steps.new }
 {
-    // The number of stretches is a u32, and so is each place.
+    // For the proof: the number of stretches is a u32, and so is each place.
     let _count = tree.len();
     let found = tree.find::<ByLines>(line as u64, Bias::Right, steps);
     let mut stretches = Vec::new(alloc);
@@ -181,7 +181,7 @@ impl Stretches {
         })
     }
 
-    /// An equal list. It takes no memory: `NoMemory` is one holder too many.
+    /// An equal list. It allocates nothing, and fails with `NoMemory` only where the count of holders is full.
     pub fn share(&self) -> Result<Stretches, NoMemory>
         ensures { IfOk result (λ shared. shared ≡ self.now) }
     {
@@ -191,6 +191,7 @@ impl Stretches {
         })
     }
 
+    /// How many lines there are.
     pub fn lines(&self) -> u32
         ensures { result ≡ length self.now }
     {
@@ -212,7 +213,7 @@ impl Stretches {
         self.tree.len()
     }
 
-    /// The width at which a line stands wrapped, 0 where it stands in one row.
+    /// The width in cells at which a line is wrapped, 0 where it is in one row.
     pub fn mark(&self, line: u32, steps: &mut Steps) -> u32
         requires { line < length self.now }
         ensures mark { result ≡ (stood_at self.now line).mark }
@@ -232,7 +233,7 @@ impl Stretches {
         stretch_of(&self.tree, line, steps).cuts(&self.none)
     }
 
-    /// How many rows stand before a line, and before the end.
+    /// How many rows are before a line, and before the end.
     pub fn rows_before(&self, line: u32, steps: &mut Steps) -> u32
         requires { line ≤ length self.now }
         ensures rows { result ≡ rows_in (take line self.now) }
@@ -248,7 +249,7 @@ impl Stretches {
     pub fn line_at(&self, row: u32, steps: &mut Steps) -> u32
         requires { row < rows_in self.now }
 
-        // The row is behind the rows of the lines before it, and among those up to its end.
+        // The row is after the rows of the lines before it, and among those up to its end.
         ensures within { result < length self.now }
         ensures begun { rows_in (take result self.now) ≤ row }
         ensures ends { row < rows_in (take (result + 1) self.now) }
@@ -264,8 +265,7 @@ impl Stretches {
         found.before.lines + (row - found.before.rows).min(stretch.lines() - 1)
     }
 
-    /// The first line from `line` on that stands at another mark than `width`, and `None` exactly where
-    /// there is none.
+    /// The first line from `line` on whose mark is another than `width`, and `None` exactly where there is none.
     pub fn next_other(&self, line: u32, width: u32, steps: &mut Steps) -> Option<u32>
         ensures other { IsOtherIfAny self.now line width result }
         ensures counted { steps.old ≤ steps.new }
@@ -286,13 +286,13 @@ impl Stretches {
         }
     }
 
-    /// The first line from `line` on and before `end` that stands at the width, and `end` where there is none.
+    /// The first line from `line` on and before `end` that is wrapped at the width, and `end` where there is none.
     pub fn next_at(&self, line: u32, end: u32, width: u32, steps: &mut Steps) -> u32
         // There are lines in between.
         requires some { line < end }
         requires within { end ≤ length self.now }
 
-        // No line before the one that is answered stands at the width.
+        // No line before the one that is returned is wrapped at the width.
         ensures at { IsNextAt self.now line end width result }
 
         // The work: a seek for each line in between at most.
@@ -307,14 +307,14 @@ impl Stretches {
             if found.before.lines + stretch.lines() >= end {
                 return end;
             }
-            // All lines up to the next change stand at the mark of this stretch.
+            // All lines up to the next change have the mark of this stretch.
             let changes = changes_through(found.before, stretch);
             found = self.tree.find::<BySwitches>(changes, Bias::Right, steps);
         }
         end
     }
 
-    /// Whether all lines stand at the width.
+    /// Whether all lines are wrapped at the width.
     pub fn are_at(&self, width: u32) -> bool
         ensures { result ≡ list_all (λ mark. mark == width) (marks_in self.now) }
     {
@@ -342,7 +342,7 @@ impl Stretches {
         Ok(runs)
     }
 
-    /// Puts the lines of stretches in the place of those from `start` to `end`, and answers which rows those had.
+    /// Puts the lines of stretches in the place of those from `start` to `end`, and returns which rows those had.
     pub fn put(
         &mut self,
         alloc: Global,

@@ -12,7 +12,8 @@ use cell_line::Run;
 use cell_units::Steps;
 use cell_units::limits::RUN_LIMIT;
 
-/// The first line that doesn't stand at the width and that no run of `out` has, with the lines behind it of the same kind.
+/// The first line that isn't wrapped at the width and that no run of `out` has, with the lines after it of the same
+/// kind.
 pub fn next_run(lines: &Stretches, width: u32, out: &[Run], steps: &mut Steps) -> Option<Run>
     requires { AreApart out.now }
     ensures next { IsNextIfAny (marks_in lines.now) width out.now result }
@@ -35,14 +36,14 @@ pub fn next_run(lines: &Stretches, width: u32, out: &[Run], steps: &mut Steps) -
     Some(run_from(lines, width, found, count, steps))
 }
 
-/// The lines from `first` on, up to `end` and up to `RUN_LIMIT` of them, that don't stand at the width.
+/// The lines from `first` on, up to `end` and up to `RUN_LIMIT` of them, that aren't wrapped at the width.
 fn run_from(lines: &Stretches, width: u32, first: u32, end: u32, steps: &mut Steps) -> Run
-    // The first line is before the end, which is within the lines, and it stands at another mark.
+    // The first line is before the end, which is within the lines, and it has another mark.
     requires some { first < end }
     requires within { end ≤ length lines.now }
     requires waits { (stood_at lines.now first).mark ≢ width }
 
-    // The run ends at the limit, at the end, or before a line that stands at the width.
+    // The run ends at the limit, at the end, or before a line that is wrapped at the width.
     ensures run { IsRunFrom lines.now width first end result }
 
     // The work: a seek for each line of a run at most.

@@ -34,7 +34,7 @@ pub fn ten_lines_of_which_one_is_replaced()
         items_of (standing_after (all_at 5 ten) ten (Some s)) ≡ 10 }
 {}
 
-/// Lines without cuts are one item, and three where one of them stands at another mark.
+/// Lines without cuts are one item, and three where one of them has another mark.
 pub fn lines_of_one_letter()
     ensures landed { items_of (all_at 40 three_hundred) ≡ 1 }
     ensures replaced { (s : Shift) → s.start ≡ 150 → s.end ≡ 151 → s.count ≡ 1 →

@@ -101,7 +101,7 @@ module _ {N : Type 0} where
         refl,
       )
 
-  -- the number of a job that is out, and has a right or a result, stands once
+  -- the number of a job that is out, and has a right or a result, is there once
   once : (n : ℕ) (out : Jobs N) (rest : ℕ) → times n out ≤ 1 → times n out ≡ rest + 1 → (times n out ≡ 1) × (rest ≡ 0)
   once n out rest le e = (omega (arith, le, e), omega (arith, le, e))
 

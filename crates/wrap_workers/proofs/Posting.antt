@@ -92,7 +92,7 @@ module _ {N : Type 0} where
       one zero v e = subst (FitsPost 0 None 0 false 0) (some-injective _ _ e) (refl, (λ _. (refl, refl, refl)))
       one (suc pass) v e = absurd (some-ne-none v (sym e))
 
-  -- where no queue was known, one pass stands alone
+  -- where no queue was known, one pass is alone
   alone : (posts : List (Post N)) (pass j : ℕ) (u v : Post N) → length posts ≤ 1 → get_elem? posts pass ≡ some v → get_elem? posts j ≡ some u → j ≢ pass → ⊥
   alone [] pass j u v le at e apart = some-ne-none v (sym at)
   alone (x ∷ []) zero zero u v le at e apart = apart refl

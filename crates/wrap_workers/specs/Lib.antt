@@ -1,3 +1,4 @@
+-- What the crate promises
 pub mod Jobs
 pub mod Finishes
 pub mod Owed
@@ -5,4 +6,5 @@ pub mod Errands
 pub mod Posted
 pub mod Crewed
 pub mod QueueLaws
+-- What its parts say to each other
 pub mod inside

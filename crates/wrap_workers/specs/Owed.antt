@@ -1,4 +1,5 @@
--- The rule of the queue of results: each job that is out has one right to send its result, or its result is in the queue.
+-- The rule of the queue of results: each job that is out has one right to send its result. Else its result is in the
+-- queue.
 use Rattle.std.specs.Prelude.{◌≡◌, ℕ, ◌+◌, ◌≤◌, ◌==◌, true, false, List, [], ◌∷◌, ◌++◌, Contains, if◌then◌else◌}
 use mathlib.Core.Option.{some}
 use lib.ListN.{get_elem?}
@@ -44,7 +45,8 @@ abbrev pub AreOfJobs : {N : Type 0} → List (JobParts N) → List (Finished N) 
 AreOfJobs out [] = Unit {0}
 AreOfJobs out (result ∷ results) = Contains out (job_of result) × AreOfJobs out results
 
--- the numbers of the jobs out are distinct. They are those of the rights and of the results, each once, however they are weighed
+-- the numbers of the jobs out are distinct. They are those of the rights and of the results, each once, however they
+-- are weighed
 abbrev pub AreOwed : {N : Type 0} → List (JobParts N) → List (Finished N) → List (Hand N) → Type 0
 AreOwed out results hands =
     ((weight : ℕ → ℕ) → weigh weight out ≡ weigh_rights weight hands + weigh_results weight results)

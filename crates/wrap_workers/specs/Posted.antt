@@ -1,4 +1,5 @@
--- The rule of the queue of tasks: the jobs in it have distinct serials, and each has its right, of one queue of results.
+-- The rule of the queue of tasks: the jobs in it have distinct serials, and each has its right, of one queue of
+-- results.
 use Rattle.std.specs.Prelude.{◌≡◌, ℕ, ◌+◌, ◌≤◌, Bool, true, false, List, [], ◌∷◌, length, Option, None, Some}
 use mathlib.Core.Option.{some}
 use lib.ListN.{get_elem?}
@@ -50,7 +51,7 @@ abbrev pub AreErrands : {N : Type 0} → List (Task N) → Type 0
 AreErrands [] = Unit {0}
 AreErrands (task ∷ tasks) = IsErrand task × AreErrands tasks
 
--- each serial stands once in the queue at most, and none from `next` on
+-- each serial is once in the queue at most, and none from `next` on
 abbrev pub AreApart : {N : Type 0} → ℕ → List (Task N) → Type 0
 AreApart next tasks =
     ((n : ℕ) → count_serials n tasks ≤ 1) × ((n : ℕ) → next ≤ n → count_serials n tasks ≡ 0)
@@ -87,7 +88,8 @@ abbrev pub FitsPost : {N : Type 0} → ℕ → Option (Right N) → ℕ → Bool
 FitsPost seat home next stopped pass post =
     (post.home ≡ home) × (post.crew ≡ true → (pass ≡ seat) × (post.next ≡ next) × (post.stopped ≡ stopped))
 
--- the rule, of the tasks in the queue and of what each pass knows. While no queue of results is known, there is one pass
+-- the rule, of the tasks in the queue and of what each pass knows. While no queue of results is known, there is one
+-- pass
 abbrev pub Posted : {N : Type 0} → List (Task N) → List (Post N) → Type 0
 Posted {N} tasks posts =
     (seat : ℕ) × (home : Option (Right N)) × (next : ℕ) × (stopped : Bool)

@@ -18,8 +18,8 @@ times_owed n results hands = weigh_rights (one_at n) hands + weigh_results (one_
 abbrev pub GivesOnce : {N : Type 0} → List (Finished N) → List (Hand N) → Type 0
 GivesOnce results hands = (n : ℕ) → times_owed n results hands ≤ 1
 
--- of the jobs that the crew's pass knows to be out, each has one right or one result. Each result has one of these jobs, and
--- they are as many as the rights and results
+-- of the jobs that the crew's pass knows to be out, each has one right or one result. Each result has one of these
+-- jobs, and they are as many as the rights and results
 abbrev pub IsOfJobOut : {N : Type 0} → List (Finished N) → List (Hand N) → Type 0
 IsOfJobOut {N} results hands =
     (pass : ℕ) (hand : Hand N) → get_elem? hands pass ≡ some hand → hand.crew ≡ true →
@@ -33,7 +33,7 @@ HavePassesOfTheirOwn {N} hands =
     (i j s t : ℕ) (a b : JobParts N) → i ≢ j →
     get_elem? hands i ≡ some (right_of s a) → get_elem? hands j ≡ some (right_of t b) → a.number ≢ b.number
 
--- each serial stands once in the queue at most
+-- each serial is once in the queue at most
 abbrev pub AreSerialsDistinct : {N : Type 0} → List (Task N) → Type 0
 AreSerialsDistinct tasks = (n : ℕ) → count_serials n tasks ≤ 1
 

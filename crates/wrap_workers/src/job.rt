@@ -25,8 +25,8 @@ impl<N: Lines> Model for Job<N> {
 }
 
 impl<N: Lines> Job<N> {
-    /// A job of this number: the lines of the run, which has 1 to 128 of them, at a width of 0 or of 2 to 10,000 cells.
-    /// The counts of lines and elements, and the cells of each line, fit u32.
+    /// A job of this number: the lines of the run, which has 1 to 128 of them. The width is 0 or 2 to 10,000 cells. The
+    /// counts of lines and elements, and the cells of each line, fit u32.
     pub fn new(number: u64, lines: N, run: Run, width: u32) -> Job<N>
         requires { IsLawful (N.elements_by_line lines) run width }
         ensures { result ≡ record { number = number; lines = lines; run = run; width = width } }

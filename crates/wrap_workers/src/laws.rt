@@ -12,9 +12,9 @@ use cell_line::Lines;
 
 /// What the rules say at every moment. It does nothing.
 ///
-/// A job that is out has one right or one result, and never both: so no job gives a second result. Each result has a job
-/// that is out. The jobs of two passes with rights have distinct numbers, and so have the jobs in the queue of tasks, each
-/// of which goes with its right.
+/// A job that is out has one right or one result, and never both: so no job gives a second result. Each result has a
+/// job that is out. The jobs of two passes with rights have distinct numbers. So have the jobs in the queue of tasks,
+/// each of which goes with its right.
 pub fn queue_laws<N: Lines>()
     ensures once { (results : List (Finished N)) (hands : List (Hand N)) →
         Owed results hands → GivesOnce results hands }

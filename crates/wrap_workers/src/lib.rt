@@ -4,10 +4,10 @@
 //! A `Crew` is seen as the list of the jobs that are out. `hand_out` adds one, and hands it back exactly where two for
 //! each worker are out. A result of `collect`, `help` or `wait_one` is that of a job of the list, and takes it off.
 //!
-//! Jobs and results go over two bounded channels, each under a rule that every step of every thread keeps. With each job
-//! goes a right to send its result, which is spent with it: so no job gives two results. The rule of the results says that
-//! each job that is out has one right, or its result is in the queue, and that their numbers are distinct. The rule of the
-//! tasks keeps the jobs in that queue apart by serials, one for each right that the crew cuts off.
+//! Jobs and results go over two bounded channels, each under a rule that every step of every thread keeps. With each
+//! job goes a right to send its result, which is spent with it: so no job gives two results. By the rule of the results
+//! each job that is out has one right, or its result is in the queue. Their numbers are distinct. The rule of the tasks
+//! keeps the jobs in that queue apart by serials, one for each right that the crew cuts off.
 //!
 //! Nothing is promised of when a result comes, of which thread did a job, or that a call that waits returns.
 #![tactic(auto)]

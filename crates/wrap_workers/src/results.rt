@@ -37,10 +37,13 @@ impl<N: Lines> Protocol<Finished<N>, Hand<N>> for Once<N> {
     ghost first = { crew_hand 0 [] [] };
 }
 
+/// The crew's end of the queue of results.
 pub type Results<N> = RuledReceiver<Finished<N>, Hand<N>, Once<N>>;
 
+/// A worker's end of the queue of results, which sends by rights.
 pub type Rights<N> = RuledSender<Finished<N>, Hand<N>, Once<N>>;
 
+/// The right to send the result of one job, or the crew's count of jobs and rights.
 pub type Right<N> = Pass<Finished<N>, Hand<N>>;
 
 /// The crew's pass gets a job, and the right to send its result is cut off.
@@ -105,7 +108,8 @@ impl<N: Lines> Lesson<Finished<N>, Hand<N>> for Takes {
     ghost fact = { λ v items. WereOwed v.out items };
 }
 
-/// What the crew learns of the rights that came back to it: each is for a job that is out, and they are no more than these.
+/// What the crew learns of the rights that came back to it. Each is for a job that is out, and they are no more than
+/// these.
 pub struct Counts;
 
 impl<N: Lines> Lesson<Finished<N>, Hand<N>> for Counts {

@@ -57,10 +57,13 @@ impl<N: Lines> Protocol<Task<N>, Post<N>> for Apart<N> {
     ghost first = { crew_post None 0 false };
 }
 
+/// The crew's end of the queue of tasks.
 pub type Tasks<N> = RuledSender<Task<N>, Post<N>, Apart<N>>;
 
+/// A worker's end of the queue of tasks, from which the crew takes too.
 pub type Waiting<N> = RuledReceiver<Task<N>, Post<N>, Apart<N>>;
 
+/// What a holder knows of the queue of tasks: the serials that were put, and whether a stop was.
 pub type Place<N> = Pass<Task<N>, Post<N>>;
 
 /// The first pass learns to which queue of results the rights belong.

@@ -92,7 +92,7 @@ impl<N: Lines> TasksEnd<N> {
         Ok((waiting, self.tasks.another::<Joins>(&mut self.place)))
     }
 
-    /// Puts a task. It comes back where the queue answers that no worker is left.
+    /// Puts a task. It comes back where the queue reports that no worker is left.
     #[tactic(auto, using(crate::proofs::Crews::put_crew, crate::proofs::Crews::put_home))]
     fn put<R: Wait>(&mut self, rt: &R, task: Task<N>) -> Option<Task<N>>
         requires home { IsTaskAt self.old.post.home task }
@@ -107,7 +107,7 @@ impl<N: Lines> TasksEnd<N> {
         }
     }
 
-    /// Puts a job with its right. It comes back where the queue answers that no worker is left.
+    /// Puts a job with its right. It comes back where the queue reports that no worker is left.
     pub(crate) fn put_errand<R: Wait>(&mut self, rt: &R, errand: Errand<N>) -> Option<Errand<N>>
         requires home { IsHome self.old.post.home errand.right }
         requires next { self.old.post.next ≤ serial_of errand }
@@ -127,7 +127,7 @@ impl<N: Lines> TasksEnd<N> {
         let _ = self.put(rt, Task::Stop);
     }
 
-    /// Takes the front task for the crew, if there is one at a moment of the call. It is a job until a stop was put.
+    /// Takes the first task for the crew, if there is one at a moment of the call. It is a job until a stop was put.
     pub(crate) fn try_next<R: Wait>(&mut self, rt: &R) -> Option<Errand<N>>
         requires { self.old.post.stopped ≡ false }
         ensures same { self.new ≡ self.old }

@@ -45,8 +45,8 @@ impl<N: Lines> Model for Worker<N> {
 }
 
 impl<N: Lines> Worker<N> {
-    /// Takes tasks, does each job, passes the gate and sends the result, until a stop comes or the queue of tasks answers
-    /// that the crew is gone. A result that finds no memory is `Short`.
+    /// Takes tasks, does each job, passes the gate and sends the result. It goes on until a stop comes or the queue of
+    /// tasks reports that the crew is gone. A result that finds no memory is `Short`.
     pub fn work<R: Wait, G: Gate>(self, rt: &R, alloc: Global, gate: &G) {
         let Worker {
             tasks,
@@ -57,8 +57,8 @@ impl<N: Lines> Worker<N> {
     }
 }
 
-/// Takes tasks, does each job and sends its result. It returns only where it took a stop, or where the queue of tasks was
-/// empty at a moment of the call.
+/// Takes tasks, does each job and sends its result. It returns only where it took a stop, or where the queue of tasks
+/// was empty at a moment of the call.
 fn serve<N: Lines, R: Wait, G: Gate>(
     rt: &R,
     alloc: Global,
@@ -110,7 +110,7 @@ fn send<N: Lines, R: Wait>(rt: &R, rights: &Rights<N>, mut right: Right<N>, fini
     let _ = rights.send_as::<Sends, R>(rt, &mut right, finished);
 }
 
-/// Takes the front task, and waits for one. None comes only where the queue was empty at a moment of the call.
+/// Takes the first task, and waits for one. None comes only where the queue was empty at a moment of the call.
 fn next<N: Lines, R: Wait>(rt: &R, tasks: &Waiting<N>, place: &mut Place<N>) -> Option<Task<N>>
     // A worker's pass of the queue of tasks, which knows the queue of results.
     requires channel { IsSeatAt (receives_on tasks.now) place.old }

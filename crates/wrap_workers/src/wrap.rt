@@ -1,4 +1,4 @@
-//! Doing a job.
+//! Doing a job: the cuts of each line of its run.
 ghost use Rattle.std.specs.Prelude.{◌≡◌, IfOk};
 ghost use Rattle.wrap_workers.specs.Jobs.{places_of, wraps_of};
 ghost use Rattle.wrap_workers.specs.Finishes.{job_of};
@@ -22,7 +22,7 @@ fn wraps<N: Lines>(alloc: Global, job: &Job<N>) -> Result<Vec<Cuts>, NoMemory>
     Ok(wraps)
 }
 
-/// Does the job: `Done` holds its cuts. `Short` comes only for want of memory, and hands the job back.
+/// Does the job: `Done` holds its cuts. `Short` comes only if it is out of memory, and hands the job back.
 pub fn do_job<N: Lines>(alloc: Global, job: Job<N>) -> Finished<N>
     ensures { job_of result ≡ job }
 {

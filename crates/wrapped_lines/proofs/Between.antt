@@ -18,12 +18,12 @@ use Rattle.kept_sheet.specs.Kept.{IsRising, standing}
 use Rattle.wrapped_lines.specs.Places.{is_line}
 use Rattle.wrapped_lines.specs.inside.Since.{IsSince, between, edits_at, end_of, kept_after, pair}
 
--- all edits behind a pair: up to the next line that is kept, and so on to the last pair
+-- all edits after a pair: up to the next line that is kept, and so on to the last pair
 abbrev pub edits_from : Pair → ℕ → List (Option ℕ) → Pair → List Edit
 edits_from kept line [] last = between kept last
 edits_from kept line (place ∷ places) last = edits_at kept line place ++ edits_from (kept_after kept line place) (line + 1) places last
 
--- of the old lines from `line` on, behind the pair, those with a place have it in order and before the last pair
+-- of the old lines from `line` on, after the pair, those with a place have it in order and before the last pair
 pub record AreAhead (kept : Pair) (line : ℕ) (places : List (Option ℕ)) (last : Pair) : Type 0 where
   pub old : kept.old ≤ line
   pub now : kept.now ≤ last.now
@@ -160,7 +160,7 @@ between-new o n from to es i olds nows ge lt = ⊎_elim
     (λ c. absurd (omega (arith, c.1, ge, lt)))
     (between-cases from to olds nows)
 
--- behind the edit, from the pair where there is one
+-- after the edit, from the pair where there is one
 between-past : (o n : ℕ) (from to : Pair) (es : List Edit) (i : ℕ) (r : Option ℕ) → from.old ≤ to.old → from.now ≤ to.now → to.now ≤ i →
     origin_from to.old to.now es i ≡ r → (from.old ≡ to.old → from.now ≡ to.now → origin_from o n es i ≡ r) →
     origin_from o n (between from to ++ es) i ≡ r
@@ -217,7 +217,7 @@ all-since old now first places within rising there =
       came = λ line lt. came-from 0 0 (pair 0 0) first places (pair old now) h (omega arith) refl line (omega arith) lt;
     }
 
--- before an old line: the edits so far, with all behind them, are those of all places
+-- before an old line: the edits so far, with all after them, are those of all places
 pub record IsPassed (old now first : ℕ) (places : List (Option ℕ)) (k : ℕ) (kept : Pair) (edits : List Edit) : Type 0 where
   pub ahead : AreAhead kept (first + k) (drop k places) (pair old now)
   pub done : edits ++ edits_from kept (first + k) (drop k places) (pair old now) ≡ edits_from (pair 0 0) first places (pair old now)
@@ -266,7 +266,7 @@ pub passed-all : (old now first : ℕ) (places : List (Option ℕ)) (kept : Pair
 passed-all old now first places kept edits more k le h pushed =
     pushed ∙ ap (λ (ps : List (Option ℕ)). edits ++ edits_from kept (first + k) ps (pair old now)) (sym (drop_all k places le)) ∙ h.done
 
--- a place that stands at the head
+-- a place that is at the head
 pub place-fits : (kept : Pair) (line : ℕ) (place : Option ℕ) (places : List (Option ℕ)) (last : Pair) → AreAhead kept line (place ∷ places) last → end_of place ≤ last.now
 place-fits kept line None places last h = omega arith
 place-fits kept line (Some at) places last h = omega (arith, All-head (λ n. n < last.now) at (standing places) h.there)

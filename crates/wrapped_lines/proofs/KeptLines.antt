@@ -43,7 +43,7 @@ row-within ls i k lt within =
     let all : rows_before ls (length ls) ≡ length (all_rows ls) = ap (λ (xs : Lines). length (all_rows xs)) (take_all (length ls) ls (omega arith)) in
     omega (arith, rows_before-next ls i lt, rows_before-rises ls (i + 1) (length ls) (omega (arith, lt)), all, within)
 
--- a row that stands in two lines stands in one
+-- a row that is in two lines is in one
 one-line : (ls : Lines) (i k l m : ℕ) → i < length ls → l < length ls → k < length (line_rows ls i) → m < length (line_rows ls l)
     → rows_before ls i + k ≡ rows_before ls l + m → i ≡ l
 one-line ls i k l m ilt llt kin min same = elim (cases_order i l) [

@@ -1,4 +1,4 @@
--- The lines of a lawful record have room, at whatever marks they stand.
+-- The lines of a lawful record have room, whatever their marks.
 use Rattle.std.proofs.Common.{◌≡◌, ℕ, suc, ◌+◌, ◌<◌, ◌≤◌, ◌^◌, Bool, true, false, cond, List, [], ◌∷◌, length, get_or, arith}
 use Rattle.std.specs.List.{sum_by}
 use Rattle.std.proofs.lemmas.List.Elements.{All-from_get_or}

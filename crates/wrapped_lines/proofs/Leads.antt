@@ -14,7 +14,7 @@ parts xs a b order =
     ∙ ap (λ rest. take a xs ++ rest) (take-append-drop (b - a) (drop a xs))
     ∙ take-append-drop a xs
 
--- what stands after a replacement: what stood before it, what was put, and what stood behind it
+-- what is there after a replacement: what was before it, what was put, and what was after it
 after-parts : {X : Type 0} (old new : List X) (a b n : ℕ) → LeadsAt old new a b n → take a old ++ (take n (drop a new) ++ drop b old) ≡ new
 after-parts old new a b n l =
     ap (λ rest. take a old ++ (take n (drop a new) ++ rest)) (sym l.behind)

@@ -37,7 +37,7 @@ all-there now (Some line ∷ places) [] at = absurd at
 all-there now (None ∷ places) (e ∷ es) at = all-there now places es at
 all-there now (Some line ∷ places) (e ∷ es) at = All-cons (λ n. n < length now) line (standing places) at.0 (all-there now places es at.2)
 
--- where a line has its place stands that line
+-- where a line has its place is that line
 pub stands-there : (now : List (List Element)) (places : List (Option ℕ)) (es : List (List Element)) (line i j : ℕ) → AreLinesAt now places es →
     position_from (is_line i) line places ≡ Some j → (k : ℕ) × (line + k ≡ j) × (k < length es) × (slice_get now i ≡ slice_get es k)
 stands-there now [] es line i j at found = absurd (cc)

@@ -1,4 +1,4 @@
--- The parts of lines that stand wrapped belong together.
+-- The parts of wrapped lines belong together.
 use Rattle.std.proofs.Common.{◌≡◌, ℕ, List, ap, sym, subst, ◌∙◌}
 use Rattle.cell_line.specs.declared.element.Element.{Element}
 use Rattle.cell_units.specs.Layers.{Source}

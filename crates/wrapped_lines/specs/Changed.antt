@@ -1,4 +1,4 @@
--- What changes of a source whose lines stand wrapped make of it.
+-- What changes of a source with wrapped lines make of it.
 use Rattle.std.specs.Prelude.{ℕ, ◌≡◌, ◌+◌, ◌<◌, ◌≤◌, if◌then◌else◌, List, length, Option, Some, None}
 use Rattle.cell_units.specs.declared.fault.Fault.{Fault}
 use Rattle.cell_units.specs.declared.fault.Fault.TheVariants as faults
@@ -24,14 +24,16 @@ IsNumberFault Lawful faults.NoMemory = Lawful
 abbrev pub rows_replaced : List (List (List ℕ)) → Shift → List Edit
 rows_replaced rows run = replacement (rows_before rows run.start) (rows_before rows run.end) run.count
 
--- The lines of a run were replaced. Those that stand there now are in one row each, and all others stand as they did.
+-- The lines of a run were replaced. Those that are there now are in one row each, and all others are wrapped as they
+-- were.
 pub record IsRewrapped (old : WrappedSource) (source : Source) (tab : ℕ) (new : WrappedSource) (run : Shift) (rows : List Edit) : Type 0 where
   pub made : new ≡ record { source = source; tab = tab; width = old.width; marks = marks_after (Some run) old.marks }
   pub leads : LeadsBy (lines_of old) (lines_of new) (Some run)
   pub rows_are : rows ≡ rows_replaced (row_texts old) run
   pub fits : Fits rows (all_rows (row_texts old)) (all_rows (row_texts new))
 
--- The lines at the places stand at the width, and all others as they did. The patch replaces exactly the rows of those lines.
+-- The lines at the places are wrapped at the width, and all others as they were. The patch replaces exactly the rows of
+-- those lines.
 pub record IsLandedAt (old : WrappedSource) (places : List (Option ℕ)) (new : WrappedSource) (rows : List Edit) : Type 0 where
   pub made : new ≡ record old { marks = marks_at places old.width old.marks }
   pub normal : IsPatch rows

@@ -1,4 +1,4 @@
--- Laws of lines that stand wrapped.
+-- Laws of wrapped lines.
 use Rattle.std.specs.Prelude.{ℕ, ◌≡◌, ◌+◌, ◌<◌, ◌≤◌, List, length, Option}
 use Rattle.cell_units.specs.declared.limits.TheConstants.{LAID_LIMIT}
 use Rattle.cell_units.specs.Lawful.{IsLawful, source_of}

@@ -1,4 +1,4 @@
--- A source whose lines stand wrapped.
+-- A source with wrapped lines.
 use Rattle.std.specs.Prelude.{ℕ, List, length, replicate}
 use Rattle.cell_line.specs.declared.element.Element.{Element}
 use Rattle.cell_units.specs.Layers.{Source}
@@ -6,8 +6,8 @@ use Rattle.tab_map.specs.TabLines.{lines_at}
 use Rattle.wrap_map.specs.Standing.{HasRoom, Standing, shown_rows}
 use Rattle.wrapped_lines.specs.declared.lines.TheConstants.{OPENING_TAB, OPENING_WIDTH}
 
--- What is shown below, the tab size, the width that lines are to stand at, and the mark of each line: the width at which it
--- stands wrapped, 0 where it stands in one row.
+-- What the lower layer shows, the tab size, the width at which lines are to be wrapped, and the mark of each line. The
+-- mark is the width at which it is wrapped, 0 where it is in one row.
 pub record WrappedSource : Type 0 where
   pub source : Source
   pub tab : ℕ
@@ -18,7 +18,7 @@ pub record WrappedSource : Type 0 where
 abbrev pub lines_of : WrappedSource → List (List Element)
 lines_of w = lines_at w.source w.tab
 
--- the lines as they stand
+-- the lines as they are wrapped
 abbrev pub standing_lines : WrappedSource → Standing
 standing_lines w = record { lines = lines_of w; marks = w.marks }
 
@@ -35,6 +35,6 @@ unwrapped source = record {
   marks = replicate (length (lines_at source OPENING_TAB)) 0;
 }
 
--- lines, cells and rows are u32, at whatever marks the lines stand
+-- lines, cells and rows are u32, whatever the marks of the lines
 abbrev pub HaveRoom : List (List Element) → Type 0
 HaveRoom lines = (marks : List ℕ) → HasRoom (record { lines = lines; marks = marks })

@@ -58,8 +58,8 @@ fn land_run<N: Lines>(
 }
 
 impl<L: Layer> WrappedLines<L> {
-    /// The lines after those of a run landed. Each place has the line that a line of the run is now, if it is still there, and
-    /// `wraps` are their cuts at the present width.
+    /// The lines after those of a run landed. Each place has the line that a line of the run is now, if it is still
+    /// there. `wraps` are their cuts at the present width.
     pub fn landed(
         &self,
         alloc: Global,

@@ -23,8 +23,8 @@ pub const OPENING_WIDTH: u32 = 80;
 
 /// The lines of a layer at a tab size, as they are wrapped, and the width at which they are to be.
 ///
-/// It is seen as what the layer shows, the tab size, that width, and the mark of each line: the width in cells at which it
-/// is wrapped, 0 if it has one row.
+/// It is seen as what the layer shows, the tab size, that width, and the mark of each line. That is the width in cells
+/// at which it is wrapped, 0 if it has one row.
 pub struct WrappedLines<L: Layer> {
     pub(crate) layer: L,
     pub(crate) tab: u32,
@@ -60,7 +60,7 @@ impl<L: Layer> Model for WrappedLines<L> {
 }
 
 impl<L: Layer> WrappedLines<L> {
-    /// The lines of a layer, each in one row, at a tab size of 4 and a width of 80.
+    /// The lines of a layer, each in one row, at a tab size of 4 cells and a width of 80 cells.
     pub fn new(alloc: Global, layer: L, steps: &mut Steps) -> Result<WrappedLines<L>, NoMemory>
         requires { HaveRoom (lines_at (L.source layer) OPENING_TAB) }
         ensures made { IfOk result (λ made. made ≡ unwrapped (L.source layer)) }
@@ -109,8 +109,8 @@ impl<L: Layer> WrappedLines<L> {
         &self.rows
     }
 
-    /// The first line that isn't wrapped at the width and that no run of `out` has, with the lines after it of the same
-    /// kind, up to 128. `None` exactly where there is no such line.
+    /// The first line that isn't wrapped at the width and that no run of `out` has. With it come the lines after it of
+    /// the same kind, up to 128. `None` exactly where there is no such line.
     pub fn next_run(&self, out: &[Run], steps: &mut Steps) -> Option<Run>
         // Each run that is out ends before all later ones begin.
         requires { AreApart out.now }
@@ -134,7 +134,8 @@ impl<L: Layer> WrappedLines<L> {
         self.wraps.is_settled()
     }
 
-    /// An equal value, which no later change of this one reaches. It takes no memory: `NoMemory` is one holder too many.
+    /// An equal value, which no later change of this one reaches. It allocates nothing, and fails with `NoMemory` only
+    /// where the count of holders is full.
     pub fn share(&self) -> Result<WrappedLines<L>, NoMemory>
         ensures { IfOk result (λ shared. shared ≡ self.now) }
     {

@@ -29,7 +29,8 @@ fn push_between(edits: &mut Vec<Edit>, from: Pair, to: Pair) -> Result<(), NoMem
     Ok(())
 }
 
-/// Goes on by an old line, which is kept at its place if it has one. It gives the pair after the last line that is kept.
+/// Goes on by an old line, which is kept at its place if it has one. It gives the pair after the last line that is
+/// kept.
 fn pass(edits: &mut Vec<Edit>, kept: Pair, line: u32, place: Option<u32>) -> Result<Pair, NoMemory>
     requires line { line + 1 < 2 ^ 32 }
     requires place { end_of place < 2 ^ 32 }
@@ -46,8 +47,8 @@ fn pass(edits: &mut Vec<Edit>, kept: Pair, line: u32, place: Option<u32>) -> Res
     })
 }
 
-/// The patch from old lines to present ones that keeps the old lines from `first` on that have a place, each at its place,
-/// and replaces all others. Both counts are of lines.
+/// The patch from old lines to present ones. It keeps the old lines from `first` on that have a place, each at its
+/// place, and replaces all others. Both counts are of lines.
 pub fn lines_since(
     alloc: Global,
     old: u32,

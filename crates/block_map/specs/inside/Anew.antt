@@ -35,7 +35,7 @@ IsMetAt (Some s) ms k = (m : BlockMark) × (slice_get ms k ≡ Some m) × (is_me
 abbrev pub IsBlankAt : List Stop → ℕ → Type 0
 IsBlankAt ss k = (s : Stop) × (slice_get ss k ≡ Some s) × (s.lines ≡ [])
 
--- the edits replace a row of the line at which the stop of the place stands
+-- the edits replace a row of the line at which the stop of the place is
 pub record IsEditedAt (es : List Edit) (lines : List (List (List ℕ))) (side : Side)
     (ss : List Stop) (k : ℕ) : Type 0 where
   pub stop : Stop
@@ -47,7 +47,7 @@ pub record IsEditedAt (es : List Edit) (lines : List (List (List ℕ))) (side : 
   pub of_line : row < length (line_rows lines line)
   pub replaced : IsReplaced es (rows_before lines line + row)
 
--- the edits replace a row of whichever line the stop of the place stands at
+-- the edits replace a row of whichever line the stop of the place is at
 abbrev pub IsTouchedAt : List Edit → List (List (List ℕ)) → Side → List Stop → ℕ → Type 0
 IsTouchedAt es lines side ss k =
     (s : Stop) (line : ℕ) → slice_get ss k ≡ Some s → line < length lines
@@ -71,7 +71,7 @@ pub record IsOfLine (lines : List (List (List ℕ))) (line row : ℕ) : Type 0 w
   pub from : rows_before lines line ≤ row
   pub to : row < rows_before lines line + length (line_rows lines line)
 
--- so many rows stand before what stands on a side of the row's line
+-- so many rows are before what is on a side of the row's line
 pub record IsBeside (lines : List (List (List ℕ))) (side : Side) (row before : ℕ) : Type 0 where
   pub line : ℕ
   pub of_line : IsOfLine lines line row

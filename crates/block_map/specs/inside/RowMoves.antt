@@ -9,7 +9,7 @@ use Rattle.edit_patch.specs.Fits.{added_count}
 use Rattle.block_map.specs.Stops.{Stop, stands_before}
 use Rattle.block_map.specs.inside.StopLists.{AreRising, StopsFit}
 
--- A stop that doesn't stand before the end of some rows moves where others take their place.
+-- A stop that isn't before the end of some rows moves where others take their place.
 abbrev pub moved_stop : Bias → ℕ → ℕ → ℕ → Stop → Stop
 moved_stop bias start end count s =
     if stands_before bias end s then s else record s { row = s.row + count - (end - start) }
@@ -24,7 +24,7 @@ abbrev pub grown : Bias → List Edit → Stop → Stop
 grown bias [] s = s
 grown bias (e ∷ es) s = grown bias es (moved_stop bias e.new_start e.new_start (added_count e) s)
 
--- of the stops that stand before the end of some rows none stands behind their start
+-- of the stops that are before the end of some rows none is after their start
 abbrev pub AreClear : Bias → ℕ → ℕ → List Stop → Type 0
 AreClear bias start end stops = All (λ s. stands_before bias end s ≡ true → s.row ≤ start) stops
 
@@ -45,7 +45,8 @@ own Right = 1
 abbrev pub IsKeptStop : Bias → List Edit → Stop → Type 0
 IsKeptStop bias es s = (row j : ℕ) × ((s.row ≡ row + own bias) × (carry_of es row ≡ Some j))
 
--- Stops may be moved by edits: these keep the own row of each, and behind them as before the rows are a u32 and in order.
+-- Stops may be moved by edits. These keep the own row of each, and after them as before the rows are a u32 and in
+-- order.
 pub record MayBeMoved (bias : Bias) (es : List Edit) (stops : List Stop) : Type 0 where
   pub kept : All (IsKeptStop bias es) stops
   pub fit : StopsFit stops

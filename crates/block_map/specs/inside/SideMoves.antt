@@ -21,7 +21,7 @@ use Rattle.block_map.specs.inside.StopLists.{AreRising, StopsFit}
 use Rattle.block_map.specs.inside.TwoSides.{WasAtLine}
 use Rattle.block_map.specs.inside.Without.{IsRising, without}
 
--- above a line a stop stands before a row, and below it behind one
+-- above a line a stop is before a row, and below it after one
 abbrev pub bias_of : Side → Bias
 bias_of Above = Left
 bias_of Below = Right
@@ -47,7 +47,8 @@ stop_of_mark source lines side m = stop_of source lines side (fresh m.id m.offse
 abbrev pub stops_of_marks : Source → List (List (List ℕ)) → Side → List BlockMark → List Stop
 stops_of_marks source lines side ms = map (stop_of_mark source lines side) ms
 
--- The stops of marks may stand at their lines: anchors are boundaries, each line has its rows, and they are in order and fit.
+-- The stops of marks may be at their lines: anchors are boundaries, each line has its rows, and they are in order and
+-- fit.
 pub record MayStand (source : Source) (lines : List (List (List ℕ))) (side : Side)
     (ms : List BlockMark) : Type 0 where
   pub anchors : All (λ m. IsBoundary source.text m.offset) ms
@@ -75,7 +76,8 @@ pub record MayFollow (shift : Option Shift) (ms : List BlockMark) : Type 0 where
   pub unmet : All (IsUnmet shift) ms
   pub fits : All (λ m. m.offset < 2 ^ 32) (marks_after shift ms)
 
--- A stop may be carried by the edits: its block was shown, its mark isn't met, and the edits keep every row of its line.
+-- A stop may be carried by the edits: its block was shown, its mark isn't met, and the edits keep every row of its
+-- line.
 pub record MayBeCarried (shift : Option Shift) (es : List Edit) (old : List (List (List ℕ))) (side : Side)
     (m : BlockMark) (s : Stop) : Type 0 where
   pub unmet : IsUnmet shift m
@@ -89,7 +91,8 @@ LeaveCarried shift es old side ms ss places =
     (k : ℕ) (m : BlockMark) (s : Stop) → slice_get ms k ≡ Some m → slice_get ss k ≡ Some s
     → Contains places k ⊎ MayBeCarried shift es old side m s
 
--- The stops of some places may be made anew, where edits carry the others: then each mark, moved, has its stop at its line.
+-- The stops of some places may be made anew, where edits carry the others: then each mark, moved, has its stop at its
+-- line.
 pub record MayBeRemade (source : Source) (shift : Option Shift) (es : List Edit) (lines : List (List (List ℕ)))
     (side : Side) (places : List ℕ) (ms : List BlockMark) (ss : List Stop) : Type 0 where
   pub rising : IsRising 0 places

@@ -1,4 +1,5 @@
--- The blocks of one side as the map keeps them: marks, beside each a stop, and the anchors of the blocks that weren't shown yet.
+-- The blocks of one side as the map keeps them: marks, beside each a stop, and the anchors of the blocks that weren't
+-- shown yet.
 use Rattle.std.specs.Prelude.{◌≡◌, ℕ, ◌==◌, ◌≤◌, ◌⊎◌, not, Bool, Option, Some, None, if◌then◌else◌, List, [], ◌∷◌, filter, length, map}
 use Rattle.std.specs.Option.{is_some}
 use Rattle.cell_units.specs.declared.limits.TheConstants.{ENTRY_LIMIT}

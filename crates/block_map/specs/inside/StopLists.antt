@@ -1,5 +1,5 @@
--- Stops as splices: before each as many rows of text as stand between it and the one before it, and its rows in the place of
--- none.
+-- Stops as splices. Before each are as many rows of text as there are between it and the one before it. Its own rows
+-- take the place of none.
 use Rattle.std.specs.Prelude.{◌≡◌, ℕ, ◌+◌, ◌<◌, ◌≤◌, ◌^◌, ◌++◌, List, [], ◌∷◌, drop, length, slice_index_or, take}
 use Rattle.splice_tree.specs.Splices.{Piece}
 use Rattle.block_map.specs.declared.row_count.RowCount.{RowCount}
@@ -8,7 +8,7 @@ use Rattle.block_map.specs.Stops.{Stop, all_stop_rows}
 abbrev pub StopPiece : Type 0
 StopPiece = Piece RowCount (List (List ℕ))
 
--- the stops of splices, the first of which has its gap behind `base` rows of text
+-- the stops of splices, the first of which has its gap after `base` rows of text
 abbrev pub stops_from : ℕ → List StopPiece → List Stop
 stops_from base [] = []
 stops_from base (p ∷ ps) =
@@ -24,7 +24,7 @@ AreStopPieces (p ∷ ps) = IsStopPiece p × AreStopPieces ps
 
 -- ---- stops that are put among others
 
--- how many rows of text stand before the last stop, or `base` where there is none
+-- how many rows of text are before the last stop, or `base` where there is none
 abbrev pub last_row : ℕ → List Stop → ℕ
 last_row base [] = base
 last_row base (s ∷ ss) = last_row s.row ss

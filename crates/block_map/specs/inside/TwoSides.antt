@@ -9,12 +9,13 @@ use Rattle.block_map.specs.Maps.{BlockState, Kept, row_at_line}
 abbrev pub is_kept : ℕ → List Kept → Bool
 is_kept id ks = list_any (λ k. k.id == id) ks
 
--- a block that was shown stood at a line
+-- a block that was shown was at a line
 abbrev pub WasAtLine : List (List (List ℕ)) → Side → Kept → Type 0
 WasAtLine lines side k =
     (row : ℕ) → k.row ≡ Some row → (line : ℕ) × (line < length lines) × (row ≡ row_at_line lines side line)
 
--- What a map keeps: no id is on both sides, there are no more blocks than the limit, and what was shown stood at the lines.
+-- What a map keeps. No id is on both sides, there are no more blocks than the limit, and what was shown was at the
+-- lines.
 pub record IsState (s : BlockState) : Type 0 where
   pub distinct : (id : ℕ) → is_kept id s.above ≡ true → is_kept id s.below ≡ false
   pub few : length s.above + length s.below ≤ ENTRY_LIMIT

@@ -1,5 +1,5 @@
--- Rows among blocks in zones: each row of text with the rows of blocks before it that stand above its line, and those behind
--- it that stand below its line.
+-- Rows among blocks in zones. A zone is a row of text, the rows of blocks before it that are above its line, and those
+-- after it that are below.
 use Rattle.std.specs.Prelude.{◌≡◌, ℕ, ◌+◌, ◌<◌, ◌^◌, ◌==◌, if◌then◌else◌, List, [], ◌∷◌, ◌++◌, flat_map, length, map, slice_index_or}
 use Rattle.std.specs.List.{All}
 use Rattle.cell_units.specs.declared.place.Bias.TheVariants.{Left, Right}
@@ -28,7 +28,7 @@ abbrev pub zone : Between → ℕ → List Row
 zone b t =
     map block_row (texts_at t b.above) ++ (text_row b t ∷ map block_row (texts_at (t + 1) b.below))
 
--- how many rows stand before a zone
+-- how many rows are before a zone
 abbrev pub zone_start : Between → ℕ → ℕ
 zone_start b t = t + (rows_upto Left t b.above + rows_upto Right t b.below)
 
@@ -38,20 +38,20 @@ pub record IsInZone (b : Between) (row t at : ℕ) : Type 0 where
   pub start : zone_start b t + at ≡ row
   pub end : row < zone_start b (t + 1)
 
--- no stop stands between the text rows from one up to another
+-- no stop is between the text rows from one up to another
 abbrev pub IsClear : Between → ℕ → ℕ → Type 0
 IsClear b from to =
     (t : ℕ) → from < t → t < to → (texts_at t b.above ≡ []) × (texts_at t b.below ≡ [])
 
--- a stop stands before the first row of a line
+-- a stop is before the first row of a line
 abbrev pub IsAboveLine : List (List (List ℕ)) → Stop → Type 0
 IsAboveLine lines s = (line : ℕ) × (line < length lines) × (s.row ≡ rows_before lines line)
 
--- a stop stands behind the last row of a line
+-- a stop is after the last row of a line
 abbrev pub IsBelowLine : List (List (List ℕ)) → Stop → Type 0
 IsBelowLine lines s = (line : ℕ) × (line < length lines) × (s.row ≡ rows_before lines (line + 1))
 
--- What a block snapshot keeps: each line has a row, stops stand between lines, and all rows together are a u32.
+-- What a block snapshot keeps: each line has a row, stops are between lines, and all rows together are a u32.
 pub record IsBetween (b : Between) : Type 0 where
   pub rows : HaveRows b.lines
   pub above : All (IsAboveLine b.lines) b.above

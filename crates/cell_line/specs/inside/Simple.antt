@@ -6,7 +6,7 @@ use Rattle.std.specs.Int.{is_in_range}
 abbrev pub is_simple : ℕ → Bool
 is_simple byte = (byte == 9) || is_in_range 32 126 byte
 
--- printable ASCII but a space, with a simple byte behind it
+-- printable ASCII but a space, with a simple byte after it
 abbrev pub is_letter_before : ℕ → ℕ → Bool
 is_letter_before byte next = is_in_range 33 126 byte && is_simple next
 
@@ -15,7 +15,7 @@ abbrev pub StartsWithLetters : List ℕ → ℕ → Type 0
 StartsWithLetters text count =
     (i : ℕ) → i < count → (i + 1 < length text) × (is_letter_before (slice_index text i) (slice_index text (i + 1)) ≡ true)
 
--- the place is the text's end or stands between two simple bytes
+-- the place is the text's end or lies between two simple bytes
 pub record IsSeam (text : List ℕ) (from at : ℕ) : Type 0 where
   pub past : from < at
   pub within : at ≤ length text

@@ -28,7 +28,7 @@ AreRows (Rows before after) = Unit {0}
 AreRows NoLine = ⊥
 AreRows EachLine = ⊥
 
--- The text is the one after the operation, and both maps of the source were told of that and show it next.
+-- The text is the one after the operation, and both maps of the source were given that and show it next.
 pub record AreTold (operation : Operation) (s : Source) (rope : List ℕ) (inlays : InlayState) (folds : FoldState) (shift : Option Shift)
     : Type 0 where
   pub allowed : IsAllowed operation (record_of s)
@@ -38,6 +38,6 @@ pub record AreTold (operation : Operation) (s : Source) (rope : List ℕ) (inlay
   pub folds_are : folds ≡ folds_told operation (record_of s)
   pub shift_is : option_map reach_of shift ≡ text_shift operation
 
--- some operation was told to both
+-- some operation was given to both
 abbrev pub WereTold : Source → List ℕ → InlayState → FoldState → Option Shift → Type 0
 WereTold s rope inlays folds shift = (operation : Operation) × AreTold operation s rope inlays folds shift

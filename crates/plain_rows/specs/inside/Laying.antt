@@ -1,4 +1,4 @@
--- How parts are laid one behind the other.
+-- How parts are laid one after the other.
 use Rattle.std.specs.Prelude.{ℕ, ◌≡◌, ◌+◌, ◌<◌, ◌≤◌, ◌==◌, ◌&&◌, nat_lt, Bool, true, false, if◌then◌else◌, List, [], ◌∷◌, ◌++◌, length, map, flat_map, take, drop, slice_range}
 use Rattle.std.specs.Str.{IsCharBoundary}
 use Rattle.cell_units.specs.Text.{begins_with_feed, carriage_return, clean}
@@ -41,7 +41,7 @@ pub record IsSpan (text : List ℕ) (start end : ℕ) : Type 0 where
   pub starts : IsCharBoundary text start
   pub ends : IsCharBoundary text end
 
--- the new parts are the old ones and behind them the buffer's bytes from the one offset to the other
+-- the new parts are the old ones and after them the buffer's bytes from the one offset to the other
 pub record Lays (source : Source) (old new : List Part) (from to : ℕ) : Type 0 where
   pub reaches : Reaches source new to
   pub shows : tokens_of source new ≡ tokens_of source old ++ bytes_from from (slice_range source.text from to)
@@ -53,7 +53,7 @@ inlay_rest source number at =
     let inlay = inlay_at source number in
     map (λ b. InlayByte inlay.offset inlay.id b) (clean (drop at inlay.text))
 
--- the new parts are the old ones and behind them the inlay's bytes from the one to the other
+-- the new parts are the old ones and after them the inlay's bytes from the one to the other
 pub record LaysInlay (source : Source) (number : ℕ) (old new : List Part) (at next : ℕ) : Type 0 where
   pub reaches : Reaches source new (inlay_at source number).offset
   pub shows :
@@ -63,7 +63,7 @@ pub record LaysInlay (source : Source) (number : ℕ) (old new : List Part) (at 
   pub further : at < next
   pub boundary : IsCharBoundary (inlay_at source number).text next
 
--- what stands before an offset, and the first inlays of those at it
+-- what is before an offset, and the first inlays of those at it
 abbrev pub shown_upto : Source → ℕ → ℕ → List Token
 shown_upto source number at =
     folded_before source.text (take number source.inlays) source.folds at ++ inlays_at (take number source.inlays) at
@@ -82,7 +82,7 @@ pub record IsFree (source : Source) (from to : ℕ) : Type 0 where
   pub span : IsSpan source.text from to
   pub free : (o : ℕ) → from ≤ o → o < to → covered source.folds o ≡ false
 
--- one placeholder stands for the range, and the inlays strictly inside it are hidden
+-- one placeholder replaces the range, and the inlays strictly inside it are hidden
 pub record IsJoinedFold (source : Source) (joined : Joined) : Type 0 where
   pub some : joined.start < joined.end
   pub within : joined.end ≤ length source.text
@@ -99,11 +99,11 @@ pub record IsHidden (source : Source) (number start end : ℕ) (parts : List Par
   pub behind : (k : ℕ) → number ≤ k → k < length source.inlays → start < (inlay_at source k).offset
   pub number_within : number ≤ length source.inlays
 
--- the inlays from this number on stand behind the offset
+-- the inlays from this number on are after the offset
 abbrev pub IsPast : Source → ℕ → ℕ → Type 0
 IsPast source number at = (k : ℕ) → number ≤ k → k < length source.inlays → at < (inlay_at source k).offset
 
--- there is an inlay of this number, and it stands before the offset
+-- there is an inlay of this number, and it is before the offset
 abbrev pub stands_before : Source → ℕ → ℕ → Bool
 stands_before source number offset =
     nat_lt number (length source.inlays) && nat_lt (inlay_at source number).offset offset

@@ -29,13 +29,13 @@ piece_in source (Feed offset) = record { kind = kinds.Buffer; text = []; start =
 piece_in source (InlayFeed number offset) =
     record { kind = kinds.Inlay (inlay_at source number).id; text = []; start = offset; end = offset }
 
--- the ends of the lines of parts of which n stand before the first
+-- the ends of the lines of parts of which n are before the first
 abbrev pub ends_from : ℕ → List Part → List LineEnd
 ends_from n [] = []
 ends_from n (p ∷ ps) =
     if is_end p then (record { parts = n + 1; feed = p } ∷ ends_from (n + 1) ps) else ends_from (n + 1) ps
 
--- how many parts stand before the line of this number
+-- how many parts are before the line of this number
 abbrev pub line_from : ℕ → List LineEnd → ℕ → ℕ
 line_from n ends zero = n
 line_from n [] (suc k) = n

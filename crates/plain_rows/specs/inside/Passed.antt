@@ -1,4 +1,4 @@
--- What of the parts stands before a position that is not strictly inside a joined fold.
+-- What of the parts is before a position that is not strictly inside a joined fold.
 use Rattle.std.specs.Prelude.{ℕ, ◌≡◌, ◌-◌, ◌≤◌, ◌<◌, ◌==◌, ◌&&◌, ◌||◌, nat_lt, Option, Some, None, Bool, true, false, if◌then◌else◌, length, min}
 use Rattle.cell_units.specs.declared.place.Bias.{Bias}
 use Rattle.cell_units.specs.declared.place.Bias.TheVariants.{Left, Right}
@@ -14,11 +14,11 @@ abbrev pub is_right : Bias → Bool
 is_right Left = false
 is_right Right = true
 
--- an inlay at an offset stands before the offset's right position
+-- an inlay at an offset is before the offset's right position
 abbrev pub inlay_passed : ℕ → Bias → ℕ → Bool
 inlay_passed o bias at = nat_lt at o || ((at == o) && is_right bias)
 
--- the token stands before the position
+-- the token is before the position
 abbrev pub token_passed : ℕ → Bias → Token → Bool
 token_passed o bias (Byte at b) = nat_lt at o
 token_passed o bias (InlayByte at id b) = inlay_passed o bias at
@@ -40,7 +40,7 @@ part_bytes (Placeholder start end) = 3
 part_bytes (Feed at) = 1
 part_bytes (InlayFeed number at) = 1
 
--- how many of them stand before the position
+-- how many of them are before the position
 abbrev pub passed_bytes : ℕ → Bias → Part → ℕ
 passed_bytes o bias (Buffer start end) = min o end - start
 passed_bytes o bias (Inlay number at start end) = if inlay_passed o bias at then end - start else 0
@@ -48,7 +48,7 @@ passed_bytes o bias (Placeholder start end) = if nat_lt start o then 3 else 0
 passed_bytes o bias (Feed at) = if nat_lt at o then 1 else 0
 passed_bytes o bias (InlayFeed number at) = if inlay_passed o bias at then 1 else 0
 
--- two positions stand at one place, and the second is not strictly inside a joined fold
+-- two positions are at one place, and the second is not strictly inside a joined fold
 pub record IsSamePlace (source : Source) (o : ℕ) (bias : Bias) (p : ℕ) (other : Bias) : Type 0 where
   pub same :
       folded_to source.text source.inlays source.folds o bias ≡ folded_to source.text source.inlays source.folds p other

@@ -12,12 +12,12 @@ use Rattle.plain_rows.specs.Spots.{rows_before}
 abbrev pub cells_limit : ℕ
 cells_limit = 2149580816
 
--- of each display line, how many rows stand before its text rows
+-- of each display line, how many rows are before its text rows
 pub record HasFirstRows (r : Record) (rows : List ℕ) : Type 0 where
   pub each : (line : ℕ) → line < length r.marks → slice_index_or rows line 0 ≡ rows_before r line
   pub count : length rows ≡ length r.marks
 
--- of each display line, how many rows of blocks stand on that side of it
+-- of each display line, how many rows of blocks are on that side of it
 pub record HasBlockRows (r : Record) (side : Side) (rows : List ℕ) : Type 0 where
   pub each : (line : ℕ) → line < length r.marks → slice_index_or rows line 0 ≡ length (blocks_at r side line)
   pub count : length rows ≡ length r.marks

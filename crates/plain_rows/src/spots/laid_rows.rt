@@ -11,8 +11,8 @@ use cell_units::{Bias, NoMemory, Steps};
 use std::alloc::Global;
 use std::marker::Model;
 
-/// The display lines of a record, lent: its text with inlays, folds and blocks, the tab size, the width, and of each line
-/// the width at which it stands wrapped and how many rows stand before its text rows. It is seen as the record.
+/// The display lines of a record, lent: its text with inlays, folds and blocks, the tab size and the width. Of each
+/// line it has the width at which it is wrapped, and how many rows are before its text rows. It is seen as the record.
 #[derive(Drop)]
 pub struct LaidRows<'a> {
     pub source: PlainSource<'a>,
@@ -71,6 +71,7 @@ impl SpotRows for LaidRows<'_> {
 
     fn row_line(&self, alloc: Global, line: u32, _steps: &mut Steps) -> Result<RowLine, NoMemory> {
         let pieces = self.lines.pieces(alloc, &self.source, line)?;
+        // For the proof: the cells of a line of so few bytes fit u32.
         line_laws();
         let elements = elements(alloc, &pieces, self.tab)?;
         RowLine::new(alloc, elements, self.widths[line as usize])

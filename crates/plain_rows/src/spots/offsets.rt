@@ -113,7 +113,8 @@ fn offset_at<R: SpotRows>(rows: &R, aim: &Aim, bias: Bias, steps: &mut Steps) ->
     }
 }
 
-/// The least offset (Left) or the greatest (Right) that is shown at the nearest spot at which some is.
+/// The least offset in bytes (Left) or the greatest (Right) that is shown at the nearest spot at which some is
+/// (*Spots*).
 pub fn back_in<R: SpotRows>(
     alloc: Global,
     rows: &R,

@@ -1,4 +1,4 @@
-//! How many rows stand before the text rows of each display line.
+//! How many rows are before the text rows of each display line.
 ghost use Rattle.std.specs.Prelude.{◌≡◌, ◌≤◌, ◌<◌, [], length, map, slice_index_or, IfOk};
 ghost use Rattle.cell_units.specs.Lawful.{IsLawful, source_of};
 ghost use Rattle.plain_rows.specs.FoldedLines.{AreLinesOf, seen};
@@ -13,14 +13,14 @@ use cell_units::limits::LAID_LIMIT;
 use cell_units::{NoMemory, Side};
 use std::alloc::Global;
 
-/// Whether the block stands on that side of its line.
+/// Whether the block is on that side of its line.
 fn stands_on(block: &PlainBlock, side: Side) -> bool
     ensures { result ≡ is_on side block.now.side }
 {
     block.side == side
 }
 
-/// How many rows of blocks stand on one side of each display line. `lines` has of each block its line.
+/// How many rows of blocks are on one side of each display line. `lines` has of each block its line.
 fn block_rows(alloc: Global, plain: &Plain, lines: &[u32], side: Side) -> Result<Vec<u32>, NoMemory>
     requires lawful { IsLawful (record_of plain.now) }
     requires lines { lines.now ≡ map (λ b. line_of_block (record_of plain.now) (block_of b)) plain.now.blocks.items }
@@ -56,7 +56,7 @@ fn text_rows(
     Ok(cuts.len() as u32 + 1)
 }
 
-/// How many rows stand before the text rows of each display line.
+/// How many rows are before the text rows of each display line. They are counted from 0.
 pub fn first_rows(alloc: Global, plain: &Plain, folded: &FoldedLines) -> Result<Vec<u32>, NoMemory>
     requires lawful { IsLawful (record_of plain.now) }
     requires size { length plain.now.text ≤ LAID_LIMIT }

@@ -11,8 +11,8 @@ use cell_line::{Cuts, Element, cuts, indent};
 use cell_units::{Bias, NoMemory, Spot};
 use std::alloc::Global;
 
-/// How many elements stand before a byte of their line: where it is strictly inside one, Left is before it and Right
-/// behind it.
+/// How many elements are before a byte of their line. Where it is strictly inside one, Left is before it and Right
+/// after it.
 fn elements_before(elements: &[Element], byte: u32, bias: Bias) -> usize
     ensures value { result ≡ elements_before elements.now byte bias }
     ensures within { result ≤ length elements.now }
@@ -64,7 +64,7 @@ fn cells_between(elements: &[Element], start: usize, end: usize) -> u32
         .sum()
 }
 
-/// The elements of a display line, and the width at which it stands, with where they are cut at that width.
+/// The elements of a display line, and the width at which it is wrapped, with where they are cut at that width.
 #[derive(Drop)]
 pub struct RowLine {
     pub elements: Vec<Element>,
@@ -79,7 +79,7 @@ pub struct RowLine {
 }
 
 impl RowLine {
-    /// The line of these elements, cut at the width.
+    /// The line of these elements, cut at the width in cells.
     pub fn new(alloc: Global, elements: Vec<Element>, width: u32) -> Result<RowLine, NoMemory>
         requires few { total_cells elements.items ≤ cells_limit }
         requires count { length elements.items < 2 ^ 32 }

@@ -41,7 +41,7 @@ fn boundary_upto<R: SpotRows>(rows: &R, offset: u32, steps: &mut Steps) -> u32
     ensures last { IsLastBoundary (R.kept rows.now).text (offset + 1) (Some result) }
     ensures counted { steps.old ≤ steps.new }
 {
-    // The record is lawful, so its text is UTF-8 and its first offset a boundary.
+    // For the proof: the record is lawful, so its text is UTF-8 and its first offset a boundary.
     let _ = rows.text_len();
     let mut offset = offset;
     while offset > 0 {
@@ -92,7 +92,7 @@ pub(super) fn aim_at<R: SpotRows>(
     ensures spot { IfOk result (λ aim. aim.spot ≡ spot) }
     ensures counted { steps.old ≤ steps.new }
 {
-    // The aim keeps that the record is lawful.
+    // For the proof: the record is lawful, as the aim keeps.
     let _ = rows.text_len();
     let number = rows.line_of_row(spot.row, steps);
     let line = rows.row_line(alloc, number, steps)?;
@@ -237,7 +237,7 @@ fn least_from<R: SpotRows>(
     }
 }
 
-/// The nearest spot at which some offset is shown.
+/// The nearest spot at which some offset is shown (*Spots*).
 pub fn clip_in<R: SpotRows>(
     alloc: Global,
     rows: &R,

@@ -7,7 +7,7 @@ use super::spot_rows::SpotRows;
 use cell_units::{Bias, NoMemory, Spot, Steps};
 use std::alloc::Global;
 
-/// Where the boundary `offset` of the text is shown.
+/// The row, and the column in cells, where the boundary `offset` of the text is shown (*Spots*).
 pub fn show_in<R: SpotRows>(
     alloc: Global,
     rows: &R,
@@ -19,7 +19,7 @@ pub fn show_in<R: SpotRows>(
     ensures spot { IfOk result (λ spot. spot ≡ show (R.kept rows.now) offset bias) }
     ensures counted { steps.old ≤ steps.new }
 {
-    // The record is lawful, so its rows can be counted.
+    // For the proof: the record is lawful, so its rows can be counted.
     let _ = rows.text_len();
     let place = rows.place(offset, bias, steps);
     let line = rows.row_line(alloc, place.0, steps)?;

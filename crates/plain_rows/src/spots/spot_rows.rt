@@ -29,7 +29,7 @@ pub trait SpotRows {
         ensures test { result ≡ is_boundary (kept self.now).text offset }
         ensures counted { steps.old ≤ steps.new };
 
-    /// The display line of a boundary, and how many bytes of that line stand before it.
+    /// The display line of a boundary, and how many bytes of that line are before it.
     fn place(&self, offset: u32, bias: Bias, steps: &mut Steps) -> (u32, u32)
         requires { IsBoundary (kept self.now).text offset }
         ensures line { let r = kept self.now in
@@ -44,7 +44,7 @@ pub trait SpotRows {
         ensures around { IsFoldAround (kept self.now).folds offset result }
         ensures counted { steps.old ≤ steps.new };
 
-    /// A display line, cut where it stands.
+    /// A display line, cut at its own width.
     fn row_line(&self, alloc: Global, line: u32, steps: &mut Steps) -> Result<RowLine, NoMemory>
         requires { line < length (kept self.now).marks }
         ensures elements { IfOk result (λ found.
@@ -52,7 +52,7 @@ pub trait SpotRows {
         ensures width { IfOk result (λ found. found.width ≡ (mark_at (kept self.now) line).width) }
         ensures counted { steps.old ≤ steps.new };
 
-    /// How many rows stand before the text rows of a line.
+    /// How many rows are before the text rows of a line.
     fn first_row(&self, line: u32, steps: &mut Steps) -> u32
         requires { line < length (kept self.now).marks }
         ensures rows { result ≡ rows_before (kept self.now) line }

@@ -1,5 +1,5 @@
--- What a write in place asks of a list and of the nodes that hold it, and what it leaves. `items` and `sums` are what the
--- bounds on items and on their sums say.
+-- What a write in place asks of a list and of the nodes that hold it, and what it leaves. `items` and `sums` are what
+-- the bounds on items and on their sums say.
 use Rattle.std.specs.Prelude.{◌≡◌, ℕ, ◌+◌, ◌^◌, ◌<◌, ◌≤◌, List, length, Result, MatchResult, Ok, Err}
 use Rattle.std.specs.List.{splice}
 use Rattle.std.specs.declared.alloc.Global.{Global}
@@ -17,7 +17,7 @@ use Rattle.sum_tree.specs.inside.Nodes.{SumFits, sum_of}
 abbrev pub refilled : {T : Type 0} → List T → Span → List T → List T
 refilled held span new = splice held span.from span.to new
 
--- A write opens one node a level of a tree of this height, and makes two leaves in the place of one that would be too full.
+-- A write opens one node at each level of a tree of this height. It makes two leaves of one that would be too full.
 abbrev pub placing : ℕ → ℕ
 placing height = height + 3
 
@@ -39,7 +39,7 @@ module _ {T : Type 0} where
       MatchResult result (λ _. after ≡ refilled held span given.items) (λ error. (after ≡ held) × IsLeft given left error)
 
 module _ {T S : Type 0} (items : Items T S) (sums : Sums S) where
-  -- The span lies in the list, and `new` may stand in its place.
+  -- The span lies in the list, and `new` may take its place.
   pub record CanRefill (held : List T) (span : Span) (new : List T) : Type 0 where
     pub order : span.from ≤ span.to
     pub within : span.to ≤ length held

@@ -1,5 +1,5 @@
--- The words of clauses on nodes, on children as they stand in a node, and on trees. `items` and `sums` are what a function's bounds
--- say of items and of their sums.
+-- The words of clauses on nodes, on children as a node has them, and on trees. `items` and `sums` are what a function's
+-- bounds say of items and of their sums.
 use Rattle.std.specs.Prelude.{ℕ, min, List, map}
 use Rattle.sum_core.specs.Sums.{total}
 use Rattle.sum_core.specs.Nodes.{IsLawful, IsRoot, IsChild, IsChildList, contents, width, entries_of, child_value, items_under}
@@ -63,7 +63,7 @@ module _ {T S : Type 0} (items : Items T S) (sums : Sums S) where
   AreMelded left_height left right_height right pieces =
       IsMelded sums.empty sums.joined items.summary left_height (entries_of left) right_height (entries_of right) (map child_value pieces)
 
-  -- one node that can be a root, or at most twelve that can stand below one
+  -- one node that can be a root, or at most twelve that can be below one
   abbrev pub AreRaisable : ℕ → List (Child T S) → Type 0
   AreRaisable height pieces = IsRaisable sums.empty sums.joined items.summary height (map child_value pieces)
 

@@ -44,7 +44,7 @@ module _ {T S : Type 0} where
       pub count_is : p.count ≡ length (items_in p.entries.now)
       pub within : p.first + p.count ≤ length items
 
-    -- Places of heights that fall by one, from a root of this height, where `depth` of them stand before.
+    -- Places of heights that fall by one, from a root of this height, where `depth` of them come before.
     abbrev pub ArePlaces : List T → ℕ → ℕ → List (Option (Place T S)) → Type 0
     ArePlaces items height depth [] = Unit {0}
     ArePlaces items height depth (None ∷ ps) = ⊥

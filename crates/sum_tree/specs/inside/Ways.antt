@@ -1,5 +1,5 @@
--- The words of clauses on a path. `items` and `sums` are what a function's bounds say of items and of their sums; `measure` and `cmp`
--- are those of a dimension.
+-- The words of clauses on a path. `items` and `sums` are what a function's bounds say of items and of their sums;
+-- `measure` and `cmp` are those of a dimension.
 use Rattle.std.specs.Prelude.{◌≡◌, ℕ, ◌<◌, false, List, Option, MatchOption}
 use Rattle.std.specs.declared.cmp.Ordering.{Ordering}
 use Rattle.sum_core.specs.declared.summary.Item.{Ghosts as Items}

@@ -91,7 +91,7 @@ pub fn by_waiting<R: Threads + Wait + Sync>(
     Ok(number)
 }
 
-/// One job, done by the workers, that the owner waits for. It tells the workers nothing of the end.
+/// One job, done by the workers, that the owner waits for. It doesn't notify the workers of the end.
 pub fn without_stop<R: Threads + Wait + Sync>(
     rt: &R,
     alloc: Global,
@@ -160,7 +160,7 @@ fn note(counts: &mut Vec<u32>, finished: &Finished<Alike>) {
     }
 }
 
-/// Hands out the job of this number. Where the crew is full it answers the number of the job that came back.
+/// Hands out the job of this number. Where the crew is full it returns the number of the job that came back.
 pub fn hand_out<R: Wait>(rt: &R, crew: &mut Crew<Alike>, number: u64) -> Option<u64>
     requires { All (λ job. job.number < number) crew.old.out }
     ensures { All (λ job. job.number < number + 1) crew.new.out }

@@ -27,6 +27,7 @@ fn job(number: u64, lines: Alike, run: Run, width: u32) -> Job<Alike>
 fn ten_lines(number: u64) -> Job<Alike>
     ensures { result.number ≡ number }
 {
+    // For the proof: the cells of a line of so few bytes fit u32.
     line_laws();
     let lines = Alike {
         text: "aaa bbb",

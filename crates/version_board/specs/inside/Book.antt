@@ -1,4 +1,4 @@
--- The rule of the row, and what the step that adds to it tells.
+-- The rule of the row, and what the step that adds to it says.
 use Rattle.std.specs.Prelude.{ℕ, ◌≡◌, ◌==◌, ◌+◌, true, List, [], ◌∷◌, ◌++◌, length, MatchBool}
 use Rattle.logbook.specs.Pages.{Cell, Step, View, Book, Named}
 use Rattle.display_map.specs.Versions.{Version}

@@ -1,5 +1,5 @@
--- How many steps a call on stretches takes at most. There are no more stretches than lines, so each bound holds for each
--- h such that the lines are fewer than 2 * 6 ^ (h + 1).
+-- How many steps a call on stretches takes at most. There are no more stretches than lines. So each bound holds for
+-- each h such that the lines are fewer than 2 * 6 ^ (h + 1).
 use Rattle.std.specs.Prelude.{ℕ, ◌+◌, ◌*◌, List, length}
 use Rattle.sum_tree.specs.Bounds.{ChangesAtMost, replacing, way}
 use Rattle.wrap_map.specs.Stood.{Stood, put_in}

@@ -1,4 +1,4 @@
--- What the calls of a map know of how its lines stand.
+-- What the calls of a map know of how its lines are wrapped.
 use Rattle.std.specs.Prelude.{◌≡◌, ◌≢◌, ℕ, ◌+◌, ◌<◌, ◌≤◌, List, Option, Some, None, take, replicate}
 use Rattle.cell_line.specs.declared.lines.Run.{Run}
 use Rattle.cell_units.specs.declared.limits.TheConstants.{RUN_LIMIT}
@@ -15,7 +15,7 @@ pub record AreRowsAt (lines : List Stood) (start end : ℕ) (rows : RowRange) : 
 abbrev pub cleared : Shift → List Stood → List Stood
 cleared s lines = put_in s.start s.end (replicate s.count unwrapped) lines
 
--- their rows, replaced by one row for each line that stands there now
+-- their rows, replaced by one row for each line that is there now
 pub record AreRowsIn (lines : List Stood) (below rows : Shift) : Type 0 where
   pub start_is : rows.start ≡ rows_in (take below.start lines)
   pub end_is : rows.end ≡ rows_in (take below.end lines)
@@ -32,7 +32,7 @@ AreRowsIfAny lines None (Some rows) = ⊥
 AreRowsIfAny lines (Some below) None = ⊥
 AreRowsIfAny lines (Some below) (Some rows) = AreRowsIn lines below rows
 
--- the lines from the first on, up to an end and up to the limit, that stand at another mark than the width
+-- the lines from the first on, up to an end and up to the limit, whose mark is another than the width
 pub record IsRunFrom (lines : List Stood) (width first end : ℕ) (run : Run) : Type 0 where
   pub first_is : run.first ≡ first
   pub some : 1 ≤ run.count

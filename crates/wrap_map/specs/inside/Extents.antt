@@ -29,8 +29,8 @@ joined_extents a b =
       ends = joined_ends a.ends b.ends;
     }
 
--- lines with so many changes of the mark, and these ends, all stand at the width: there are none, or the first one does and the mark
--- never changes
+-- lines with so many changes of the mark, and these ends, are all wrapped at the width. There are none, or the first
+-- one is and the mark never changes
 abbrev pub are_at : ℕ → ℕ → Option Ends → Bool
 are_at width switches None = true
 are_at width switches (Some e) = (switches == 0) && (e.first == width)

@@ -3,7 +3,7 @@ use Rattle.std.specs.Prelude.{ℕ, ◌≡◌, ◌⊎◌, ◌+◌, ◌≤◌, fal
 use Rattle.wrap_map.specs.Stood.{Stood, are_alike}
 use Rattle.wrap_map.specs.inside.Stretches.{IsStretch, Stretched, spread}
 
--- one more behind stretches: where it is alike the last one, that one grows
+-- one more after stretches: where it is alike the last one, that one grows
 abbrev pub with_last : List Stretched → Stretched → List Stretched
 with_last [] s = s ∷ []
 with_last (t ∷ []) s =
@@ -12,12 +12,12 @@ with_last (t ∷ []) s =
     else (t ∷ s ∷ [])
 with_last (t ∷ u ∷ us) s = t ∷ with_last (u ∷ us) s
 
--- more behind stretches, one after the other
+-- more after stretches, one after the other
 abbrev pub gathered : List Stretched → List Stretched → List Stretched
 gathered ss [] = ss
 gathered ss (f ∷ fs) = gathered (with_last ss f) fs
 
--- how the first and the last of some stretches stand
+-- how the first and the last of some stretches are wrapped
 abbrev pub first_of : List Stretched → Option Stood
 first_of [] = None
 first_of (s ∷ ss) = Some s.stood
@@ -33,7 +33,7 @@ AreSeparate None b = Unit {0}
 AreSeparate (Some a) None = Unit {0}
 AreSeparate (Some a) (Some b) = are_alike a b ≡ false
 
--- The part of a stretch that lies before the line n, behind the stretches before that one.
+-- The part of a stretch that lies before the line n, after the stretches before that one.
 pub record IsHead (ss : List Stretched) (n : ℕ) (part : List Stretched) (at : ℕ) : Type 0 where
   pub within : at ≤ length ss
   pub spread_is : spread (take at ss) ++ spread part ≡ take n (spread ss)
@@ -42,7 +42,7 @@ pub record IsHead (ss : List Stretched) (n : ℕ) (part : List Stretched) (at : 
   pub some : (at ≡ 0) ⊎ (1 ≤ length part)
   pub apart : AreSeparate (last_of (take at ss)) (first_of part)
 
--- The part of a stretch that lies from the line n on, before the stretches behind that one.
+-- The part of a stretch that lies from the line n on, before the stretches after that one.
 pub record IsTail (ss : List Stretched) (n : ℕ) (part : List Stretched) (at : ℕ) : Type 0 where
   pub within : at ≤ length ss
   pub spread_is : spread part ++ spread (drop at ss) ≡ drop n (spread ss)

@@ -21,7 +21,7 @@ pub record Landings : Type 0 where
 abbrev pub begun : List Stood → Landings
 begun lines = record { lines = lines; edits = []; start = 0; fresh = [] }
 
--- behind the open group
+-- after the open group
 abbrev pub end_of : Landings → ℕ
 end_of l = l.start + length l.fresh
 
@@ -66,7 +66,8 @@ abbrev pub carried : List Stood → List Edit → ℕ → Stood → Landings →
 carried before since line stood l =
     option_map_or (λ present. taken before present stood l) (carry_of since line) l
 
--- the open group can be closed: it is within the lines, no line from its start on has landed, and lines and rows stay u32
+-- the open group can be closed: it is within the lines, no line from its start on has landed, and lines and rows stay
+-- u32
 pub record CanClose (before : List Stood) (l : Landings) : Type 0 where
   pub unlanded : drop l.start l.lines ≡ drop l.start before
   pub same_long : length l.lines ≡ length before
@@ -74,8 +75,8 @@ pub record CanClose (before : List Stood) (l : Landings) : Type 0 where
   pub lines_fit : length l.lines < 2 ^ 32
   pub rows_fit : rows_in (with_group l) < 2 ^ 32
 
--- A run of old lines, that are to be put at a mark where they are still there: how the present lines stand, that `since` leads to
--- them from the old ones, and where the run's lines are cut at the mark.
+-- A run of old lines, that are to be put at a mark where they are still there. It says how the present lines are
+-- wrapped, and that `since` leads to them from the old ones. It has where the run's lines are cut at the mark.
 pub record IsLate (lines old : List (List Element)) (from : List Stood) (since : List Edit) (run : Run)
     (mark : ℕ) (wraps : List (List ℕ)) : Type 0 where
   pub stands : StandSo lines from
@@ -83,11 +84,11 @@ pub record IsLate (lines old : List (List Element)) (from : List Stood) (since :
   pub within : run.first + run.count ≤ length old
   pub cuts : wraps ≡ cuts_of_run old run mark
 
--- whichever of the lines stand as they do after it, and those behind them as before, their rows are u32
+-- whichever of the lines are wrapped as they are after it, and those after them as before, their rows are u32
 abbrev pub FitBetween : List Stood → List Stood → Type 0
 FitBetween before after = (d : ℕ) → d ≤ length before → rows_in (take d after ++ drop d before) < 2 ^ 32
 
--- the lines of the run stand at the mark, and the patch replaces their rows
+-- the lines of the run are wrapped at the mark, and the patch replaces their rows
 pub record IsPut (s : Standing) (since : List Edit) (run : Run) (mark : ℕ)
     (lines : List Stood) (patch : List Edit) : Type 0 where
   pub lines_are : lines ≡ stood_of (standing_landed since run mark s)

@@ -4,7 +4,7 @@ use Rattle.wrap_map.specs.inside.Adjacent.{AllAdjacent}
 use Rattle.wrap_map.specs.Stood.{Stood, are_alike, rows_in}
 use Rattle.wrap_map.specs.declared.extent.Extent.{Extent}
 
--- so many lines that all stand so
+-- so many lines that are all wrapped so
 pub record Stretched : Type 0 where
   pub stood : Stood
   pub lines : ℕ
@@ -28,7 +28,7 @@ extent_of s =
       ends = Some (record { first = s.stood.mark; last = s.stood.mark });
     }
 
--- how each line of the stretches stands
+-- how each line of the stretches is wrapped
 abbrev pub spread : List Stretched → List Stood
 spread ss = flat_map (λ s. replicate s.lines s.stood) ss
 

@@ -58,7 +58,8 @@ IsNextErrand results job errand =
 abbrev pub IsLast : {N : Type 0} → List (JobParts N) → JobParts N → Type 0
 IsLast {N} jobs job = (rest : List (JobParts N)) × (jobs ≡ rest ++ job ∷ [])
 
--- the crew's pass of the queue of results: it has the rights of the jobs in the crew's own place, which has room for all
+-- the crew's pass of the queue of results: it has the rights of the jobs in the crew's own place, which has room for
+-- all
 pub record IsCrewHand {N : Type 0} (hand : Hand N) (kept : List (JobParts N)) (count workers room : ℕ) : Type 0 where
   pub rights : hand.rights ≡ kept
   pub distinct : AreDistinct hand.out
@@ -71,7 +72,8 @@ pub record IsCrewPost {N : Type 0} (post : Post N) (serial : ℕ) : Type 0 where
   pub going : post.stopped ≡ false
   pub next : post.next ≤ serial
 
--- the crew's two ends belong to each other, and to the jobs of its own place, to its count of jobs out and to its workers
+-- the crew's two ends belong to each other. They belong to the jobs of its own place, to its count of jobs out and to
+-- its workers
 abbrev pub IsCrew : {N : Type 0} → TasksSeen N → ResultsSeen N → List (JobParts N) → ℕ → ℕ → ℕ → Type 0
 IsCrew tasks results kept count workers room =
     IsHomeAt results.queue tasks.post.home

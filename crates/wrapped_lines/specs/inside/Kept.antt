@@ -1,4 +1,4 @@
--- What the parts of a source whose lines stand wrapped are.
+-- What the parts of a source with wrapped lines are.
 use Rattle.std.specs.Prelude.{◌≡◌, List}
 use Rattle.cell_line.specs.declared.element.Element.{Element}
 use Rattle.cell_units.specs.Lawful.{IsTab}

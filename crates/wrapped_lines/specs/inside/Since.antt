@@ -23,12 +23,12 @@ abbrev pub edits_at : Pair → ℕ → Option ℕ → List Edit
 edits_at kept line None = []
 edits_at kept line (Some now) = between kept (pair line now)
 
--- behind the last line that is kept
+-- after the last line that is kept
 abbrev pub kept_after : Pair → ℕ → Option ℕ → Pair
 kept_after kept line None = kept
 kept_after kept line (Some now) = pair (line + 1) (now + 1)
 
--- behind a place
+-- after a place
 abbrev pub end_of : Option ℕ → ℕ
 end_of None = 0
 end_of (Some now) = now + 1

@@ -4,7 +4,7 @@ use Rattle.plain_rows.specs.ShownRows.{shown_rows}
 use Rattle.block_map.specs.Stops.{texts_at}
 use Rattle.block_map.proofs.walking.push_blocks.Given as goal
 
--- The rows up to the next one stand there.
+-- The rows up to the next one are there.
 abbrev pub invariant-walk : goal.invariant-walk
 invariant-walk l = record {
   begun : l.from ≤ l.next;

@@ -1,4 +1,4 @@
--- The call of `all` answers whether each byte is blank.
+-- The call of `all` returns whether each byte is blank.
 use Rattle.std.proofs.Common.{rules, tests, arith}
 use Rattle.std.proofs.lemmas.Iterator.{YieldsList-from_slice}
 use Rattle.std.proofs.lemmas.Iterator.Search.{all_from_yields_List}

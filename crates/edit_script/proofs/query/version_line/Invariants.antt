@@ -1,4 +1,4 @@
--- The runs before the index stand in the line.
+-- The runs before the index are in the line.
 use Rattle.std.proofs.Common.{◌≡◌, take, string_bytes}
 use Rattle.display_map.specs.Replay.{versions_of}
 use Rattle.edit_script.specs.Printed.{version_line}

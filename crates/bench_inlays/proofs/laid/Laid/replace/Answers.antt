@@ -8,7 +8,7 @@ use Rattle.inlay_map.proofs.ReplacedTexts.{IsTold, told, told-leads, told-stand}
 use Rattle.bench_inlays.proofs.laid.Laid.replace.Goals as goal
 use Rattle.bench_inlays.proofs.laid.Laid.replace.Goals.{In_ok-next}
 
--- what the map is told is so
+-- what the map is given is so
 is_told : (c : In_ok-next) → IsTold c.args.self.now.map.current.text c.in_ok-next.next (clean c.args.text.now) (reach_of c.new-shift.result)
 is_told c =
     let m = c.args.self.now in

@@ -3,7 +3,7 @@ use Rattle.block_map.specs.Between.{rows_between}
 use Rattle.plain_rows.specs.ShownRows.{shown_rows}
 use Rattle.block_map.proofs.snapshot.BlockSnapshot.push_lines.Given as goal
 
--- The rows up to the next one stand there.
+-- The rows up to the next one are there.
 abbrev pub invariant-lines : goal.invariant-lines
 invariant-lines g l = record {
   begun : l.row ≤ l.next;

@@ -4,7 +4,7 @@ use Rattle.block_map.specs.Bounds.{IsHeight}
 use Rattle.plain_rows.specs.ShownRows.{shown_rows}
 use Rattle.block_map.proofs.snapshot.BlockSnapshot.rows.Given as goal
 
--- The rows up to the next one stand there.
+-- The rows up to the next one are there.
 abbrev pub invariant-walk : goal.invariant-walk
 invariant-walk g l = record {
   begun : l.first ≤ l.next;

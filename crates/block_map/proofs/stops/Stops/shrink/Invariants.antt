@@ -4,7 +4,7 @@ use Rattle.block_map.specs.Bounds.{putting}
 use Rattle.block_map.specs.inside.RowMoves.{shrunk}
 use Rattle.block_map.proofs.stops.Stops.shrink.Given as goal
 
--- the edits behind have taken their rows away
+-- the later edits have taken their rows away
 abbrev pub invariant-loop-left : goal.invariant-loop-left
 invariant-loop-left l = record {
   within : l.left ≤ length l.edits;

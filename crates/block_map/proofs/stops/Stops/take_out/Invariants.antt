@@ -4,7 +4,7 @@ use Rattle.block_map.specs.Bounds.{putting}
 use Rattle.block_map.specs.inside.Without.{without}
 use Rattle.block_map.proofs.stops.Stops.take_out.Given as goal
 
--- what is left without the places behind
+-- what is left without the later places
 abbrev pub invariant-loop-left : goal.invariant-loop-left
 invariant-loop-left l = record {
   within : l.left ≤ length l.places;

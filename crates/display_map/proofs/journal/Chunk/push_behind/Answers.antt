@@ -1,4 +1,4 @@
--- What an appended event tells stands behind what the others tell.
+-- What an appended event says comes after what the others say.
 use Rattle.std.proofs.Common.{◌≡◌, ◌∷◌, ◌++◌, [], List, take, ap, sym, ◌∙◌}
 use Rattle.std.specs.Arc.{arc_value}
 use Rattle.std.proofs.lemmas.List.{map-append, take-map}

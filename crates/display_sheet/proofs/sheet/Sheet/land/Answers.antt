@@ -18,7 +18,7 @@ landed-requires c =
     subst (λ (ws : List Wrapped). FitLines (length ws) c.args.lines.now cuts) (sym c.deref.ensures)
     (cuts-fit (record_in v) (arc_value v.wraps) (arc_value v.lines) c.self.invariant refl c.args.width c.args.lines.now cuts at)
 
--- how the lines stand, behind shares
+-- how the lines are wrapped, through shares
 shared : (width : ℕ) (places : List (Option ℕ)) (cuts : List (List ℕ)) (lent made old new : List Wrapped) → lent ≡ old → new ≡ made →
     AreLanded width places cuts lent made → AreLanded width places cuts old new
 shared width places cuts lent made old new lent_is made_is h =

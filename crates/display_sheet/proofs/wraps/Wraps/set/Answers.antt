@@ -25,7 +25,7 @@ overflow_add-self c =
     let keeps = c.self.invariant in
     omega (arith, keeps.summed, keeps.few, sum-few (joined c.self.inside.chunks.items) keeps.few keeps.small, c.from-2.ensures, c.row_count.type_inv)
 
--- the chunk with the line, as it stands from now on
+-- the chunk with the line, as it is wrapped from now on
 written : (w : Inside) (k j line : ℕ) (own new : List Wrapped) (l : Wrapped) → StandsAt w.chunks.items k j line → own ≡ get_or w.chunks.items k [] → new ≡ set own j l →
     joined (set w.chunks.items k new) ≡ set (joined w.chunks.items) line l
 written w k j line own new l at is set_is =

@@ -1,4 +1,4 @@
--- The next row is made, its line is given, and what is left is what stands behind it.
+-- The next row is made, its line is given, and what is left is what comes after it.
 use Rattle.std.proofs.Common.{◌≡◌, ◌<◌, Some, ap, ◌∙◌, arith, drop}
 use Rattle.std.specs.Prelude.{slice_get}
 use Rattle.edit_script.specs.Answers.{rows_seen}

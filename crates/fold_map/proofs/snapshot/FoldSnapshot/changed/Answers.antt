@@ -79,7 +79,7 @@ made g c =
     c.in_ok-joined.ensures.ok
     (window-is c.args.self.now is.joined is.all (g.L.Layer.source c.args.layer) c.requires.bare (map fold_of c.args.folds) c.args.change c.requires.change c.met-met.result (c.met-met.ensures.met is.joined is.all))
 
--- the gap of the one behind them
+-- the gap of the one after them
 gap-is : (g : Over) (c : In_ok-splices g) (j : JoinedFold) → slice_get c.text_len.ensures.lawful.joined c.met-met.result.last ≡ Some j
     → IsGapTo (g.L.Layer.source c.args.layer) (last_end c.met-met.result.base c.in_ok-joined.joined.items) c.args.change c.gap_to-gap.result j
 gap-is g c j e =

@@ -4,7 +4,7 @@ use Rattle.generated_input.specs.Made.{letter, word}
 use Rattle.generated_input.proofs.Drawings.{leads_over_one, leads_to_end}
 use Rattle.generated_input.proofs.generator.Generator.word.Goals as goal
 
--- the letters of a word, where their number and the state behind it are known
+-- the letters of a word, where their number and the state after it are known
 word_of_letters : (start more state : ℕ) → more ≡ (draw 9 start).value → state ≡ (draw 9 start).state → times (1 + more) letter state ≡ word start
 unfolding word
 word_of_letters start more state more-is state-is =

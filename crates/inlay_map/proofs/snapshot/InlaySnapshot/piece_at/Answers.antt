@@ -24,7 +24,7 @@ from c =
 abbrev rest : After-find-spot → ℕ
 rest c = c.args.place - c.find-spot.result.before.upper.bytes
 
--- the inlay, where the place is behind the text there
+-- the inlay, where the place is after the text there
 there : (c : After-find-spot) → c.find-spot.result.gap.bytes ≤ rest c → IsThere c.args.self.now c.find-spot.result
 there c past =
     let e = c.text_len-len.ensures.lawful in

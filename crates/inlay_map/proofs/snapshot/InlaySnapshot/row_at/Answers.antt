@@ -40,7 +40,7 @@ in-text c le =
     let e = c.text_len-len.ensures.lawful in
     row-text c.args.self.now e.folds e.inlays e.short c.args.place c.find-spot.result (spot c) (from c) le
 
--- where it is behind that: the inlay, and how far the place is in it
+-- where it is after that: the inlay, and how far the place is in it
 there : (c : After-find-spot) → c.find-spot.result.gap.bytes < rest c → IsThere c.args.self.now c.find-spot.result
 there c more =
     let e = c.text_len-len.ensures.lawful in

@@ -21,7 +21,7 @@ spot c =
     let e = c.text_len-len.ensures.lawful in
     numbers c.args.self.now e.folds e.inlays e.short feeds_of c.args.line Left c.find-spot.result c.find-spot.ensures.spot
 
--- the line is one of those that are shown, and starts behind a feed
+-- the line is one of those that are shown, and starts after a feed
 few : (c : After-find-spot) → c.args.line ≤ count_by is_feed (shown_text c.args.self.now)
 few c =
     let e = c.text_len-len.ensures.lawful in
@@ -49,7 +49,7 @@ in-text c some le =
     let e = c.text_len-len.ensures.lawful in
     start-text c.args.self.now e.folds e.inlays e.short c.args.line c.find-spot.result (spot c) (from c some) le
 
--- where it starts behind that: the inlay
+-- where it starts after that: the inlay
 there : (c : After-find-spot) → 0 < c.args.line → c.find-spot.result.gap.feeds < rest c → IsThere c.args.self.now c.find-spot.result
 there c some more =
     let e = c.text_len-len.ensures.lawful in

@@ -11,7 +11,7 @@ use Rattle.text_rope.proofs.rope.Rope.slice.Goals.{After-found_at-found, After-g
 
 -- ---- where it lies in one chunk
 
--- the chunk stands in the text
+-- the chunk is in the text
 chunk_part : (c : After-found_at-found) → IsPartAt c.args.self.now c.found_at-found.result.before.bytes c.found_at-found.result.text.now
 chunk_part c =
     let chunks = c.self.inside.chunks in
@@ -85,7 +85,7 @@ returns-clause-text c =
     ∙ between_in text m r.bytes c.args.start c.args.end part c.found_at-found.ensures.found.start c.requires.order c.in_ok-text.ensures.enough in
     IfOk-weaker c.from_str-2.result _ _ (λ t e. e ∙ between) c.from_str-2.ensures
 
--- what is gathered behind the first chunk is no more than what is asked for
+-- what is gathered after the first chunk is no more than what is asked for
 steps : (c : After-gather) → (h : ℕ) → HasHeight h c.args.self.now → c.gather.new.steps ≤ c.args.steps.now + 3 * ((c.args.end - c.args.start) / 64 + 1) * (h + 1)
 steps c h high =
     let chunks = c.self.inside.chunks in
