@@ -7,5 +7,6 @@ pub mod Worked
 pub mod Laws
 pub mod Plain
 pub mod FoldedLines
+pub mod Reach
 -- What its parts say to each other
 pub mod inside

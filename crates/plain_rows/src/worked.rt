@@ -2,11 +2,12 @@
 ghost use Rattle.std.specs.Prelude.{◌≡◌, ◌++◌, List, [], ◌∷◌, codes, length, map, replicate};
 ghost use Rattle.cell_units.specs.declared.place.Bias.TheVariants.{Left, Right};
 ghost use Rattle.cell_units.specs.declared.place.Side.TheVariants.{Above, Below};
-ghost use Rattle.cell_units.specs.Operation.{Replace, operated};
+ghost use Rattle.cell_units.specs.Operation.{AddInlay, Replace, SetTab, SetWidth, operated};
 ghost use Rattle.cell_units.specs.Inlaid.{placeholder};
 ghost use Rattle.cell_units.specs.Text.{clean};
 ghost use Rattle.cell_units.specs.Worked.{block, fold, folded_record, inlay, settled};
 ghost use Rattle.cell_line.specs.Wrapping.{cuts_of, indent_of};
+ghost use Rattle.plain_rows.specs.Reach.{reach_of_operation};
 ghost use Rattle.plain_rows.specs.Rows.{rows_of};
 ghost use Rattle.plain_rows.specs.Spots.{back, clip, elements_at, show};
 ghost use Rattle.plain_rows.specs.Worked.{block_row, head, marked, more, ordinary_source, spot, ten_lines};
@@ -169,4 +170,23 @@ pub fn worked_backs()
         (back r (spot 1 12) Right ≡ 67) }
     ensures view_answers { let r = folded_record (codes "abc") [] [] in
         (back r (spot 0 9) Right ≡ 3) }
+{}
+
+/// Operations of which it is known how far they reach. It does nothing.
+pub fn worked_reaches()
+    ensures letter { reach_of_operation (Replace 0 0 (codes "x")) (folded_record (codes "ab\ncd") [] [])
+        ≡ 3 }
+    ensures two_lines { reach_of_operation (Replace 1 4 []) (folded_record (codes "ab\ncd") [] [])
+        ≡ 4 }
+    ensures removed_pieces { reach_of_operation (Replace 0 128 []) (folded_record (replicate 128 97) [] [])
+        ≡ 4 }
+    ensures entries { let below = inlay 5 Right 1 (codes "x") ∷ [] in let above = block 2 1 Above (codes "-- b" ∷ []) ∷ [] in
+        reach_of_operation (Replace 0 0 (codes "x")) (settled (codes "a\nb\nc") below (fold 1 4 1 ∷ []) above 80)
+        ≡ 5 }
+    ensures inlay { reach_of_operation (AddInlay (inlay 0 Right 2 (codes "x\ny"))) (folded_record (codes "ab") (inlay 1 Left 1 (codes "z") ∷ []) [])
+        ≡ 5 }
+    ensures tab { reach_of_operation (SetTab 8) (folded_record (codes "a\nb") [] [])
+        ≡ 4 }
+    ensures width { reach_of_operation (SetWidth 9) (folded_record (codes "a\nb") [] [])
+        ≡ 0 }
 {}
