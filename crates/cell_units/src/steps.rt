@@ -6,8 +6,8 @@ use std::marker::Model;
 
 /// How many steps were made. A step is a tree node that is opened or made. At the greatest u64 it counts no further.
 ///
-/// The calls of a display and of a script take it and pass it on, but count nothing yet. They will count once a display
-/// is made of the maps, whose trees count each node.
+/// The calls of trees count on it. The calls of a display and of a script pass it on to the maps that the display is
+/// made of, whose trees count each node.
 #[derive(Debug, Drop)]
 pub struct Steps {
     count: u64,

@@ -40,3 +40,4 @@ pub mod WaitingLines
 pub mod WorkedBatches
 pub mod WorkedPatches
 pub mod Works
+pub mod Sent

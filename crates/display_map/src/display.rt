@@ -20,7 +20,8 @@ use crate::view::ViewOn;
 use crate::{held, splicing, work};
 use cell_units::{Fault, NoMemory, Refusal, Steps, TextFault};
 use display_sheet::{Change, Op, Splice};
-use kept_sheet::{PlainSheet, Sheet};
+use kept_sheet::{JobSheet, Sheet};
+use map_sheet::MapSheet;
 use std::alloc::Global;
 use std::marker::Model;
 use std::slice;
@@ -57,7 +58,7 @@ impl<S: Sheet> Drop for DisplayOn<S> {
 }
 
 /// The display of the product.
-pub type Display = DisplayOn<PlainSheet>;
+pub type Display = DisplayOn<MapSheet>;
 
 impl<S: Sheet> Model for DisplayOn<S> {
     ghost use Rattle.display_map.specs.Replay.{History};
@@ -145,87 +146,6 @@ impl<S: Sheet> DisplayOn<S> {
                 Err(error)
             }
         }
-    }
-
-    /// Sends the next run (*Replay*): the first line that waits with the waiting lines after it, at most 128. The job
-    /// has the next number, the present width and the present lines. `None` where no line waits.
-    pub fn take_run(
-        &mut self,
-        alloc: Global,
-        steps: &mut Steps,
-    ) -> Result<Option<Job<S::Held>>, NoMemory>
-        requires room { length self.old.events + 1 ≤ event_limit }
-        ensures taken { IfOk result (λ job.
-            IsRunTakenOn S.Held.elements_by_line self.old self.new job) }
-        ensures unchanged { OnErr result (self.new ≡ self.old) }
-        ensures counted { steps.old ≤ steps.new }
-    {
-        let next = outs::next_run(alloc, &self.sheet, &self.outs, self.first, steps)?;
-        let Some(run) = next else {
-            return Ok(None);
-        };
-        let lines = self.sheet.held()?;
-        let width = self.sheet.width();
-        let number = self.jobs as u64 + 1;
-        let out = Out::new(alloc, number, width, run.first, run.count)?;
-        let events = self.journal.len();
-        let event = Event::Sent {
-            job: number,
-            first: run.first,
-            count: run.count,
-        };
-        self.journal.push(alloc, event)?;
-        if let Err(error) = self.outs.push(out) {
-            self.journal.truncate(events);
-            return Err(error.into());
-        }
-        self.jobs += 1;
-        self.first = run.first + run.count;
-        Ok(Some(held::job(number, lines, run, width)))
-    }
-
-    /// Takes the wraps of a job that this display sent. Where the job's width is the present one, its lines are wrapped
-    /// so from then on (*Replay*). `Err` means out of memory, and hands the result back.
-    pub fn land(
-        &mut self,
-        alloc: Global,
-        done: Done<S::Held>,
-        steps: &mut Steps,
-    ) -> Result<(), Done<S::Held>>
-        requires room { length self.old.events + 1 ≤ event_limit }
-        requires sent { IsOutstanding self.old (seen_job S.Held.elements_by_line done.job) }
-        // What is there after it.
-        ensures landed { OnOk result (self.new ≡ appended self.old (Landed done.job.number ∷ [])) }
-        // What is left if it is out of memory.
-        ensures back { IfErr result (λ back. back ≡ done) }
-        ensures unchanged { OnErr result (self.new ≡ self.old) }
-        // The work.
-        ensures counted { steps.old ≤ steps.new }
-    {
-        let job = done.job();
-        let number = job.number();
-        let run = job.run();
-        let old = job.lines();
-        let wraps = done.wraps();
-        let landed = work::landed(
-            alloc,
-            &self.sheet,
-            &self.outs,
-            number,
-            old,
-            run,
-            wraps,
-            steps,
-        );
-        let Ok(landed) = landed else {
-            return Err(done);
-        };
-        if let Err(_) = self.journal.push(alloc, Event::Landed { job: number }) {
-            return Err(done);
-        }
-        self.sheet = landed;
-        outs::remove(&mut self.outs, number);
-        Ok(())
     }
 
     /// Does a batch of replacements.
@@ -360,5 +280,88 @@ impl<S: Sheet> DisplayOn<S> {
             first: _,
         } = self;
         journal
+    }
+}
+
+impl<S: JobSheet> DisplayOn<S> {
+    /// Sends the next run (*Replay*): the first line that waits with the waiting lines after it, at most 128. The job
+    /// has the next number, the present width and the present lines. `None` where no line waits.
+    pub fn take_run(
+        &mut self,
+        alloc: Global,
+        steps: &mut Steps,
+    ) -> Result<Option<Job<S::Held>>, NoMemory>
+        requires room { length self.old.events + 1 ≤ event_limit }
+        ensures taken { IfOk result (λ job.
+            IsRunTakenOn S.Held.elements_by_line self.old self.new job) }
+        ensures unchanged { OnErr result (self.new ≡ self.old) }
+        ensures counted { steps.old ≤ steps.new }
+    {
+        let next = outs::next_run(alloc, &self.sheet, &self.outs, self.first, steps)?;
+        let Some(run) = next else {
+            return Ok(None);
+        };
+        let lines = self.sheet.held()?;
+        let width = self.sheet.width();
+        let number = self.jobs as u64 + 1;
+        let out = Out::new(alloc, number, width, run.first, run.count)?;
+        let events = self.journal.len();
+        let event = Event::Sent {
+            job: number,
+            first: run.first,
+            count: run.count,
+        };
+        self.journal.push(alloc, event)?;
+        if let Err(error) = self.outs.push(out) {
+            self.journal.truncate(events);
+            return Err(error.into());
+        }
+        self.jobs += 1;
+        self.first = run.first + run.count;
+        Ok(Some(held::job(number, lines, run, width)))
+    }
+
+    /// Takes the wraps of a job that this display sent. Where the job's width is the present one, its lines are wrapped
+    /// so from then on (*Replay*). `Err` means out of memory, and hands the result back.
+    pub fn land(
+        &mut self,
+        alloc: Global,
+        done: Done<S::Held>,
+        steps: &mut Steps,
+    ) -> Result<(), Done<S::Held>>
+        requires room { length self.old.events + 1 ≤ event_limit }
+        requires sent { IsOutstanding self.old (seen_job S.Held.elements_by_line done.job) }
+        // What is there after it.
+        ensures landed { OnOk result (self.new ≡ appended self.old (Landed done.job.number ∷ [])) }
+        // What is left if it is out of memory.
+        ensures back { IfErr result (λ back. back ≡ done) }
+        ensures unchanged { OnErr result (self.new ≡ self.old) }
+        // The work.
+        ensures counted { steps.old ≤ steps.new }
+    {
+        let job = done.job();
+        let number = job.number();
+        let run = job.run();
+        let old = job.lines();
+        let wraps = done.wraps();
+        let landed = work::landed(
+            alloc,
+            &self.sheet,
+            &self.outs,
+            number,
+            old,
+            run,
+            wraps,
+            steps,
+        );
+        let Ok(landed) = landed else {
+            return Err(done);
+        };
+        if let Err(_) = self.journal.push(alloc, Event::Landed { job: number }) {
+            return Err(done);
+        }
+        self.sheet = landed;
+        outs::remove(&mut self.outs, number);
+        Ok(())
     }
 }

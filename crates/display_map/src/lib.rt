@@ -16,11 +16,12 @@ pub mod view;
 mod work;
 
 pub use display::{Display, DisplayOn};
-pub use display_sheet::{Change, Held, Kind, MarkRun, Op, Shown, Splice, step_laws};
+pub use display_sheet::{Change, Kind, MarkRun, Op, Shown, Splice, step_laws};
 pub use event::Event;
 pub use journal::Journal;
 pub use laws::{
     job_laws, landing_laws, line_patch_laws, replay_laws, stamp_laws, worked_line_patches,
 };
+pub use map_sheet::Held;
 pub use version::{Version, VersionOn};
 pub use view::{View, ViewOn};

@@ -4,7 +4,8 @@ ghost use Rattle.display_map.specs.LawfulStates.{IsLawfulHistory};
 ghost use Rattle.display_map.specs.Replay.{versions_of, ends};
 
 use crate::view::ViewOn;
-use kept_sheet::{PlainSheet, Sheet};
+use kept_sheet::Sheet;
+use map_sheet::MapSheet;
 use std::marker::Model;
 
 /// A published view, whose history ends with its own publishing. It is seen as that history.
@@ -25,7 +26,7 @@ impl<S: Sheet> Drop for VersionOn<S> {
 }
 
 /// The version of the product.
-pub type Version = VersionOn<PlainSheet>;
+pub type Version = VersionOn<MapSheet>;
 
 impl<S: Sheet> Model for VersionOn<S> {
     ghost use Rattle.display_map.specs.Replay.{History};

@@ -16,7 +16,8 @@ ghost use Rattle.display_map.specs.Replay.{present_of, versions_of};
 use crate::journal::Journal;
 use cell_units::{Bias, Fault, NoMemory, Point, Refusal, Spot, Steps, Text};
 use display_sheet::{MarkRun, Shown};
-use kept_sheet::{PlainSheet, Sheet};
+use kept_sheet::Sheet;
+use map_sheet::MapSheet;
 use plain_rows::Plain;
 use std::alloc::Global;
 use std::marker::Model;
@@ -43,7 +44,7 @@ impl<S: Sheet> Drop for ViewOn<S> {
 }
 
 /// The view of the product.
-pub type View = ViewOn<PlainSheet>;
+pub type View = ViewOn<MapSheet>;
 
 impl<S: Sheet> Model for ViewOn<S> {
     ghost use Rattle.display_map.specs.Replay.{History};

@@ -12,7 +12,7 @@ use crate::splicing::is_operation;
 use cell_line::{Cuts, Run};
 use cell_units::{Fault, NoMemory, Steps};
 use display_sheet::{Op, Splice};
-use kept_sheet::Sheet;
+use kept_sheet::{JobSheet, Sheet};
 use std::alloc::Global;
 
 /// A record after a change, and where the lines of the jobs that are out are then.
@@ -91,7 +91,7 @@ pub(crate) fn batch<S: Sheet>(
 
 /// The record in which the lines of a job are wrapped, where it is out and has the present width. `old` are the lines
 /// that it was made of, and `cuts` those of its run.
-pub(crate) fn landed<S: Sheet>(
+pub(crate) fn landed<S: JobSheet>(
     alloc: Global,
     sheet: &S,
     outs: &[Out],

@@ -8,7 +8,7 @@ ghost use Rattle.display_sheet.specs.Sheets.{marks_in};
 ghost use Rattle.display_sheet.specs.Shown.{unstamped};
 ghost use Rattle.cell_line.specs.Waiting.{IsNextIfAny, has_line, waits};
 
-use crate::sheet::Sheet;
+use crate::sheet::{JobSheet, Sheet};
 use cell_line::{Cuts, Run};
 use cell_units::limits::RUN_LIMIT;
 use cell_units::{Bias, Fault, NoMemory, Point, Spot, Steps, Text, TextFault, cleaned, read_text};
@@ -107,8 +107,6 @@ fn all_at(wraps: &Wraps, width: u32) -> bool
 }
 
 impl Sheet for PlainSheet {
-    type Held = Held;
-
     ghost kept = { λ s. s };
 
     fn opened(alloc: Global, bytes: &[u8], _steps: &mut Steps) -> Result<PlainSheet, TextFault> {
@@ -162,32 +160,12 @@ impl Sheet for PlainSheet {
         Ok((done.sheet, done.splice))
     }
 
-    fn landed(
-        &self,
-        alloc: Global,
-        _old: &Held,
-        _run: Run,
-        places: &[Option<u32>],
-        wraps: &[Cuts],
-        _steps: &mut Steps,
-    ) -> Result<PlainSheet, NoMemory> {
-        // For the proof: the record is lawful.
-        self.lawful();
-        let mut sheet = PlainSheet::share(self)?;
-        sheet.land(alloc, places, PlainSheet::width(self), wraps)?;
-        Ok(sheet)
-    }
-
     fn next_run(&self, from: u32, out: &[Run], _steps: &mut Steps) -> Option<Run> {
         next_run(self.wraps(), PlainSheet::width(self), from, out)
     }
 
     fn is_settled(&self) -> bool {
         all_at(self.wraps(), PlainSheet::width(self))
-    }
-
-    fn held(&self) -> Result<Held, NoMemory> {
-        PlainSheet::held(self)
     }
 
     fn row_count(&self) -> u32 {
@@ -258,5 +236,29 @@ impl Sheet for PlainSheet {
         _steps: &mut Steps,
     ) -> Result<Text, NoMemory> {
         PlainSheet::slice(self, alloc, start, end)
+    }
+}
+
+impl JobSheet for PlainSheet {
+    type Held = Held;
+
+    fn held(&self) -> Result<Held, NoMemory> {
+        PlainSheet::held(self)
+    }
+
+    fn landed(
+        &self,
+        alloc: Global,
+        _old: &Held,
+        _run: Run,
+        places: &[Option<u32>],
+        wraps: &[Cuts],
+        _steps: &mut Steps,
+    ) -> Result<PlainSheet, NoMemory> {
+        // For the proof: the record is lawful.
+        self.lawful();
+        let mut sheet = PlainSheet::share(self)?;
+        sheet.land(alloc, places, PlainSheet::width(self), wraps)?;
+        Ok(sheet)
     }
 }

@@ -27,10 +27,7 @@ use std::alloc::Global;
 
 /// A record as a display keeps it. It is seen as that record, in which the stamps count the lines. No call but those
 /// that give a sheet makes one, and none changes one.
-pub trait Sheet: Drop + Send + Sync {
-    /// The display lines of one moment, as a job holds them.
-    type Held: Lines;
-
+pub trait Sheet: Drop {
     // The record, without its stamps.
     ghost kept: { Self → Record };
 
@@ -106,29 +103,6 @@ pub trait Sheet: Drop + Send + Sync {
             IsOperated (replacement splice.now) (kept self.now) (kept made.0) made.1) }
         ensures counted { steps.old ≤ steps.new };
 
-    /// The record after lines landed (*Replay*). They are those of a run of old lines, of which each place has the line
-    /// that it is now, if it is still there. `wraps` are their cuts at the present width.
-    fn landed(
-        &self,
-        alloc: Global,
-        old: &Self::Held,
-        run: Run,
-        places: &[Option<u32>],
-        wraps: &[Cuts],
-        steps: &mut Steps,
-    ) -> Result<Self, NoMemory>
-        // The lines at the places are those of the run, in order, and these are the run's cuts at the present width.
-        requires lines { AreLinesAt (line_elements (kept self.now)) places.now
-            (lines_in (Self.Held.elements_by_line old.now) run) }
-        requires rising { IsRising 0 (standing places.now) }
-        requires wraps { lists_of wraps.now
-            ≡ cuts_in (Self.Held.elements_by_line old.now) run (kept self.now).width }
-
-        // They are wrapped at it then, and the others as they were.
-        ensures landed { IfOk result (λ sheet.
-            kept sheet ≡ with_landed_lines (kept self.now).width places.now (kept self.now)) }
-        ensures counted { steps.old ≤ steps.new };
-
     /// The first line that isn't wrapped at the width and that no run of `out` has. With it come the lines after it of
     /// the same kind, up to 128. `None` where there is no such line. There is none before `from`, where the search may
     /// start.
@@ -143,12 +117,6 @@ pub trait Sheet: Drop + Send + Sync {
     /// Whether every line is wrapped at the present width.
     fn is_settled(&self) -> bool
         ensures { result ≡ all_at_width (kept self.now) };
-
-    /// The display lines as they are, for a job. It allocates nothing, and fails with `NoMemory` only where the count
-    /// of holders is full.
-    fn held(&self) -> Result<Self::Held, NoMemory>
-        ensures { IfOk result (λ held.
-            Self.Held.elements_by_line held ≡ line_elements (kept self.now)) };
 
     /// How many rows there are, those of blocks too (*Rows*).
     fn row_count(&self) -> u32
@@ -234,5 +202,41 @@ pub trait Sheet: Drop + Send + Sync {
         requires end { IsBoundary (kept self.now).text end }
         requires order { start ≤ end }
         ensures text { IfOk result (λ text. text ≡ slice_range (kept self.now).text start end) }
+        ensures counted { steps.old ≤ steps.new };
+}
+
+/// A sheet whose display lines jobs wrap. It gives its lines to a job, and takes the cuts that come back. Only its
+/// lines go to another thread, so a call of a `Sheet` alone asks nothing about threads.
+pub trait JobSheet: Sheet {
+    /// The display lines of one moment, as a job holds them.
+    type Held: Lines;
+
+    /// The display lines as they are, for a job. It allocates nothing, and fails with `NoMemory` only where the count
+    /// of holders is full.
+    fn held(&self) -> Result<Self::Held, NoMemory>
+        ensures { IfOk result (λ held.
+            Self.Held.elements_by_line held ≡ line_elements (Self.kept self.now)) };
+
+    /// The record after lines landed (*Replay*). They are those of a run of old lines, of which each place has the line
+    /// that it is now, if it is still there. `wraps` are their cuts at the present width.
+    fn landed(
+        &self,
+        alloc: Global,
+        old: &Self::Held,
+        run: Run,
+        places: &[Option<u32>],
+        wraps: &[Cuts],
+        steps: &mut Steps,
+    ) -> Result<Self, NoMemory>
+        // The lines at the places are those of the run, in order, and these are the run's cuts at the present width.
+        requires lines { AreLinesAt (line_elements (Self.kept self.now)) places.now
+            (lines_in (Self.Held.elements_by_line old.now) run) }
+        requires rising { IsRising 0 (standing places.now) }
+        requires wraps { lists_of wraps.now
+            ≡ cuts_in (Self.Held.elements_by_line old.now) run (Self.kept self.now).width }
+
+        // They are wrapped at it then, and the others as they were.
+        ensures landed { let r = Self.kept self.now in IfOk result (λ sheet.
+            Self.kept sheet ≡ with_landed_lines r.width places.now r) }
         ensures counted { steps.old ≤ steps.new };
 }

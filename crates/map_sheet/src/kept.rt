@@ -4,13 +4,11 @@ use crate::sheet::{Held, MapSheet};
 use cell_line::{Cuts, Lines, Run};
 use cell_units::{Bias, Fault, NoMemory, Point, Spot, Steps, Text, TextFault, text_laws};
 use display_sheet::{LineSplice, MarkRun, Op, Shown, Splice};
-use kept_sheet::Sheet;
+use kept_sheet::{JobSheet, Sheet};
 use plain_rows::{Plain, back_in, clip_in, show_in};
 use std::alloc::Global;
 
 impl Sheet for MapSheet {
-    type Held = Held;
-
     ghost kept = { λ s. s };
 
     fn opened(alloc: Global, bytes: &[u8], steps: &mut Steps) -> Result<MapSheet, TextFault> {
@@ -62,28 +60,12 @@ impl Sheet for MapSheet {
         self.with_splice(alloc, splice, steps)
     }
 
-    fn landed(
-        &self,
-        alloc: Global,
-        old: &Held,
-        run: Run,
-        places: &[Option<u32>],
-        wraps: &[Cuts],
-        steps: &mut Steps,
-    ) -> Result<MapSheet, NoMemory> {
-        self.land_run(alloc, old, run, places, wraps, steps)
-    }
-
     fn next_run(&self, _from: u32, out: &[Run], steps: &mut Steps) -> Option<Run> {
         self.wrapped().next_run(out, steps)
     }
 
     fn is_settled(&self) -> bool {
         self.wrapped().is_settled()
-    }
-
-    fn held(&self) -> Result<Held, NoMemory> {
-        Lines::share(self.wrapped().lines())
     }
 
     fn row_count(&self) -> u32 {
@@ -154,5 +136,25 @@ impl Sheet for MapSheet {
         steps: &mut Steps,
     ) -> Result<Text, NoMemory> {
         self.text().rope().slice(alloc, start, end, steps)
+    }
+}
+
+impl JobSheet for MapSheet {
+    type Held = Held;
+
+    fn held(&self) -> Result<Held, NoMemory> {
+        Lines::share(self.wrapped().lines())
+    }
+
+    fn landed(
+        &self,
+        alloc: Global,
+        old: &Held,
+        run: Run,
+        places: &[Option<u32>],
+        wraps: &[Cuts],
+        steps: &mut Steps,
+    ) -> Result<MapSheet, NoMemory> {
+        self.land_run(alloc, old, run, places, wraps, steps)
     }
 }

@@ -22,3 +22,5 @@ mod lines;
 mod plain;
 #[cfg(test)]
 mod starts;
+#[cfg(test)]
+mod work;

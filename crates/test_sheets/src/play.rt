@@ -11,7 +11,7 @@ use crate::seen::{write_outcome, write_view};
 use cell_units::{Fault, NoMemory, Steps};
 use display_map::{Change, DisplayOn, job_laws};
 use generated_input::Generator;
-use kept_sheet::Sheet;
+use kept_sheet::{JobSheet, Sheet};
 use std::alloc::Global;
 use std::process::Abort;
 use std::test::Fail;
@@ -111,7 +111,7 @@ fn changes<S: Sheet>(
 }
 
 /// Sends the next run.
-fn send<S: Sheet>(
+fn send<S: JobSheet>(
     rt: &impl Abort,
     alloc: Global,
     display: &mut DisplayOn<S>,
@@ -124,7 +124,7 @@ fn send<S: Sheet>(
 }
 
 /// Does a job that is out, and lands what it gives.
-fn land<S: Sheet>(
+fn land<S: JobSheet>(
     rt: &impl Abort,
     alloc: Global,
     display: &mut DisplayOn<S>,
@@ -144,7 +144,7 @@ fn land<S: Sheet>(
 }
 
 /// Lands one job and then another, with changes between.
-fn land_in_turn<S: Sheet>(
+fn land_in_turn<S: JobSheet>(
     rt: &impl Abort,
     alloc: Global,
     display: &mut DisplayOn<S>,
@@ -163,7 +163,7 @@ fn land_in_turn<S: Sheet>(
 }
 
 /// Lands two jobs in either order, with changes before the first and between them.
-fn land_both<S: Sheet>(
+fn land_both<S: JobSheet>(
     rt: &impl Abort,
     alloc: Global,
     display: &mut DisplayOn<S>,
@@ -183,7 +183,7 @@ fn land_both<S: Sheet>(
 }
 
 /// Sends up to two jobs, with changes before, between and after them, and lands them in either order.
-fn round<S: Sheet>(
+fn round<S: JobSheet>(
     rt: &impl Abort,
     alloc: Global,
     display: &mut DisplayOn<S>,
@@ -202,7 +202,7 @@ fn round<S: Sheet>(
 }
 
 /// All that is seen of a display of a text in so many rounds that are drawn from a seed.
-pub(crate) fn played<S: Sheet>(
+pub(crate) fn played<S: JobSheet>(
     rt: &impl Abort,
     alloc: Global,
     text: &str,

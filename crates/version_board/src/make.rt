@@ -74,10 +74,10 @@ pub fn board<R: Wait>(
     let again = newest.share()?;
     let desk = Desk::new(alloc, one, other, readers.max(1) as usize)?;
     let (mut desk, done) = show_first(rt, desk, again);
-    if done.is_err() {
+    let Ok(()) = done else {
         let _shown = desk.take(rt);
         return Err(NoMemory);
-    }
+    };
     seat_all(&mut desk, &newest, &mut team);
     Ok((Writer { desk, head, newest }, team))
 }

@@ -9,7 +9,7 @@ use crate::seats::{Desk, show};
 use cell_units::NoMemory;
 use core::mem::replace_with;
 use display_map::Version;
-use std::alloc::Global;
+use std::alloc::{AllocError, Global};
 use std::marker::Model;
 use std::sync::{Arc, Wait};
 
@@ -75,7 +75,12 @@ impl Writer {
         replace_with(
             &mut self.desk,
             shared,
-            |desk, shared| show(rt, desk, shared),
+            |desk: Desk, shared: Kept| -> (Desk, Result<(), AllocError>)
+                requires { shared.board ≡ desk.desk.shown.value.kept.board }
+                ensures shown { OnOk result.1 (result.0.desk.shown.value.kept ≡ shared) }
+                ensures unchanged { OnErr result.1
+                    (result.0.desk.shown.value ≡ desk.desk.shown.value) }
+            { show(rt, desk, shared) },
         )?;
         self.newest = kept;
         Ok(())

@@ -6,6 +6,7 @@ use Rattle.display_map.specs.Replay.{appended}
 use Rattle.display_session.specs.LoneDisplays.{LineJob}
 use Rattle.display_session.proofs.LoneDisplays.{kept-landed}
 use Rattle.display_session.proofs.Wrapping.{wrapped-same}
+use Rattle.display_map.proofs.Sent.{display_sent}
 use Rattle.display_session.proofs.lone.land.Goals as goal
 
 pub returns-in-Ok-clause-kept : goal.returns-in-Ok-clause-kept
@@ -16,3 +17,9 @@ returns-in-Ok-clause-kept c =
 
 pub returns-in-Err-clause-wrapped : goal.returns-in-Err-clause-wrapped
 returns-in-Err-clause-wrapped c = wrapped-same c.args.display.now c.land.new.self c.in-Err.ensures.unchanged
+
+pub land-requires-send-S-Held : goal.land-requires-send-S-Held
+land-requires-send-S-Held _ _ = search display_sent depth 12 fits 4000
+
+pub land-requires-sync-S-Held : goal.land-requires-sync-S-Held
+land-requires-sync-S-Held _ _ = search display_sent depth 12 fits 4000

@@ -1,5 +1,6 @@
 -- The owner that was opened has its team.
 use Rattle.live_display.proofs.Begun.{team-opened}
+use Rattle.display_map.proofs.Sent.{display_sent}
 use Rattle.live_display.proofs.opening.open.Goals as goal
 
 pub returns-in-Ok-show-clause-opened : goal.returns-in-Ok-show-clause-opened
@@ -13,3 +14,9 @@ returns-in-Ok-show-clause-opened g c =
       known = c.in-Ok-show.ensures.readers;
       none = c.in-Ok-show.ensures.none;
     }
+
+pub crew-requires-send-N : goal.crew-requires-send-N
+crew-requires-send-N _ _ _ = search display_sent depth 12 fits 4000
+
+pub crew-requires-sync-N : goal.crew-requires-sync-N
+crew-requires-sync-N _ _ _ = search display_sent depth 12 fits 4000

@@ -2,5 +2,5 @@ use Rattle.std.proofs.Common.{arith}
 use Rattle.test_display.proofs.Batches.{batch_few}
 use Rattle.test_display.proofs.displays.edit.Goals as goal
 
-pub apply-requires-clause-room : goal.apply-requires-clause-room
-apply-requires-clause-room g c κs = omega (arith, batch_few c.in_ok-splices.splices.items, c.room.ensures, c.len.ensures)
+pub apply-requires : goal.apply-requires
+apply-requires g c = omega (arith, batch_few c.in_ok-splices.splices.items, c.room.ensures, c.len.ensures)

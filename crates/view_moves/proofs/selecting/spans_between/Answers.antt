@@ -6,8 +6,8 @@ use Rattle.view_moves.specs.Moves.{spans_of_row}
 use Rattle.view_moves.proofs.SpansByClips.{spans-more}
 use Rattle.view_moves.proofs.selecting.spans_between.Goals as goal
 
-pub push_span-requires-after_bounds : goal.push_span-requires-after_bounds
-push_span-requires-after_bounds g c κs b = c.requires.narrow
+pub push_span-requires : goal.push_span-requires
+push_span-requires g c = c.requires.narrow
 
 pub loop-row-preserved : goal.loop-row-preserved
 loop-row-preserved g c = record {

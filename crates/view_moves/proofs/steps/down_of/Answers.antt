@@ -4,8 +4,8 @@ use Rattle.view_moves.specs.Laws.{at}
 use Rattle.view_moves.proofs.ByClips.{clipped-valid_right, down-by, down-by_none}
 use Rattle.view_moves.proofs.steps.down_of.Goals as goal
 
-pub goal_of-requires-after_bounds : goal.goal_of-requires-after_bounds
-goal_of-requires-after_bounds g c κs b =
+pub goal_of-requires : goal.goal_of-requires
+goal_of-requires g c =
     clipped-valid_right (present_of c.args.view.now) (at (c.args.c.row + 1) 0) c.in_ok-below.below c.in_ok-below.ensures.nearest
 
 pub returns-in_ok-there-clause-moved : goal.returns-in_ok-there-clause-moved

@@ -10,10 +10,10 @@ abbrev at_spot : Spot → ℕ → Caret
 at_spot s n = record { spot = s; goal = n }
 
 pub moved-requires-clause-narrow : goal.moved-requires-clause-narrow
-moved-requires-clause-narrow g c κs b = narrow (present_of c.args.view.now) c.lawful.ensures.lawful c.lawful.ensures.short
+moved-requires-clause-narrow g c = narrow (present_of c.args.view.now) c.lawful.ensures.lawful c.lawful.ensures.short
 
 pub moved-requires-clause-valid : goal.moved-requires-clause-valid
-moved-requires-clause-valid g c κs b = clipped-valid_left (present_of c.args.view.now) c.args.from c.in_ok-c.c c.in_ok-c.ensures.nearest
+moved-requires-clause-valid g c = clipped-valid_left (present_of c.args.view.now) c.args.from c.in_ok-c.c c.in_ok-c.ensures.nearest
 
 pub returns-clause-caret : goal.returns-clause-caret
 returns-clause-caret g c =

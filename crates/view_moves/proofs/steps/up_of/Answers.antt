@@ -8,8 +8,8 @@ pub returns-then-c-eq0-clause-moved : goal.returns-then-c-eq0-clause-moved
 returns-then-c-eq0-clause-moved g c =
     up-first (present_of c.args.view.now) c.args.c c.in_ok-first.first c.args.goal c.requires.valid c.if-c-eq0.true c.in_ok-first.ensures.nearest
 
-pub goal_of-requires-after_bounds : goal.goal_of-requires-after_bounds
-goal_of-requires-after_bounds g c κs b =
+pub goal_of-requires : goal.goal_of-requires
+goal_of-requires g c =
     clipped-valid_left (present_of c.args.view.now) (at (c.args.c.row - 1) 4294967295) c.in_ok-above.above c.in_ok-above.ensures.nearest
 
 pub returns-in_ok-there-clause-moved : goal.returns-in_ok-there-clause-moved

@@ -23,7 +23,7 @@ returns-then-branch-clause-refused g c =
     (too-long h r d.outs.items d.versions d.jobs d.first c.self.invariant splices ok long)
 
 pub batch-requires-clause-kept : goal.batch-requires-clause-kept
-batch-requires-clause-kept g c κs b =
+batch-requires-clause-kept g c =
     let d = c.self.inside in
     let r = g.S.Sheet.kept d.sheet in
     let h : History = record { opening = (g.S.Sheet.kept d.opening).text; events = d.journal } in

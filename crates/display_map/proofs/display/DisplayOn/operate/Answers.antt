@@ -5,7 +5,7 @@ use Rattle.display_map.proofs.EditedDisplays.{is-kept, kept-operated}
 use Rattle.display_map.proofs.display.DisplayOn.operate.Goals as goal
 
 pub one-requires-clause-kept : goal.one-requires-clause-kept
-one-requires-clause-kept g c κs b =
+one-requires-clause-kept g c =
     let d = c.self.inside in
     is-kept (record { opening = (g.S.Sheet.kept d.opening).text; events = d.journal }) (g.S.Sheet.kept d.sheet) d.outs.items d.versions d.jobs d.first c.self.invariant
     c.deref.result.now c.deref.ensures.value

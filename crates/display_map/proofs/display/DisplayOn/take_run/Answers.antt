@@ -13,7 +13,7 @@ use Rattle.display_map.proofs.Works.{below-sheet}
 use Rattle.display_map.proofs.display.DisplayOn.take_run.Goals as goal
 
 pub next_run-requires-clause-below : goal.next_run-requires-clause-below
-next_run-requires-clause-below g c κs b =
+next_run-requires-clause-below g c =
     let d = c.self.inside in
     let r = g.S.Sheet.kept d.sheet in
     let h : History = record { opening = (g.S.Sheet.kept d.opening).text; events = d.journal } in
@@ -21,7 +21,7 @@ next_run-requires-clause-below g c κs b =
     (below-sheet h r d.outs.items d.versions d.jobs d.first c.self.invariant.kept)
 
 pub next_run-requires-clause-none : goal.next_run-requires-clause-none
-next_run-requires-clause-none g c κs b =
+next_run-requires-clause-none g c =
     let d = c.self.inside in
     let r = g.S.Sheet.kept d.sheet in
     let h : History = record { opening = (g.S.Sheet.kept d.opening).text; events = d.journal } in

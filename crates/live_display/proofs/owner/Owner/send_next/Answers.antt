@@ -4,6 +4,7 @@ use Rattle.display_map.specs.Sending.{IsSent}
 use Rattle.live_display.specs.Stepping.{HasSent}
 use Rattle.live_display.proofs.Outs.{next-is-free}
 use Rattle.live_display.proofs.Steps.{halted-none, has-sent, taken-sent, team-sent, team-same, roomy}
+use Rattle.display_map.proofs.Sent.{display_sent}
 use Rattle.live_display.proofs.owner.Owner.send_next.Goals as goal
 
 pub hand_out-requires-clause-free : goal.hand_out-requires-clause-free
@@ -33,3 +34,15 @@ returns-in-Ok-Some-clause-owned g c =
 pub returns-in-Err-clause-halted : goal.returns-in-Err-clause-halted
 returns-in-Err-clause-halted g c =
     halted-none c.args.self.now.crew.workers c.args.self.now.display c.take_run.new.self c.in-Err.ensures.unchanged c.in_ok-check_room.ensures.room
+
+pub is_full-requires-send-N : goal.is_full-requires-send-N
+is_full-requires-send-N _ _ _ = search display_sent depth 12 fits 4000
+
+pub is_full-requires-sync-N : goal.is_full-requires-sync-N
+is_full-requires-sync-N _ _ _ = search display_sent depth 12 fits 4000
+
+pub take_run-requires-send-S-Held : goal.take_run-requires-send-S-Held
+take_run-requires-send-S-Held _ _ _ = search display_sent depth 12 fits 4000
+
+pub take_run-requires-sync-S-Held : goal.take_run-requires-sync-S-Held
+take_run-requires-sync-S-Held _ _ _ = search display_sent depth 12 fits 4000

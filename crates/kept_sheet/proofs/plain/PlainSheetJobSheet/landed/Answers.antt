@@ -1,6 +1,6 @@
 use Rattle.kept_sheet.proofs.PlainSheets.{cuts-landed}
 use Rattle.display_sheet.specs.Landing.{lists_of}
-use Rattle.kept_sheet.proofs.plain.PlainSheetSheet.landed.Goals as goal
+use Rattle.kept_sheet.proofs.plain.PlainSheetJobSheet.landed.Goals as goal
 
 pub land-requires-clause-lines : goal.land-requires-clause-lines
 land-requires-clause-lines c =

@@ -3,7 +3,7 @@ use Rattle.std.specs.Result.{IfOk}
 use Rattle.cell_line.specs.declared.element.Element.{Element}
 use Rattle.wrapped_lines.specs.WrappedSource.{lines_of}
 use Rattle.map_sheet.proofs.Sent.{sheet_sent}
-use Rattle.map_sheet.proofs.kept.MapSheetSheet.held.Goals as goal
+use Rattle.map_sheet.proofs.kept.MapSheetJobSheet.held.Goals as goal
 
 pub returns : goal.returns
 returns c = subst (λ (lines : List (List Element)). IfOk c.share.result (λ held. held ≡ lines)) (c.lines.ensures ∙ ap lines_of c.wrapped.ensures) c.share.ensures

@@ -1,0 +1,15 @@
+-- The lines of a job may go to another thread.
+use Rattle.display_map.proofs.Sent.{display_sent}
+use Rattle.live_display.proofs.owner.Owner.take_result.Goals as goal
+
+pub collect-requires-send-N : goal.collect-requires-send-N
+collect-requires-send-N _ _ _ = search display_sent depth 12 fits 4000
+
+pub collect-requires-sync-N : goal.collect-requires-sync-N
+collect-requires-sync-N _ _ _ = search display_sent depth 12 fits 4000
+
+pub help-requires-send-N : goal.help-requires-send-N
+help-requires-send-N _ _ _ = search display_sent depth 12 fits 4000
+
+pub help-requires-sync-N : goal.help-requires-sync-N
+help-requires-sync-N _ _ _ = search display_sent depth 12 fits 4000
