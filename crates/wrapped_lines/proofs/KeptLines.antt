@@ -149,7 +149,15 @@ module _ (old : WrappedSource) (places : List (Option ℕ)) (patch : List Edit) 
         let same : r.0 ≡ i = one-line was r.0 r.1 i 0 (omega (arith, f.within, were)) here f.there some f.place in
         subst (λ (line : ℕ). is_at places line ≡ false) same f.stays
 
-    -- and then it is where it was
+    -- and where it didn't land, each stays
+    rows-stay : (i : ℕ) → i < length (lines_of old) → is_at places i ≡ false → KeepsLine patch was i
+    rows-stay i lt stays k there =
+        let j = rows_before was i + k in
+        let came : origin_of patch (rows_before is i + k) ≡ Some j =
+        landed.came i k lt (omega (arith, there, ap length (same-texts i lt stays))) ∙ ap (λ (b : Bool). cond b None (Some j)) stays in
+        ((corresponds patch landed.normal).stays j).0 (rows_before is i + k, came)
+
+    -- a line of which each row stays is where it was
     is-kept : (line : ℕ) → line < length was → KeepsLine patch was line → IsKept patch was is line
     is-kept line lt keeps =
         let within : line < length (lines_of old) = omega (arith, lt, were) in
@@ -167,3 +175,9 @@ pub kept-lines : KeptLinesStay
 kept-lines old new places rows one_each landed line lt keeps =
     subst (λ (w : WrappedSource). IsKept rows (row_texts old) (row_texts w) line) (sym landed.made)
     (is-kept old places rows one_each (subst (λ (w : WrappedSource). IsLandedAt old places w rows) landed.made landed) line lt keeps)
+
+pub others-keep : (old new : WrappedSource) (places : List (Option ℕ)) (rows : List Edit) → length old.marks ≡ length (lines_of old) → IsLandedAt old places new rows
+    → (line : ℕ) → line < length (row_texts old) → is_at places line ≡ false → KeepsLine rows (row_texts old) line
+others-keep old new places rows one_each landed line lt stays =
+    rows-stay old places rows one_each (subst (λ (w : WrappedSource). IsLandedAt old places w rows) landed.made landed)
+    line (omega (arith, lt, were old places rows one_each)) stays
