@@ -19,7 +19,7 @@ use Rattle.block_map.specs.Maps.{BlockState, Kept, added, fresh, kept_le, remove
 use Rattle.block_map.specs.inside.ShownStops.{AreShown}
 use Rattle.unicode_segmentation.proofs.SegmentsLemmas.{length-filter-le}
 use Rattle.blocked_rows.specs.Records.{Lines}
-use Rattle.blocked_rows.specs.Bounds.{SearchesSixTimes, adding, taking}
+use Rattle.blocked_rows.specs.Bounds.{adding, taking}
 use Rattle.blocked_rows.specs.Standing.{IsBlockOf, ArePlaced}
 use Rattle.blocked_rows.proofs.BlockPlaces.{line-in}
 use Rattle.blocked_rows.proofs.AlteredBlocks.{AllPlaced, shown-removed, placed-removed}
@@ -97,32 +97,32 @@ pub judged-same : (s t : BlockState) (old new : ℕ) → s ≡ t → SearchesBot
     → SearchesBoth (length t.above + length t.below) old new
 judged-same s t old new same = subst (λ (b : BlockState). SearchesBoth (length b.above + length b.below) old new) same
 
-module _ (source : Source) (s : BlockState) (all : AllPlaced source s) (start old mid new : ℕ) where
+module _ (source : Source) (s : BlockState) (all : AllPlaced source s) (old mid new : ℕ) where
   abbrev many : ℕ
   many = length s.above + length s.below
 
-  pub adds-at_most : (side : Side) (id o : ℕ) (given : List (List ℕ)) → SearchesBoth many start old → TakesOneEach altering (many + 1) old mid
-      → SyncsAtMost None [] (added side (fresh id o given) s) mid new → SearchesSixTimes adding (many + 1) start new
-  adds-at_most Above id o given judged put shown h few =
+  pub adds-at_most : (side : Side) (id o : ℕ) (given : List (List ℕ)) → TakesOneEach altering (many + 1) old mid
+      → SyncsAtMost None [] (added side (fresh id o given) s) mid new → TakesOneEach adding (many + 1) old new
+  adds-at_most Above id o given put shown h few =
       let x = fresh id o given in
       let one = one-anew source all.formed s all.placed_on Above x s.above all.placed_on.above all.above in
       let none = none-anew source all.formed s all.placed_on Below s.below all.placed_on.below all.below in
       let count = length-insert kept_le x s.above in
-      omega (arith, judged, put h few, shown (one.0 ∷ []) [] one.1 none h (omega (arith, count, few)))
-  adds-at_most Below id o given judged put shown h few =
+      omega (arith, put h few, shown (one.0 ∷ []) [] one.1 none h (omega (arith, count, few)))
+  adds-at_most Below id o given put shown h few =
       let x = fresh id o given in
       let one = one-anew source all.formed s all.placed_on Below x s.below all.placed_on.below all.below in
       let none = none-anew source all.formed s all.placed_on Above s.above all.placed_on.above all.above in
       let count = length-insert kept_le x s.below in
-      omega (arith, judged, put h few, shown [] (one.0 ∷ []) none one.1 h (omega (arith, count, few)))
+      omega (arith, put h few, shown [] (one.0 ∷ []) none one.1 h (omega (arith, count, few)))
 
   fewer : (id : ℕ) (ks : List Kept) → length (without id ks) ≤ length ks
   fewer id ks = length-filter-le (λ k. not (k.id == id)) ks
 
-  pub takes-at_most : (id : ℕ) → SearchesBoth many start old → TakesOneEach altering many old mid
-      → SyncsAtMost None [] (removed id s) mid new → SearchesSixTimes taking many start new
-  takes-at_most id judged out shown h few =
+  pub takes-at_most : (id : ℕ) → TakesOneEach altering many old mid
+      → SyncsAtMost None [] (removed id s) mid new → TakesOneEach taking many old new
+  takes-at_most id out shown h few =
       let left = placed-removed source s all id in
       let above = none-anew source all.formed (removed id s) left Above (without id s.above) left.above (shown-removed source s all id s.above all.above) in
       let below = none-anew source all.formed (removed id s) left Below (without id s.below) left.below (shown-removed source s all id s.below all.below) in
-      omega (arith, judged, out h few, shown [] [] above below h (omega (arith, few, fewer id s.above, fewer id s.below)))
+      omega (arith, out h few, shown [] [] above below h (omega (arith, few, fewer id s.above, fewer id s.below)))

@@ -2,12 +2,12 @@
 ghost use Rattle.std.specs.Prelude.{◌≡◌, ◌+◌, ◌≤◌, [], None, length, IfErr, IfOk, MatchOption, OnOk};
 ghost use Rattle.cell_units.specs.Layers.{shown_lines};
 ghost use Rattle.sum_tree.specs.Bounds.{TakesAtMost, way};
-ghost use Rattle.block_map.specs.Bounds.{syncing};
+ghost use Rattle.block_map.specs.Bounds.{TakesOneEach, syncing};
 ghost use Rattle.block_map.specs.Carried.{SyncsAtMost};
 ghost use Rattle.block_map.specs.Follows.{IsFollowed};
 ghost use Rattle.block_map.specs.Maps.{IsBlockAt, IsOwed, add_refusal, on_side, remove_refusal, removed, state_of, synced};
 ghost use Rattle.block_map.specs.inside.ShownStops.{shown_between};
-ghost use Rattle.blocked_rows.specs.Bounds.{SearchesSixTimes, adding, taking};
+ghost use Rattle.blocked_rows.specs.Bounds.{adding, taking};
 ghost use Rattle.blocked_rows.specs.Standing.{ArePlaced, with_block};
 
 use block_map::{BlockMap, BlockSnapshot};
@@ -109,7 +109,7 @@ impl<R: Rows> BlockedRows<R> {
         ensures made { let source = P.source layer.now in IfOk result (λ made.
             made ≡ with_block source side id offset lines.now self.now) }
 
-        // When it is refused, which is judged before any memory is taken.
+        // When it is refused, which comes before out of memory.
         ensures accepted { let source = P.source layer.now in
             OnOk result (add_refusal source self.now id offset lines.now ≡ None) }
         ensures refused { let source = P.source layer.now in
@@ -118,14 +118,17 @@ impl<R: Rows> BlockedRows<R> {
         // The work.
         ensures counted { steps.old ≤ steps.new }
         ensures steps { let count = length self.now.above + length self.now.below in
-            SearchesSixTimes adding (count + 1) steps.old steps.new }
+            TakesOneEach adding (count + 1) steps.old steps.new }
     {
         // For the proof: the layer is well formed.
         let _len = layer.buffer_len();
-        if let Some(refusal) = self.blocks.refusal_to_add(layer, id, offset, lines, steps) {
-            return Err(Fault::Refused(refusal));
-        }
-        let mut blocks = self.blocks.share()?;
+        let Ok(mut blocks) = self.blocks.share() else {
+            // A refusal comes before out of memory. Where there is a share, `insert` gives it.
+            if let Some(refusal) = self.blocks.refusal_to_add(layer, id, offset, lines, steps) {
+                return Err(Fault::Refused(refusal));
+            }
+            return Err(Fault::NoMemory);
+        };
         blocks.insert(alloc, layer, id, side, offset, lines, steps)?;
         Ok(self.showing(alloc, layer, blocks, steps)?)
     }
@@ -143,21 +146,24 @@ impl<R: Rows> BlockedRows<R> {
         // What it makes.
         ensures made { IfOk result (λ made. made ≡ removed id self.now) }
 
-        // When it is refused, which is judged before any memory is taken.
+        // When it is refused, which comes before out of memory.
         ensures accepted { OnOk result (remove_refusal self.now id ≡ None) }
         ensures refused { IfErr result (IsOwed (remove_refusal self.now id)) }
 
         // The work.
         ensures counted { steps.old ≤ steps.new }
         ensures steps { let count = length self.now.above + length self.now.below in
-            SearchesSixTimes taking count steps.old steps.new }
+            TakesOneEach taking count steps.old steps.new }
     {
         // For the proof: the layer is well formed.
         let _len = layer.buffer_len();
-        if self.blocks.side_of(id, steps).is_none() {
-            return Err(Fault::Refused(Refusal::UnknownId));
-        }
-        let mut blocks = self.blocks.share()?;
+        let Ok(mut blocks) = self.blocks.share() else {
+            // The refusal comes before out of memory. Where there is a share, `remove` gives it.
+            if self.blocks.side_of(id, steps).is_none() {
+                return Err(Fault::Refused(Refusal::UnknownId));
+            }
+            return Err(Fault::NoMemory);
+        };
         blocks.remove(alloc, id, steps)?;
         Ok(self.showing(alloc, layer, blocks, steps)?)
     }

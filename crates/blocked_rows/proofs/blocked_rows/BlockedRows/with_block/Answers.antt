@@ -37,42 +37,26 @@ returns-in-Some-clause-steps g c h few =
     let t = c.args.self.now in
     omega (arith, judged-same c.self.inside.blocks t c.args.steps.now c.refusal_to_add.new.steps c.self.view_is c.refusal_to_add.ensures.steps)
 
-pub returns-in_err-blocks-clause-refused : goal.returns-in_err-blocks-clause-refused
-returns-in_err-blocks-clause-refused g c =
-    let source = g.P.Layer.source c.args.layer.now in
-    owed-memory (add_refusal source c.args.self.now c.args.id c.args.offset c.args.lines.now) c.from_residual.result
-    (c.in_default.ensures.refusal ∙ owed-same source c.args.id c.args.offset c.args.lines.now c.self.inside.blocks c.args.self.now c.self.view_is)
-    c.from_residual.ensures.1
-
-pub returns-in_err-blocks-clause-steps : goal.returns-in_err-blocks-clause-steps
-returns-in_err-blocks-clause-steps g c h few =
-    omega (arith, judged-same c.self.inside.blocks c.args.self.now c.args.steps.now c.refusal_to_add.new.steps c.self.view_is c.refusal_to_add.ensures.steps)
-
 pub returns-in_err-insert-clause-steps : goal.returns-in_err-insert-clause-steps
 returns-in_err-insert-clause-steps g c h few =
-    let t = c.args.self.now in
-    omega (
-      arith,
-      judged-same c.self.inside.blocks t c.args.steps.now c.refusal_to_add.new.steps c.self.view_is c.refusal_to_add.ensures.steps,
-      put-same c.in_ok-blocks.blocks t c.refusal_to_add.new.steps c.insert.new.steps (c.in_ok-blocks.ensures ∙ c.self.view_is) c.insert.ensures.steps h few,
-    )
+    omega (arith, put-same c.in-Ok.blocks c.args.self.now c.args.steps.now c.insert.new.steps (c.in-Ok.ensures ∙ c.self.view_is) c.insert.ensures.steps h few)
 
 pub showing-requires-clause-placed : goal.showing-requires-clause-placed
 showing-requires-clause-placed g c κs within =
     let source = g.P.Layer.source c.args.layer.now in
     let s = c.args.self.now in
+    let shared = c.in-Ok.ensures ∙ c.self.view_is in
     let all = all-placed source _ c.self.inside.blocks s c.self.inside.shown c.self.view_is c.self.invariant c.buffer_len-len.ensures.well_formed c.requires in
     subst (ArePlaced source)
-    (sym (added-same c.args.side c.args.id c.args.offset c.args.lines.now c.insert.new.self c.in_ok-blocks.blocks s c.in_ok-insert.ensures.ok
-    (c.in_ok-blocks.ensures ∙ c.self.view_is)))
+    (sym (added-same c.args.side c.args.id c.args.offset c.args.lines.now c.insert.new.self c.in-Ok.blocks s c.in_ok-insert.ensures.ok shared))
     (placed-added source s all c.args.id c.args.offset c.args.lines.now
-    (sym (c.in_default.ensures.refusal ∙ owed-same source c.args.id c.args.offset c.args.lines.now c.self.inside.blocks s c.self.view_is)) c.args.side)
+    (sym (owed-same source c.args.id c.args.offset c.args.lines.now c.in-Ok.blocks s shared) ∙ c.in_ok-insert.ensures.accepted) c.args.side)
 
 pub returns-in_err-showing-clause-refused : goal.returns-in_err-showing-clause-refused
 returns-in_err-showing-clause-refused g c =
     let source = g.P.Layer.source c.args.layer.now in
     owed-memory (add_refusal source c.args.self.now c.args.id c.args.offset c.args.lines.now) c.from_residual-in_err-showing.result
-    (c.in_default.ensures.refusal ∙ owed-same source c.args.id c.args.offset c.args.lines.now c.self.inside.blocks c.args.self.now c.self.view_is)
+    (sym c.in_ok-insert.ensures.accepted ∙ owed-same source c.args.id c.args.offset c.args.lines.now c.in-Ok.blocks c.args.self.now (c.in-Ok.ensures ∙ c.self.view_is))
     c.from_residual-in_err-showing.ensures.1
 
 pub returns-in_err-showing-clause-steps : goal.returns-in_err-showing-clause-steps
@@ -80,12 +64,11 @@ returns-in_err-showing-clause-steps g c =
     let source = g.P.Layer.source c.args.layer.now in
     let s = c.args.self.now in
     let all = all-placed source _ c.self.inside.blocks s c.self.inside.shown c.self.view_is c.self.invariant c.buffer_len-len.ensures.well_formed c.requires in
-    let shared = c.in_ok-blocks.ensures ∙ c.self.view_is in
-    adds-at_most source s all c.args.steps.now c.refusal_to_add.new.steps c.insert.new.steps c.showing.new.steps c.args.side c.args.id c.args.offset c.args.lines.now
-    (judged-same c.self.inside.blocks s c.args.steps.now c.refusal_to_add.new.steps c.self.view_is c.refusal_to_add.ensures.steps)
-    (put-same c.in_ok-blocks.blocks s c.refusal_to_add.new.steps c.insert.new.steps shared c.insert.ensures.steps)
+    let shared = c.in-Ok.ensures ∙ c.self.view_is in
+    adds-at_most source s all c.args.steps.now c.insert.new.steps c.showing.new.steps c.args.side c.args.id c.args.offset c.args.lines.now
+    (put-same c.in-Ok.blocks s c.args.steps.now c.insert.new.steps shared c.insert.ensures.steps)
     (subst (λ (t : BlockState). SyncsAtMost None [] t c.insert.new.steps c.showing.new.steps)
-    (added-same c.args.side c.args.id c.args.offset c.args.lines.now c.insert.new.self c.in_ok-blocks.blocks s c.in_ok-insert.ensures.ok shared) c.showing.ensures.steps)
+    (added-same c.args.side c.args.id c.args.offset c.args.lines.now c.insert.new.self c.in-Ok.blocks s c.in_ok-insert.ensures.ok shared) c.showing.ensures.steps)
 
 pub returns-clause-made : goal.returns-clause-made
 returns-clause-made g c =
@@ -94,23 +77,21 @@ returns-clause-made g c =
     let all = all-placed source _ c.self.inside.blocks s c.self.inside.shown c.self.view_is c.self.invariant c.buffer_len-len.ensures.well_formed c.requires in
     c.in_ok-showing.ensures.made
     ∙ ap (synced source None s.lines)
-    (added-same c.args.side c.args.id c.args.offset c.args.lines.now c.insert.new.self c.in_ok-blocks.blocks s c.in_ok-insert.ensures.ok
-    (c.in_ok-blocks.ensures ∙ c.self.view_is))
+    (added-same c.args.side c.args.id c.args.offset c.args.lines.now c.insert.new.self c.in-Ok.blocks s c.in_ok-insert.ensures.ok (c.in-Ok.ensures ∙ c.self.view_is))
     ∙ synced-added source s all c.args.side c.args.id c.args.offset c.args.lines.now
 
 pub returns-clause-accepted : goal.returns-clause-accepted
 returns-clause-accepted g c =
     let source = g.P.Layer.source c.args.layer.now in
-    sym (c.in_default.ensures.refusal ∙ owed-same source c.args.id c.args.offset c.args.lines.now c.self.inside.blocks c.args.self.now c.self.view_is)
+    sym (owed-same source c.args.id c.args.offset c.args.lines.now c.in-Ok.blocks c.args.self.now (c.in-Ok.ensures ∙ c.self.view_is)) ∙ c.in_ok-insert.ensures.accepted
 
 pub returns-clause-steps : goal.returns-clause-steps
 returns-clause-steps g c =
     let source = g.P.Layer.source c.args.layer.now in
     let s = c.args.self.now in
     let all = all-placed source _ c.self.inside.blocks s c.self.inside.shown c.self.view_is c.self.invariant c.buffer_len-len.ensures.well_formed c.requires in
-    let shared = c.in_ok-blocks.ensures ∙ c.self.view_is in
-    adds-at_most source s all c.args.steps.now c.refusal_to_add.new.steps c.insert.new.steps c.showing.new.steps c.args.side c.args.id c.args.offset c.args.lines.now
-    (judged-same c.self.inside.blocks s c.args.steps.now c.refusal_to_add.new.steps c.self.view_is c.refusal_to_add.ensures.steps)
-    (put-same c.in_ok-blocks.blocks s c.refusal_to_add.new.steps c.insert.new.steps shared c.insert.ensures.steps)
+    let shared = c.in-Ok.ensures ∙ c.self.view_is in
+    adds-at_most source s all c.args.steps.now c.insert.new.steps c.showing.new.steps c.args.side c.args.id c.args.offset c.args.lines.now
+    (put-same c.in-Ok.blocks s c.args.steps.now c.insert.new.steps shared c.insert.ensures.steps)
     (subst (λ (t : BlockState). SyncsAtMost None [] t c.insert.new.steps c.showing.new.steps)
-    (added-same c.args.side c.args.id c.args.offset c.args.lines.now c.insert.new.self c.in_ok-blocks.blocks s c.in_ok-insert.ensures.ok shared) c.showing.ensures.steps)
+    (added-same c.args.side c.args.id c.args.offset c.args.lines.now c.insert.new.self c.in-Ok.blocks s c.in_ok-insert.ensures.ok shared) c.showing.ensures.steps)

@@ -9,7 +9,7 @@ use Rattle.block_map.specs.Bounds.{TakesOneEach, altering}
 use Rattle.block_map.specs.Carried.{SyncsAtMost}
 use Rattle.block_map.specs.Maps.{BlockState, IsOwed, has_block, on_side, remove_refusal, removed, synced}
 use Rattle.block_map.specs.inside.TwoSides.{is_kept}
-use Rattle.block_map.proofs.BlockRefusals.{known-id, owed-memory, unknown-id}
+use Rattle.block_map.proofs.BlockRefusals.{owed-memory, unknown-id}
 use Rattle.block_map.proofs.TwoSides.{has-side}
 use Rattle.blocked_rows.specs.Standing.{ArePlaced}
 use Rattle.blocked_rows.proofs.AlteredBlocks.{all-placed, placed-removed, synced-removed}
@@ -41,26 +41,9 @@ pub returns-then-is_none-clause-steps : goal.returns-then-is_none-clause-steps
 returns-then-is_none-clause-steps g c h few =
     omega (arith, judged-same c.self.inside.blocks c.args.self.now c.args.steps.now c.side_of.new.steps c.self.view_is c.side_of.ensures.steps)
 
-pub returns-in_err-blocks-clause-refused : goal.returns-in_err-blocks-clause-refused
-returns-in_err-blocks-clause-refused g c =
-    let s = c.args.self.now in
-    owed-memory (remove_refusal s c.args.id) c.from_residual.result
-    (known-id s c.args.id
-    (has-same c.args.id c.self.inside.blocks s c.side_of.result false c.self.view_is c.side_of.ensures.side (c.is_none.ensures ∙ ap not c.if-is_none.false)))
-    c.from_residual.ensures.1
-
-pub returns-in_err-blocks-clause-steps : goal.returns-in_err-blocks-clause-steps
-returns-in_err-blocks-clause-steps g c h few =
-    omega (arith, judged-same c.self.inside.blocks c.args.self.now c.args.steps.now c.side_of.new.steps c.self.view_is c.side_of.ensures.steps)
-
 pub returns-in_err-remove-clause-steps : goal.returns-in_err-remove-clause-steps
 returns-in_err-remove-clause-steps g c h few =
-    let t = c.args.self.now in
-    omega (
-      arith,
-      judged-same c.self.inside.blocks t c.args.steps.now c.side_of.new.steps c.self.view_is c.side_of.ensures.steps,
-      out-same c.in_ok-blocks.blocks t c.side_of.new.steps c.remove.new.steps (c.in_ok-blocks.ensures ∙ c.self.view_is) c.remove.ensures.steps h few,
-    )
+    omega (arith, out-same c.in-Ok.blocks c.args.self.now c.args.steps.now c.remove.new.steps (c.in-Ok.ensures ∙ c.self.view_is) c.remove.ensures.steps h few)
 
 pub showing-requires-clause-placed : goal.showing-requires-clause-placed
 showing-requires-clause-placed g c κs within =
@@ -68,15 +51,13 @@ showing-requires-clause-placed g c κs within =
     let s = c.args.self.now in
     let all = all-placed source _ c.self.inside.blocks s c.self.inside.shown c.self.view_is c.self.invariant c.buffer_len-len.ensures.well_formed c.requires in
     subst (ArePlaced source)
-    (sym (removed-same c.args.id c.remove.new.self c.in_ok-blocks.blocks s c.in_ok-remove.ensures.ok (c.in_ok-blocks.ensures ∙ c.self.view_is)))
+    (sym (removed-same c.args.id c.remove.new.self c.in-Ok.blocks s c.in_ok-remove.ensures.ok (c.in-Ok.ensures ∙ c.self.view_is)))
     (placed-removed source s all c.args.id)
 
 pub returns-in_err-showing-clause-refused : goal.returns-in_err-showing-clause-refused
 returns-in_err-showing-clause-refused g c =
-    let s = c.args.self.now in
-    owed-memory (remove_refusal s c.args.id) c.from_residual-in_err-showing.result
-    (known-id s c.args.id
-    (has-same c.args.id c.self.inside.blocks s c.side_of.result false c.self.view_is c.side_of.ensures.side (c.is_none.ensures ∙ ap not c.if-is_none.false)))
+    owed-memory (remove_refusal c.args.self.now c.args.id) c.from_residual-in_err-showing.result
+    (sym c.in_ok-remove.ensures.accepted ∙ ap (λ (b : BlockState). remove_refusal b c.args.id) (c.in-Ok.ensures ∙ c.self.view_is))
     c.from_residual-in_err-showing.ensures.1
 
 pub returns-in_err-showing-clause-steps : goal.returns-in_err-showing-clause-steps
@@ -84,12 +65,11 @@ returns-in_err-showing-clause-steps g c =
     let source = g.P.Layer.source c.args.layer.now in
     let s = c.args.self.now in
     let all = all-placed source _ c.self.inside.blocks s c.self.inside.shown c.self.view_is c.self.invariant c.buffer_len-len.ensures.well_formed c.requires in
-    let shared = c.in_ok-blocks.ensures ∙ c.self.view_is in
-    takes-at_most source s all c.args.steps.now c.side_of.new.steps c.remove.new.steps c.showing.new.steps c.args.id
-    (judged-same c.self.inside.blocks s c.args.steps.now c.side_of.new.steps c.self.view_is c.side_of.ensures.steps)
-    (out-same c.in_ok-blocks.blocks s c.side_of.new.steps c.remove.new.steps shared c.remove.ensures.steps)
+    let shared = c.in-Ok.ensures ∙ c.self.view_is in
+    takes-at_most source s all c.args.steps.now c.remove.new.steps c.showing.new.steps c.args.id
+    (out-same c.in-Ok.blocks s c.args.steps.now c.remove.new.steps shared c.remove.ensures.steps)
     (subst (λ (t : BlockState). SyncsAtMost None [] t c.remove.new.steps c.showing.new.steps)
-    (removed-same c.args.id c.remove.new.self c.in_ok-blocks.blocks s c.in_ok-remove.ensures.ok shared) c.showing.ensures.steps)
+    (removed-same c.args.id c.remove.new.self c.in-Ok.blocks s c.in_ok-remove.ensures.ok shared) c.showing.ensures.steps)
 
 pub returns-clause-made : goal.returns-clause-made
 returns-clause-made g c =
@@ -98,23 +78,20 @@ returns-clause-made g c =
     let all = all-placed source _ c.self.inside.blocks s c.self.inside.shown c.self.view_is c.self.invariant c.buffer_len-len.ensures.well_formed c.requires in
     c.in_ok-showing.ensures.made
     ∙ ap (synced source None s.lines)
-    (removed-same c.args.id c.remove.new.self c.in_ok-blocks.blocks s c.in_ok-remove.ensures.ok (c.in_ok-blocks.ensures ∙ c.self.view_is))
+    (removed-same c.args.id c.remove.new.self c.in-Ok.blocks s c.in_ok-remove.ensures.ok (c.in-Ok.ensures ∙ c.self.view_is))
     ∙ synced-removed source s all c.args.id
 
 pub returns-clause-accepted : goal.returns-clause-accepted
 returns-clause-accepted g c =
-    let s = c.args.self.now in
-    sym (known-id s c.args.id
-    (has-same c.args.id c.self.inside.blocks s c.side_of.result false c.self.view_is c.side_of.ensures.side (c.is_none.ensures ∙ ap not c.if-is_none.false)))
+    sym (ap (λ (b : BlockState). remove_refusal b c.args.id) (c.in-Ok.ensures ∙ c.self.view_is)) ∙ c.in_ok-remove.ensures.accepted
 
 pub returns-clause-steps : goal.returns-clause-steps
 returns-clause-steps g c =
     let source = g.P.Layer.source c.args.layer.now in
     let s = c.args.self.now in
     let all = all-placed source _ c.self.inside.blocks s c.self.inside.shown c.self.view_is c.self.invariant c.buffer_len-len.ensures.well_formed c.requires in
-    let shared = c.in_ok-blocks.ensures ∙ c.self.view_is in
-    takes-at_most source s all c.args.steps.now c.side_of.new.steps c.remove.new.steps c.showing.new.steps c.args.id
-    (judged-same c.self.inside.blocks s c.args.steps.now c.side_of.new.steps c.self.view_is c.side_of.ensures.steps)
-    (out-same c.in_ok-blocks.blocks s c.side_of.new.steps c.remove.new.steps shared c.remove.ensures.steps)
+    let shared = c.in-Ok.ensures ∙ c.self.view_is in
+    takes-at_most source s all c.args.steps.now c.remove.new.steps c.showing.new.steps c.args.id
+    (out-same c.in-Ok.blocks s c.args.steps.now c.remove.new.steps shared c.remove.ensures.steps)
     (subst (λ (t : BlockState). SyncsAtMost None [] t c.remove.new.steps c.showing.new.steps)
-    (removed-same c.args.id c.remove.new.self c.in_ok-blocks.blocks s c.in_ok-remove.ensures.ok shared) c.showing.ensures.steps)
+    (removed-same c.args.id c.remove.new.self c.in-Ok.blocks s c.in_ok-remove.ensures.ok shared) c.showing.ensures.steps)
