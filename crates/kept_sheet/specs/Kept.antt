@@ -1,6 +1,6 @@
 -- What a display asks of the record that it keeps.
 use Rattle.std.specs.Prelude.{ℕ, ◌≡◌, ◌+◌, ◌<◌, ◌≤◌, ◌==◌, Bool, List, [], ◌∷◌, length, map, slice_index_or, slice_range, Option, Some, None}
-use Rattle.std.specs.List.{list_all}
+use Rattle.std.specs.List.{enumerate_from, list_all, list_any}
 use Rattle.cell_units.specs.Record.{Record}
 use Rattle.cell_line.specs.declared.element.Element.{Element}
 use Rattle.cell_line.specs.declared.lines.Run.{Run}
@@ -27,6 +27,11 @@ abbrev pub standing : List (Option ℕ) → List ℕ
 standing [] = []
 standing (None ∷ places) = standing places
 standing (Some line ∷ places) = line ∷ standing places
+
+-- of each display line of the record, whether it is at one of the places
+abbrev pub placed_lines : List (Option ℕ) → Record → List Bool
+placed_lines places r =
+    map (λ p. list_any (λ line. line == p.0) (standing places)) (enumerate_from 0 r.marks)
 
 -- the numbers rise from one on
 abbrev pub IsRising : ℕ → List ℕ → Type 0

@@ -18,7 +18,7 @@ use plain_rows::Plain;
 use std::alloc::Global;
 use std::sync::Arc;
 
-/// A record as plain lists.
+/// A record as plain lists. It has no tree, so its calls count no step.
 pub type PlainSheet = display_sheet::Sheet;
 
 /// The sheet of a text.

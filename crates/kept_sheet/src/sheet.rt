@@ -8,6 +8,7 @@ ghost use Rattle.cell_units.specs.Refusal.{IsAccepted, IsTextRefused};
 ghost use Rattle.cell_units.specs.Text.{IsBoundary, clean, is_boundary};
 ghost use Rattle.cell_units.specs.declared.limits.TheConstants.{LAID_LIMIT};
 ghost use Rattle.plain_rows.specs.Plain.{record_of};
+ghost use Rattle.plain_rows.specs.Reach.{LandsAtMost, WorksAtMost};
 ghost use Rattle.plain_rows.specs.Rows.{line_elements, rows_of};
 ghost use Rattle.plain_rows.specs.Spots.{back, clip, show};
 ghost use Rattle.display_sheet.specs.Changes.{is_replacement, operation_of, operation_refusal, replacement};
@@ -16,7 +17,8 @@ ghost use Rattle.display_sheet.specs.Landing.{lists_of, with_landed_lines};
 ghost use Rattle.display_sheet.specs.Sheets.{IsOperated};
 ghost use Rattle.display_sheet.specs.Shown.{mark_runs, unstamped};
 ghost use Rattle.plain_rows.specs.ShownRows.{shown_row, shown_rows};
-ghost use Rattle.kept_sheet.specs.Kept.{AreLinesAt, IsRising, all_at_width, cuts_in, lines_in, standing, widths_of};
+ghost use Rattle.kept_sheet.specs.Bounds.{LooksAtMost, ReplacesAtMost};
+ghost use Rattle.kept_sheet.specs.Kept.{AreLinesAt, IsRising, all_at_width, cuts_in, lines_in, placed_lines, standing, widths_of};
 ghost use Rattle.cell_line.specs.Waiting.{AreApart, IsNextIfAny, waits};
 
 use cell_line::{Cuts, Lines, Run};
@@ -27,6 +29,9 @@ use std::alloc::Global;
 
 /// A record as a display keeps it. It is seen as that record, in which the stamps count the lines. No call but those
 /// that give a sheet makes one, and none changes one.
+///
+/// Steps are those that a call counts on the counter that it is handed: nodes of trees that it opens or makes. What a
+/// call does beside them isn't bounded.
 pub trait Sheet: Drop {
     // The record, without its stamps.
     ghost kept: { Self → Record };
@@ -63,7 +68,8 @@ pub trait Sheet: Drop {
     fn is_boundary(&self, offset: u32, steps: &mut Steps) -> bool
         ensures test { result ≡ is_boundary (kept self.now).text offset }
         ensures lawful { IsLawful (kept self.now) }
-        ensures counted { steps.old ≤ steps.new };
+        ensures counted { steps.old ≤ steps.new }
+        ensures steps { LooksAtMost 1 (kept self.now) steps.old steps.new };
 
     /// What an operation that isn't a replacement makes of it, and the display lines that make place for others
     /// (*Touched lines and the line step*). This one stays. It is refused as `Display::apply` of `display_map` says.
@@ -86,8 +92,10 @@ pub trait Sheet: Drop {
         ensures refused { IfErr result
             (IsRefusedAs (operation_refusal (kept self.now) (operation_of op.now))) }
 
-        // The work.
-        ensures counted { steps.old ≤ steps.new };
+        // The work, which is bounded for a refused one too.
+        ensures counted { steps.old ≤ steps.new }
+        ensures steps { let operation = operation_of op.now in
+            WorksAtMost operation (kept self.now) steps.old steps.new };
 
     /// The same of one replacement of a batch, which its caller has judged. Of a batch the text after all of it is
     /// judged, so in between it may be over the limit of a text.
@@ -101,7 +109,9 @@ pub trait Sheet: Drop {
         requires fits { length (operated (replacement splice.now) (kept self.now)).text ≤ LAID_LIMIT }
         ensures done { IfOk result (λ made.
             IsOperated (replacement splice.now) (kept self.now) (kept made.0) made.1) }
-        ensures counted { steps.old ≤ steps.new };
+        ensures counted { steps.old ≤ steps.new }
+        ensures steps { let operation = replacement splice.now in
+            ReplacesAtMost operation (kept self.now) steps.old steps.new };
 
     /// The first line that isn't wrapped at the width and that no run of `out` has. With it come the lines after it of
     /// the same kind, up to 128. `None` where there is no such line. There is none before `from`, where the search may
@@ -238,5 +248,7 @@ pub trait JobSheet: Sheet {
         // They are wrapped at it then, and the others as they were.
         ensures landed { let r = Self.kept self.now in IfOk result (λ sheet.
             Self.kept sheet ≡ with_landed_lines r.width places.now r) }
-        ensures counted { steps.old ≤ steps.new };
+        ensures counted { steps.old ≤ steps.new }
+        ensures steps { let r = Self.kept self.now in
+            LandsAtMost run.count (placed_lines places.now r) r steps.old steps.new };
 }
