@@ -1,5 +1,5 @@
 -- A source and the records of it.
-use Rattle.std.proofs.Common.{◌≡◌, ℕ, ◌+◌, Bool, List, length, map, Option, Some, None, refl, sym, ap, ◌∙◌, subst}
+use Rattle.std.proofs.Common.{◌≡◌, ◌+◌, Bool, List, map, Some, refl, sym, ap, ◌∙◌, subst}
 use Rattle.cell_units.specs.declared.place.Shift.{Shift}
 use Rattle.cell_units.specs.Folded.{display_lines}
 use Rattle.cell_units.specs.Lawful.{HasLawfulEntries, IsWellFormed, source_of}
@@ -10,7 +10,7 @@ use Rattle.cell_units.specs.Record.{Record}
 use Rattle.cell_units.specs.Touched.{EachLine, NoLine, RowRange, Rows, Touched, is_touched, one_run, touched}
 use Rattle.cell_units.proofs.LawfulOperations.{opened-lawful}
 use Rattle.tab_map.specs.TabLines.{first_met, new_reach, old_reach}
-use Rattle.folded_text.specs.Answered.{MeetsRun, MeetsTouched}
+use Rattle.folded_text.specs.Answered.{MeetsTouched}
 use Rattle.layered_text.specs.Layered.{record_of, source_after}
 
 -- the record of a source is lawful but for its marks

@@ -1,15 +1,15 @@
 -- Each change gives both maps its operation.
-use Rattle.std.proofs.Common.{◌≡◌, ◌==◌, ℕ, ◌+◌, ◌<◌, ◌≤◌, ◌||◌, find, count_by, Bool, true, false, cond, List, [], ◌∷◌, length, Option, option_map, Some, None, refl, sym, ap, ◌∙◌, subst, arith}
+use Rattle.std.proofs.Common.{◌≡◌, ◌==◌, ℕ, ◌+◌, ◌≤◌, ◌||◌, find, count_by, Bool, true, false, cond, List, [], ◌∷◌, length, Option, Some, None, refl, sym, ap, ◌∙◌, subst, arith}
 use Rattle.std.specs.List.{Contains, list_any}
 use Rattle.std.specs.Str.{IsUtf8}
 use Rattle.cell_units.specs.declared.limits.TheConstants.{LAID_LIMIT}
 use Rattle.cell_units.specs.declared.place.Shift.{Shift}
-use Rattle.cell_units.specs.Lawful.{IsAllowed, IsWellFormed}
+use Rattle.cell_units.specs.Lawful.{IsWellFormed}
 use Rattle.cell_units.specs.Layers.{Source, plain_source}
-use Rattle.cell_units.specs.Operation.{AddFold, AddInlay, RemoveFold, RemoveInlay, Replace, operated, replaced_text}
-use Rattle.cell_units.specs.Record.{Fold, Inlay, Record}
+use Rattle.cell_units.specs.Operation.{AddFold, AddInlay, RemoveFold, RemoveInlay, Replace, replaced_text}
+use Rattle.cell_units.specs.Record.{Fold, Inlay}
 use Rattle.cell_units.specs.Text.{IsText, clean}
-use Rattle.cell_units.specs.Touched.{Touched, rows_of_fold, rows_of_inlay}
+use Rattle.cell_units.specs.Touched.{rows_of_fold, rows_of_inlay}
 use Rattle.cell_units.proofs.PlainLayers.{plain_well_formed}
 use Rattle.cell_units.proofs.SortedLists.{count-cons}
 use Rattle.cell_units.proofs.TextLaws.{tells_boundaries}
@@ -29,11 +29,11 @@ use Rattle.layered_text.specs.Layered.{record_of}
 use Rattle.layered_text.specs.inside.Kept.{AreRows, AreTold, inlays_of}
 
 -- where some entry passes a test, the first one does that is found
-record Finds {X : Type 0} (p : X → Bool) (xs : List X) : Type 0 where
-  one : X
-  is : find p xs ≡ Some one
+pub record Finds {X : Type 0} (p : X → Bool) (xs : List X) : Type 0 where
+  pub one : X
+  pub is : find p xs ≡ Some one
 
-finds : {X : Type 0} (p : X → Bool) (xs : List X) → list_any p xs ≡ true → Finds p xs
+pub finds : {X : Type 0} (p : X → Bool) (xs : List X) → list_any p xs ≡ true → Finds p xs
 finds p [] e = absurd (cc)
 finds p (x ∷ xs) e = go (p x) refl e (finds p xs) where
   go : (b : Bool) → p x ≡ b → (b || list_any p xs) ≡ true → (list_any p xs ≡ true → Finds p xs) → Finds p (x ∷ xs)

@@ -20,11 +20,11 @@ use Rattle.fold_map.specs.Snapshots.{with_folds}
 use Rattle.fold_map.specs.Synced as folding
 use Rattle.fold_map.specs.Synced.{Follows}
 use Rattle.folded_text.specs.Answered.{AnswersMeet, AnswersSuffice, IsAnswered, IsLaid, LeadsFollow, MeetsTouched, folds_told, folds_without, inlaid_of, inlays_told, inlays_without, text_shift}
-use Rattle.folded_text.specs.Shown.{IsReplaced, put_at}
+use Rattle.folded_text.specs.Shown.{put_at}
 use Rattle.folded_text.proofs.AnsweredLines.{found-there}
 use Rattle.folded_text.proofs.Texts.{inlays-stand, replaced-leads}
 use Rattle.layered_text.specs.Layered.{IsChanged, record_of, source_after}
-use Rattle.layered_text.specs.inside.Kept.{AreRows, AreTold, IsLayered, inlays_of}
+use Rattle.layered_text.specs.inside.Kept.{AreRows, AreTold, IsLayered}
 use Rattle.layered_text.proofs.Records.{lawful-record, meets-each}
 
 -- ---- a record, of which both maps were given an operation
@@ -159,7 +159,7 @@ module _ (operation : Operation) (s : Source) (rope : List ℕ) (inlays : InlayS
       inlaid-is =
           synced.made ∙ (λ i. inlaying.source_after ((same ∙ told.rope_is) i) (told.shift_is i) (told.inlays_are i).current) ∙ told-inlays operation r
 
-      laid : IsLaid operation r shift below
+      pub laid : IsLaid operation r shift below
       laid = record {
         shift_is = told.shift_is;
         synced =
@@ -172,7 +172,7 @@ module _ (operation : Operation) (s : Source) (rope : List ℕ) (inlays : InlayS
         lower-is : lower ≡ inlaid_of r'
         lower-is = same' ∙ inlaid-is
 
-        laid-follows : Follows (folds_told operation r).current (inlaid_of r') moved (option_map reach_of below)
+        pub laid-follows : Follows (folds_told operation r).current (inlaid_of r') moved (option_map reach_of below)
         laid-follows =
             suffice operation r shift below lawful told.allowed (subst (λ (t : List ℕ). length t ≤ LAID_LIMIT) told.rope_is short) laid
 

@@ -3,6 +3,7 @@ ghost use Rattle.std.specs.Prelude.{◌≡◌, ◌≤◌, None, length, IfErr, I
 ghost use Rattle.cell_units.specs.declared.limits.TheConstants.{LAID_LIMIT};
 ghost use Rattle.cell_units.specs.Operation.{AddFold, AddInlay, RemoveFold, RemoveInlay, Replace, replaced_text};
 ghost use Rattle.cell_units.specs.Text.{clean};
+ghost use Rattle.text_rope.specs.Bounds.{ChangesText, replacing};
 ghost use Rattle.text_rope.specs.Edits.{IsRange};
 ghost use Rattle.edit_patch.specs.Leads.{reach_of};
 ghost use Rattle.inlay_map.specs.Maps as inlaid;
@@ -12,6 +13,7 @@ ghost use Rattle.fold_map.specs.Maps.{fold_with};
 ghost use Rattle.fold_map.specs.Snapshots.{fold_refusal, unfold_refusal};
 ghost use Rattle.folded_text.specs.Shown.{put_at};
 ghost use Rattle.layered_text.specs.Layered.{IsChanged};
+ghost use Rattle.layered_text.specs.Bounds.{LaysAtMost};
 
 use crate::text::{LayeredText, Refolded};
 use cell_units::limits::LAID_LIMIT;
@@ -37,6 +39,9 @@ fn replaced(
     ensures shift { let put = put_at start end (clean text.now) in
         IfOk result (λ new. reach_of new.1 ≡ put) }
     ensures counted { steps.old ≤ steps.new }
+    ensures steps { let put = clean text.now in
+        let made = replaced_text rope.now start end put in
+        ChangesText (replacing (length put)) rope.now made steps.old steps.new }
 {
     // The range is one of the text, and the limit is kept.
     let Ok((made, _)) = rope.replaced_within(alloc, start, end, text, LAID_LIMIT, steps) else {
@@ -68,7 +73,10 @@ impl LayeredText {
             IsChanged (Replace start end text.now) self.now made.0.text made.0.shown) }
         ensures shift { let put = put_at start end (clean text.now) in
             IfOk result (λ made. reach_of made.1 ≡ put) }
+
+        // The work.
         ensures counted { steps.old ≤ steps.new }
+        ensures steps { LaysAtMost (Replace start end text.now) self.now steps.old steps.new }
     {
         let (rope, shift) = replaced(alloc, &self.rope, start, end, text, steps)?;
         let inlays = self.inlays.share()?;
@@ -101,7 +109,11 @@ impl LayeredText {
         // A refusal is judged before memory is asked for.
         ensures refused { let refusal = add_refusal self.now id offset text.now in
             IfErr result (inlaid.IsOwed refusal) }
+
+        // The work.
         ensures counted { steps.old ≤ steps.new }
+        ensures steps { let inlay = inlay_with id offset bias text.now in
+            LaysAtMost (AddInlay inlay) self.now steps.old steps.new }
     {
         if let Some(refusal) = self.inlaid.refusal_to_add(id, offset, text, steps) {
             return Err(Fault::Refused(refusal));
@@ -126,7 +138,10 @@ impl LayeredText {
         ensures accepted { OnOk result (remove_refusal self.now id ≡ None) }
 
         ensures refused { IfErr result (inlaid.IsOwed (remove_refusal self.now id)) }
+
+        // The work.
         ensures counted { steps.old ≤ steps.new }
+        ensures steps { LaysAtMost (RemoveInlay id) self.now steps.old steps.new }
     {
         if !self.inlaid.has_id(id, steps) {
             return Err(Fault::Refused(Refusal::UnknownId));
@@ -157,7 +172,11 @@ impl LayeredText {
 
         ensures refused { let refusal = fold_refusal self.now id start end in
             IfErr result (folded.IsOwed refusal) }
+
+        // The work.
         ensures counted { steps.old ≤ steps.new }
+        ensures steps { let fold = fold_with id start end in
+            LaysAtMost (AddFold fold) self.now steps.old steps.new }
     {
         if let Some(refusal) = self.layer.refusal_to_fold(id, start, end, steps) {
             return Err(Fault::Refused(refusal));
@@ -177,7 +196,10 @@ impl LayeredText {
         ensures accepted { OnOk result (unfold_refusal self.now id ≡ None) }
 
         ensures refused { IfErr result (folded.IsOwed (unfold_refusal self.now id)) }
+
+        // The work.
         ensures counted { steps.old ≤ steps.new }
+        ensures steps { LaysAtMost (RemoveFold id) self.now steps.old steps.new }
     {
         if !self.layer.has_id(id, steps) {
             return Err(Fault::Refused(Refusal::UnknownId));

@@ -1,16 +1,19 @@
 //! The text with its maps, and what shows them after a change.
-ghost use Rattle.std.specs.Prelude.{◌≡◌, ◌≤◌, None, option_map, IfOk};
+ghost use Rattle.std.specs.Prelude.{◌≡◌, ◌+◌, ◌≤◌, None, option_map, IfOk};
 ghost use Rattle.cell_units.specs.Layers.{plain_source, unfolded};
 ghost use Rattle.cell_units.specs.Operation.{Operation};
 ghost use Rattle.inlay_map.specs.Maps as inlaying;
+ghost use Rattle.fold_map.specs.Bounds as folding;
 ghost use Rattle.fold_map.specs.Maps.{state_of};
+ghost use Rattle.layered_text.specs.Bounds.{opening};
 ghost use Rattle.layered_text.specs.Layered.{IsChanged};
 ghost use Rattle.layered_text.specs.inside.Kept.{AreTold, WereTold};
+ghost use Rattle.layered_text.specs.inside.Showing.{ShowsAtMost};
 
 use cell_units::{NoMemory, Shift, Steps};
 use fold_map::{FoldMap, FoldSnapshot};
 use folded_text::answer_laws;
-use inlay_map::{InlayMap, InlaySnapshot};
+use inlay_map::{InlayMap, InlaySnapshot, met_laws as inlay_laws};
 use std::alloc::Global;
 use std::marker::Model;
 use text_rope::Rope;
@@ -58,8 +61,13 @@ impl LayeredText {
     /// The text without inlays and folds. It fails with `NoMemory` only.
     pub fn opened(alloc: Global, rope: Rope, steps: &mut Steps) -> Result<LayeredText, NoMemory>
         ensures opened { IfOk result (λ text. text ≡ plain_source rope) }
+
+        // The work.
         ensures counted { steps.old ≤ steps.new }
+        ensures steps { steps.new ≤ steps.old + opening }
     {
+        // For the proof: the text is within its limit, so its tree has at most 7 levels below its root.
+        let _len = rope.len();
         let base = rope.share()?;
         let mut inlays = InlayMap::new(alloc, base, steps)?;
         let next = rope.share()?;
@@ -79,6 +87,7 @@ impl LayeredText {
         requires inlaid { inlaid ≡ plain_source rope }
         ensures opened { IfOk result (λ text. text ≡ plain_source rope) }
         ensures counted { steps.old ≤ steps.new }
+        ensures steps { steps.new ≤ steps.old + folding.syncing 0 0 }
     {
         // For the proof: the text is within its limit, so each place of what is shown is a u32.
         let _len = rope.len();
@@ -149,9 +158,13 @@ impl LayeredText {
             AreTold operation self.now rope inlays folds shift →
             IfOk result (λ made. IsChanged operation self.now made.text made.shown) }
         ensures counted { steps.old ≤ steps.new }
+        ensures steps { (operation : Operation) →
+            AreTold operation self.now rope inlays folds shift →
+            ShowsAtMost operation self.now steps.old steps.new }
     {
-        // For the proof: what a replacement owes to the maps, and which lines their results meet.
+        // For the proof: what a replacement owes to the maps, and which lines and rows their results meet.
         answer_laws();
+        inlay_laws();
         // For the proof: the text is within its limit, and the inlays and folds fit it.
         let _sizes = (rope.len(), self.folds.len());
         let next = rope.share()?;
@@ -183,6 +196,9 @@ impl LayeredText {
             AreTold operation self.now self.now.text inlays folds None →
             IfOk result (λ made. IsChanged operation self.now made.text made.shown) }
         ensures counted { steps.old ≤ steps.new }
+        ensures steps { (operation : Operation) →
+            AreTold operation self.now self.now.text inlays folds None →
+            ShowsAtMost operation self.now steps.old steps.new }
     {
         let rope = self.rope.share()?;
         self.changed(alloc, rope, inlays, folds, None, steps)

@@ -1,4 +1,4 @@
-use Rattle.std.proofs.Common.{◌-◌, List, ℕ, length, ap, arith}
+use Rattle.std.proofs.Common.{List, ℕ, length, ap, arith}
 use Rattle.cell_units.specs.Text.{clean}
 use Rattle.cell_units.proofs.ReplacedRows.{length-replaced_text}
 use Rattle.edit_patch.specs.Leads.{reach_of}

@@ -4,6 +4,7 @@ use Rattle.inlay_map.specs.Maps.{InlayState}
 use Rattle.inlay_map.proofs.Sent.{sent}
 use Rattle.fold_map.specs.Maps.{FoldState}
 use Rattle.layered_text.specs.inside.Kept.{IsLayered}
+use Rattle.layered_text.proofs.ShownSteps.{shows-both, shows-inlays, shows-none}
 use Rattle.layered_text.proofs.ToldMaps.{follows, inlays-fit, inlays-lead, is-changed, is-layered, replaces}
 use Rattle.layered_text.proofs.text.LayeredText.changed.Goals as goal
 use Rattle.layered_text.proofs.text.LayeredText.changed.Goals.{After-len-2}
@@ -64,3 +65,36 @@ returns-clause-changed c operation told =
     (omega (arith, c.len.ensures.value, c.len.ensures.within)) c.in_ok-inlaid.inlaid c.in_ok-inlaid.below c.in_ok-inlaid.ensures.synced
     c.answer_laws.ensures.suffice c.in_ok-lower.lower c.in_ok-lower.ensures c.in_ok-layer.layer c.in_ok-layer.answer c.in_ok-layer.ensures.synced
     c.answer_laws.ensures.meet c.answer_laws.ensures.follow c.unwrap-shown.result c.unwrap-shown.ensures
+
+-- ---- steps
+
+pub returns-in_err-next-clause-steps : goal.returns-in_err-next-clause-steps
+returns-in_err-next-clause-steps c operation told = shows-none operation c.args.self.now c.args.steps.now
+
+pub returns-in_err-inlaid-clause-steps : goal.returns-in_err-inlaid-clause-steps
+returns-in_err-inlaid-clause-steps c operation told =
+    shows-inlays operation c.args.self.now c.args.rope c.args.inlays c.args.folds c.args.shift told c.in_ok-next.next c.in_ok-next.ensures
+    c.args.steps.now c.sync.new.steps c.sync.ensures.steps
+
+pub returns-in_err-lower-clause-steps : goal.returns-in_err-lower-clause-steps
+returns-in_err-lower-clause-steps c operation told =
+    shows-inlays operation c.args.self.now c.args.rope c.args.inlays c.args.folds c.args.shift told c.in_ok-next.next c.in_ok-next.ensures
+    c.args.steps.now c.sync.new.steps c.sync.ensures.steps
+
+pub returns-in_err-layer-clause-steps : goal.returns-in_err-layer-clause-steps
+returns-in_err-layer-clause-steps c operation told =
+    let is = formed (goal.at.returns-in_err-layer-clause-steps c).After-len-2 in
+    shows-both operation c.args.self.now c.args.rope c.args.inlays c.args.folds c.args.shift told c.in_ok-next.next c.in_ok-next.ensures is
+    (omega (arith, c.len.ensures.value, c.len.ensures.within)) c.in_ok-inlaid.inlaid c.in_ok-inlaid.below c.in_ok-inlaid.ensures.synced
+    c.answer_laws.ensures.suffice c.in_ok-lower.lower c.in_ok-lower.ensures
+    c.met_laws.ensures.added c.met_laws.ensures.removed c.met_laws.ensures.replaced
+    c.args.steps.now c.sync.new.steps c.sync-2.new.steps c.sync.ensures.steps c.sync-2.ensures.steps
+
+pub returns-clause-steps : goal.returns-clause-steps
+returns-clause-steps c operation told =
+    let is = formed (goal.at.returns-clause-steps c).After-len-2 in
+    shows-both operation c.args.self.now c.args.rope c.args.inlays c.args.folds c.args.shift told c.in_ok-next.next c.in_ok-next.ensures is
+    (omega (arith, c.len.ensures.value, c.len.ensures.within)) c.in_ok-inlaid.inlaid c.in_ok-inlaid.below c.in_ok-inlaid.ensures.synced
+    c.answer_laws.ensures.suffice c.in_ok-lower.lower c.in_ok-lower.ensures
+    c.met_laws.ensures.added c.met_laws.ensures.removed c.met_laws.ensures.replaced
+    c.args.steps.now c.sync.new.steps c.sync-2.new.steps c.sync.ensures.steps c.sync-2.ensures.steps

@@ -1,8 +1,9 @@
-use Rattle.std.proofs.Common.{◌∙◌, None, refl, sym, subst, arith}
-use Rattle.cell_units.specs.Layers.{Source, plain_source}
-use Rattle.inlay_map.specs.Maps as inlaying
+use Rattle.std.proofs.Common.{◌∙◌, None, length, refl, sym, subst, arith}
+use Rattle.cell_units.specs.Layers.{Source}
+use Rattle.sum_tree.specs.Bounds.{TakesAtMost}
 use Rattle.inlay_map.specs.Maps.{InlayState}
 use Rattle.inlay_map.proofs.Sent.{sent}
+use Rattle.fold_map.specs.Bounds.{syncing}
 use Rattle.fold_map.specs.Maps.{FoldState, state_of}
 use Rattle.fold_map.specs.Synced.{Follows, source_after, synced}
 use Rattle.layered_text.specs.inside.Kept.{IsLayered}
@@ -46,3 +47,13 @@ returns-clause-opened c =
     let base = c.in_ok-base.ensures ∙ c.requires.inlaid in
     let folds = c.in_ok-folds.ensures.ok ∙ (λ i. state_of (base i)) in
     c.in_ok-layer.ensures.synced.made_is ∙ (λ i. source_after (lower i) None (folds i).current)
+
+pub returns-in_err-layer-clause-steps : goal.returns-in_err-layer-clause-steps
+returns-in_err-layer-clause-steps c =
+    let folds = c.in_ok-folds.ensures.ok ∙ (λ i. state_of ((c.in_ok-base.ensures ∙ c.requires.inlaid) i)) in
+    omega (arith, c.new.ensures.steps, subst (λ (m : FoldState). TakesAtMost (syncing 0) (length m.current.folds) c.new.new.steps c.sync.new.steps) folds c.sync.ensures.steps 0 (omega arith))
+
+pub returns-clause-steps : goal.returns-clause-steps
+returns-clause-steps c =
+    let folds = c.in_ok-folds.ensures.ok ∙ (λ i. state_of ((c.in_ok-base.ensures ∙ c.requires.inlaid) i)) in
+    omega (arith, c.new.ensures.steps, subst (λ (m : FoldState). TakesAtMost (syncing 0) (length m.current.folds) c.new.new.steps c.sync.new.steps) folds c.sync.ensures.steps 0 (omega arith))

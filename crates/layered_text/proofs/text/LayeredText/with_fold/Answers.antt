@@ -10,10 +10,16 @@ use Rattle.inlay_map.proofs.Sent.{sent}
 use Rattle.fold_map.specs.Maps.{FoldState, IsOwed, fold_with, folded_up, state_of, with_fold}
 use Rattle.fold_map.specs.Snapshots.{PlacesFit, fold_refusal}
 use Rattle.fold_map.proofs.StateMaps.{owed-memory}
+use Rattle.joined_folds.specs.Sweeps.{count_met}
+use Rattle.sum_tree.specs.Bounds.{Searches}
+use Rattle.fold_map.specs.Bounds.{SearchesTwice, folding}
+use Rattle.layered_text.specs.Bounds.{LaysAtMost}
 use Rattle.layered_text.specs.inside.Kept.{AreTold, inlays_of}
+use Rattle.layered_text.proofs.LaidSteps.{lays-folded, lays-judged_fold}
+use Rattle.layered_text.proofs.ShownSteps.{shows-none}
 use Rattle.layered_text.proofs.Tellings.{fits-folded, told-folded}
 use Rattle.layered_text.proofs.text.LayeredText.with_fold.Goals as goal
-use Rattle.layered_text.proofs.text.LayeredText.with_fold.Goals.{After-len-2, After-refusal_to_fold, After-share-2}
+use Rattle.layered_text.proofs.text.LayeredText.with_fold.Goals.{After-fold, After-len-2, After-refusal_to_fold, After-share-2}
 
 -- the refusal is the one of the source
 same : (c : After-refusal_to_fold) →
@@ -103,3 +109,58 @@ refusal_to_fold-requires-send-L c κs = search sent depth 60 fits 20000
 
 pub refusal_to_fold-requires-sync-L : goal.refusal_to_fold-requires-sync-L
 refusal_to_fold-requires-sync-L c κs = search sent depth 60 fits 20000
+
+-- ---- steps
+
+-- those in which it is judged
+judged : (c : After-refusal_to_fold) → Searches (length c.args.self.now.folds) c.args.steps.now c.refusal_to_fold.new.steps
+judged c = subst (λ (v : Source). Searches (length v.folds) c.args.steps.now c.refusal_to_fold.new.steps) c.self.view_is c.refusal_to_fold.ensures.steps
+
+judged-only : (c : After-refusal_to_fold) → LaysAtMost (AddFold (fold_with c.args.id c.args.start c.args.end)) c.args.self.now c.args.steps.now c.refusal_to_fold.new.steps
+judged-only c =
+    lays-judged_fold c.args.self.now (fold_with c.args.id c.args.start c.args.end) c.args.steps.now c.refusal_to_fold.new.steps (judged c)
+
+-- and then it is added
+put : (c : After-fold) → let after = (with_fold (fold_with c.args.id c.args.start c.args.end) c.args.self.now).folds in
+    SearchesTwice (folding (count_met c.args.start c.args.end after)) (length after) c.refusal_to_fold.new.steps c.fold.new.steps
+put c =
+    let f = fold_with c.args.id c.args.start c.args.end in
+    subst (λ (m : FoldState). SearchesTwice (folding (count_met f.start f.end (with_fold f m.current).folds)) (length (with_fold f m.current).folds)
+    c.refusal_to_fold.new.steps c.fold.new.steps) (c.in_ok-folds.ensures ∙ c.self.invariant.folds_are ∙ ap state_of c.self.view_is) c.fold.ensures.steps
+
+put-only : (c : After-fold) → Searches (length c.args.self.now.folds) c.args.steps.now c.refusal_to_fold.new.steps
+    → LaysAtMost (AddFold (fold_with c.args.id c.args.start c.args.end)) c.args.self.now c.args.steps.now c.fold.new.steps
+put-only c first =
+    let f = fold_with c.args.id c.args.start c.args.end in
+    lays-folded c.args.self.now f c.args.steps.now c.refusal_to_fold.new.steps c.fold.new.steps c.fold.new.steps first (put c)
+    (shows-none (AddFold f) c.args.self.now c.fold.new.steps)
+
+pub returns-in-Some-clause-steps : goal.returns-in-Some-clause-steps
+returns-in-Some-clause-steps c = judged-only (goal.at.returns-in-Some-clause-steps c).After-refusal_to_fold
+
+pub returns-in_err-folds-clause-steps : goal.returns-in_err-folds-clause-steps
+returns-in_err-folds-clause-steps c = judged-only (goal.at.returns-in_err-folds-clause-steps c).After-refusal_to_fold
+
+pub returns-in_err-fold-clause-steps : goal.returns-in_err-fold-clause-steps
+returns-in_err-fold-clause-steps c =
+    let a = goal.at.returns-in_err-fold-clause-steps c in put-only a.After-fold (judged a.After-refusal_to_fold)
+
+pub returns-in_err-inlays-clause-steps : goal.returns-in_err-inlays-clause-steps
+returns-in_err-inlays-clause-steps c =
+    let a = goal.at.returns-in_err-inlays-clause-steps c in put-only a.After-fold (judged a.After-refusal_to_fold)
+
+pub returns-in_err-turned-clause-steps : goal.returns-in_err-turned-clause-steps
+returns-in_err-turned-clause-steps c =
+    let a = goal.at.returns-in_err-turned-clause-steps c in
+    let f = fold_with c.args.id c.args.start c.args.end in
+    lays-folded c.args.self.now f c.args.steps.now c.refusal_to_fold.new.steps c.fold.new.steps c.turned.new.steps (judged a.After-refusal_to_fold) (put a.After-fold)
+    (c.turned.ensures.steps (AddFold f)
+    (told a.After-share-2 c.in_ok-inlays.inlays c.in_ok-inlays.ensures (formed a.After-len-2) (sym (c.in_default.ensures.refusal ∙ same a.After-refusal_to_fold))))
+
+pub returns-clause-steps : goal.returns-clause-steps
+returns-clause-steps c =
+    let a = goal.at.returns-clause-steps c in
+    let f = fold_with c.args.id c.args.start c.args.end in
+    lays-folded c.args.self.now f c.args.steps.now c.refusal_to_fold.new.steps c.fold.new.steps c.turned.new.steps (judged a.After-refusal_to_fold) (put a.After-fold)
+    (c.turned.ensures.steps (AddFold f)
+    (told a.After-share-2 c.in_ok-inlays.inlays c.in_ok-inlays.ensures (formed a.After-len-2) (sym (c.in_default.ensures.refusal ∙ same a.After-refusal_to_fold))))

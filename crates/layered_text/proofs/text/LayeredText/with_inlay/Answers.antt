@@ -1,18 +1,22 @@
-use Rattle.std.proofs.Common.{◌≡◌, ◌∙◌, Option, None, ap, refl, sym, subst}
+use Rattle.std.proofs.Common.{◌≡◌, ◌∙◌, ◌+◌, length, Option, None, ap, refl, sym, subst}
 use Rattle.cell_units.specs.declared.fault.Fault.TheVariants.{Refused}
 use Rattle.cell_units.specs.declared.fault.Refusal.{Refusal}
 use Rattle.cell_units.specs.Text.{IsText}
 use Rattle.cell_units.specs.Layers.{Source, unfolded}
 use Rattle.cell_units.specs.Operation.{AddInlay}
-use Rattle.cell_units.specs.Record.{Inlay}
 use Rattle.inlay_map.specs.Maps.{InlayState, IsOwed, add_refusal, added, inlay_with}
 use Rattle.inlay_map.proofs.Refusals.{owed-memory}
 use Rattle.inlay_map.proofs.Sent.{sent}
 use Rattle.fold_map.specs.Maps.{FoldState, state_of}
+use Rattle.text_rope.specs.Bounds.{ways}
+use Rattle.inlay_map.specs.Bounds.{SearchesOnce, changing}
+use Rattle.layered_text.specs.Bounds.{LaysAtMost}
 use Rattle.layered_text.specs.inside.Kept.{AreTold, inlays_of}
+use Rattle.layered_text.proofs.LaidSteps.{lays-added, lays-judged_inlay}
+use Rattle.layered_text.proofs.ShownSteps.{shows-none}
 use Rattle.layered_text.proofs.Tellings.{told-added}
 use Rattle.layered_text.proofs.text.LayeredText.with_inlay.Goals as goal
-use Rattle.layered_text.proofs.text.LayeredText.with_inlay.Goals.{After-refusal_to_add, After-share-2}
+use Rattle.layered_text.proofs.text.LayeredText.with_inlay.Goals.{After-insert, After-refusal_to_add, After-share-2}
 
 -- the refusal is the one of the source
 same : (c : After-refusal_to_add) →
@@ -71,3 +75,58 @@ returns-clause-changed c =
 
 pub returns-clause-accepted : goal.returns-clause-accepted
 returns-clause-accepted c = sym (c.in_default.ensures.refusal ∙ same (goal.at.returns-clause-accepted c).After-refusal_to_add)
+
+-- ---- steps
+
+-- those in which it is judged
+judged : (c : After-refusal_to_add) → SearchesOnce (ways 2) c.args.self.now.text (length c.args.self.now.inlays) c.args.steps.now c.refusal_to_add.new.steps
+judged c =
+    subst (λ (v : Source). SearchesOnce (ways 2) v.text (length v.inlays) c.args.steps.now c.refusal_to_add.new.steps)
+    (c.self.invariant.inlaid_is ∙ ap unfolded c.self.view_is) c.refusal_to_add.ensures.steps
+
+judged-only : (c : After-refusal_to_add) → LaysAtMost (AddInlay (inlay_with c.args.id c.args.offset c.args.bias c.args.text.now)) c.args.self.now c.args.steps.now c.refusal_to_add.new.steps
+judged-only c =
+    lays-judged_inlay c.args.self.now (inlay_with c.args.id c.args.offset c.args.bias c.args.text.now) c.args.steps.now c.refusal_to_add.new.steps (judged c)
+
+-- and then it is added
+put : (c : After-insert) → SearchesOnce changing c.args.self.now.text (length c.args.self.now.inlays + 1) c.refusal_to_add.new.steps c.insert.new.steps
+put c =
+    subst (λ (m : InlayState). SearchesOnce changing m.current.text (length m.current.inlays + 1) c.refusal_to_add.new.steps c.insert.new.steps)
+    (c.in_ok-inlays.ensures ∙ c.self.invariant.inlays_are ∙ ap inlays_of c.self.view_is) c.insert.ensures.steps
+
+put-only : (c : After-insert) → SearchesOnce (ways 2) c.args.self.now.text (length c.args.self.now.inlays) c.args.steps.now c.refusal_to_add.new.steps
+    → LaysAtMost (AddInlay (inlay_with c.args.id c.args.offset c.args.bias c.args.text.now)) c.args.self.now c.args.steps.now c.insert.new.steps
+put-only c first =
+    let i = inlay_with c.args.id c.args.offset c.args.bias c.args.text.now in
+    lays-added c.args.self.now i c.args.steps.now c.refusal_to_add.new.steps c.insert.new.steps c.insert.new.steps first (put c)
+    (shows-none (AddInlay i) c.args.self.now c.insert.new.steps)
+
+pub returns-in-Some-clause-steps : goal.returns-in-Some-clause-steps
+returns-in-Some-clause-steps c = judged-only (goal.at.returns-in-Some-clause-steps c).After-refusal_to_add
+
+pub returns-in_err-inlays-clause-steps : goal.returns-in_err-inlays-clause-steps
+returns-in_err-inlays-clause-steps c = judged-only (goal.at.returns-in_err-inlays-clause-steps c).After-refusal_to_add
+
+pub returns-in_err-insert-clause-steps : goal.returns-in_err-insert-clause-steps
+returns-in_err-insert-clause-steps c =
+    let a = goal.at.returns-in_err-insert-clause-steps c in put-only a.After-insert (judged a.After-refusal_to_add)
+
+pub returns-in_err-folds-clause-steps : goal.returns-in_err-folds-clause-steps
+returns-in_err-folds-clause-steps c =
+    let a = goal.at.returns-in_err-folds-clause-steps c in put-only a.After-insert (judged a.After-refusal_to_add)
+
+pub returns-in_err-turned-clause-steps : goal.returns-in_err-turned-clause-steps
+returns-in_err-turned-clause-steps c =
+    let a = goal.at.returns-in_err-turned-clause-steps c in
+    let i = inlay_with c.args.id c.args.offset c.args.bias c.args.text.now in
+    lays-added c.args.self.now i c.args.steps.now c.refusal_to_add.new.steps c.insert.new.steps c.turned.new.steps (judged a.After-refusal_to_add) (put a.After-insert)
+    (c.turned.ensures.steps (AddInlay i)
+    (told a.After-share-2 c.in_ok-folds.folds c.in_ok-folds.ensures (sym (c.in_default.ensures.refusal ∙ same a.After-refusal_to_add))))
+
+pub returns-clause-steps : goal.returns-clause-steps
+returns-clause-steps c =
+    let a = goal.at.returns-clause-steps c in
+    let i = inlay_with c.args.id c.args.offset c.args.bias c.args.text.now in
+    lays-added c.args.self.now i c.args.steps.now c.refusal_to_add.new.steps c.insert.new.steps c.turned.new.steps (judged a.After-refusal_to_add) (put a.After-insert)
+    (c.turned.ensures.steps (AddInlay i)
+    (told a.After-share-2 c.in_ok-folds.folds c.in_ok-folds.ensures (sym (c.in_default.ensures.refusal ∙ same a.After-refusal_to_add))))

@@ -12,10 +12,17 @@ use Rattle.inlay_map.proofs.Sent.{sent}
 use Rattle.fold_map.specs.Maps.{FoldState, IsOwed, opened_up, state_of, without}
 use Rattle.fold_map.specs.Snapshots.{PlacesFit, unfold_refusal}
 use Rattle.fold_map.proofs.StateMaps.{known-id, owed-memory, unknown-id}
+use Rattle.cell_units.specs.Record.{Fold}
+use Rattle.joined_folds.specs.Sweeps.{count_met}
+use Rattle.sum_tree.specs.Bounds.{Searches}
+use Rattle.fold_map.specs.Bounds.{SearchesTwice, folding}
+use Rattle.layered_text.specs.Bounds.{LaysAtMost}
 use Rattle.layered_text.specs.inside.Kept.{AreTold, inlays_of}
+use Rattle.layered_text.proofs.LaidSteps.{lays-opened, lays-sought_fold}
+use Rattle.layered_text.proofs.ShownSteps.{shows-none}
 use Rattle.layered_text.proofs.Tellings.{fits-opened, told-opened}
 use Rattle.layered_text.proofs.text.LayeredText.without_fold.Goals as goal
-use Rattle.layered_text.proofs.text.LayeredText.without_fold.Goals.{After-has_id, After-len-2, After-share-2}
+use Rattle.layered_text.proofs.text.LayeredText.without_fold.Goals.{After-has_id, After-len-2, After-share-2, After-unfold}
 
 -- it is looked for in the source
 sought : (c : After-has_id) → c.has_id.result ≡ list_any (λ f. f.id == c.args.id) c.args.self.now.folds
@@ -102,3 +109,56 @@ has_id-requires-send-L c κs = search sent depth 60 fits 20000
 
 pub has_id-requires-sync-L : goal.has_id-requires-sync-L
 has_id-requires-sync-L c κs = search sent depth 60 fits 20000
+
+-- ---- steps
+
+-- those in which its id is looked for
+looked : (c : After-has_id) → Searches (length c.args.self.now.folds) c.args.steps.now c.has_id.new.steps
+looked c = subst (λ (v : Source). Searches (length v.folds) c.args.steps.now c.has_id.new.steps) c.self.view_is c.has_id.ensures.steps
+
+looked-only : (c : After-has_id) → LaysAtMost (RemoveFold c.args.id) c.args.self.now c.args.steps.now c.has_id.new.steps
+looked-only c = lays-sought_fold c.args.self.now c.args.id c.args.steps.now c.has_id.new.steps (looked c)
+
+-- and then it is taken off
+taken : (c : After-unfold) (f : Fold) → Contains c.args.self.now.folds f → f.id ≡ c.args.id
+    → SearchesTwice (folding (count_met f.start f.end (without c.args.id c.args.self.now).folds)) (length c.args.self.now.folds) c.has_id.new.steps c.unfold.new.steps
+taken c =
+    subst (λ (m : FoldState). (f : Fold) → Contains m.current.folds f → f.id ≡ c.args.id
+    → SearchesTwice (folding (count_met f.start f.end (without c.args.id m.current).folds)) (length m.current.folds) c.has_id.new.steps c.unfold.new.steps)
+    (c.in_ok-folds.ensures ∙ c.self.invariant.folds_are ∙ ap state_of c.self.view_is) c.unfold.ensures.steps
+
+taken-only : (c : After-unfold) → Searches (length c.args.self.now.folds) c.args.steps.now c.has_id.new.steps → list_any (λ f. f.id == c.args.id) c.args.self.now.folds ≡ true
+    → LaysAtMost (RemoveFold c.args.id) c.args.self.now c.args.steps.now c.unfold.new.steps
+taken-only c first there =
+    lays-opened c.args.self.now c.args.id c.args.steps.now c.has_id.new.steps c.unfold.new.steps c.unfold.new.steps there first (taken c)
+    (shows-none (RemoveFold c.args.id) c.args.self.now c.unfold.new.steps)
+
+pub returns-then-not-has_id-clause-steps : goal.returns-then-not-has_id-clause-steps
+returns-then-not-has_id-clause-steps c = looked-only (goal.at.returns-then-not-has_id-clause-steps c).After-has_id
+
+pub returns-in_err-folds-clause-steps : goal.returns-in_err-folds-clause-steps
+returns-in_err-folds-clause-steps c = looked-only (goal.at.returns-in_err-folds-clause-steps c).After-has_id
+
+pub returns-in_err-unfold-clause-steps : goal.returns-in_err-unfold-clause-steps
+returns-in_err-unfold-clause-steps c =
+    let a = goal.at.returns-in_err-unfold-clause-steps c in
+    taken-only a.After-unfold (looked a.After-has_id) (sym (sought a.After-has_id) ∙ c.if-not-has_id.false)
+
+pub returns-in_err-inlays-clause-steps : goal.returns-in_err-inlays-clause-steps
+returns-in_err-inlays-clause-steps c =
+    let a = goal.at.returns-in_err-inlays-clause-steps c in
+    taken-only a.After-unfold (looked a.After-has_id) (sym (sought a.After-has_id) ∙ c.if-not-has_id.false)
+
+pub returns-in_err-turned-clause-steps : goal.returns-in_err-turned-clause-steps
+returns-in_err-turned-clause-steps c =
+    let a = goal.at.returns-in_err-turned-clause-steps c in
+    let there = sym (sought a.After-has_id) ∙ c.if-not-has_id.false in
+    lays-opened c.args.self.now c.args.id c.args.steps.now c.has_id.new.steps c.unfold.new.steps c.turned.new.steps there (looked a.After-has_id) (taken a.After-unfold)
+    (c.turned.ensures.steps (RemoveFold c.args.id) (told a.After-share-2 c.in_ok-inlays.inlays c.in_ok-inlays.ensures there))
+
+pub returns-clause-steps : goal.returns-clause-steps
+returns-clause-steps c =
+    let a = goal.at.returns-clause-steps c in
+    let there = sym (sought a.After-has_id) ∙ c.if-not-has_id.false in
+    lays-opened c.args.self.now c.args.id c.args.steps.now c.has_id.new.steps c.unfold.new.steps c.turned.new.steps there (looked a.After-has_id) (taken a.After-unfold)
+    (c.turned.ensures.steps (RemoveFold c.args.id) (told a.After-share-2 c.in_ok-inlays.inlays c.in_ok-inlays.ensures there))

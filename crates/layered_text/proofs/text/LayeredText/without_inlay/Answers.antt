@@ -1,19 +1,23 @@
-use Rattle.std.proofs.Common.{◌≡◌, ◌==◌, ◌∙◌, Option, None, true, ap, refl, sym, subst}
+use Rattle.std.proofs.Common.{◌≡◌, ◌==◌, ◌∙◌, length, Option, None, true, ap, refl, sym, subst}
 use Rattle.std.specs.List.{Contains, list_any}
 use Rattle.cell_units.specs.declared.fault.Fault.TheVariants.{Refused}
 use Rattle.cell_units.specs.declared.fault.Refusal.{Refusal}
 use Rattle.cell_units.specs.declared.fault.Refusal.TheVariants.{UnknownId}
 use Rattle.cell_units.specs.Layers.{Source, unfolded}
 use Rattle.cell_units.specs.Operation.{RemoveInlay}
-use Rattle.cell_units.specs.Record.{Inlay}
 use Rattle.inlay_map.specs.Maps.{InlayState, IsOwed, remove_refusal, removed}
 use Rattle.inlay_map.proofs.Refusals.{known-id, owed-memory, unknown-id}
 use Rattle.inlay_map.proofs.Sent.{sent}
 use Rattle.fold_map.specs.Maps.{FoldState, state_of}
+use Rattle.sum_tree.specs.Bounds.{Searches}
+use Rattle.inlay_map.specs.Bounds.{SearchesOnce, changing}
+use Rattle.layered_text.specs.Bounds.{LaysAtMost}
 use Rattle.layered_text.specs.inside.Kept.{AreTold, inlays_of}
+use Rattle.layered_text.proofs.LaidSteps.{lays-removed, lays-sought_inlay}
+use Rattle.layered_text.proofs.ShownSteps.{shows-none}
 use Rattle.layered_text.proofs.Tellings.{told-removed}
 use Rattle.layered_text.proofs.text.LayeredText.without_inlay.Goals as goal
-use Rattle.layered_text.proofs.text.LayeredText.without_inlay.Goals.{After-has_id, After-share-2}
+use Rattle.layered_text.proofs.text.LayeredText.without_inlay.Goals.{After-has_id, After-remove, After-share-2}
 
 -- it is looked for in the source
 sought : (c : After-has_id) → c.has_id.result ≡ list_any (λ i. i.id == c.args.id) c.args.self.now.inlays
@@ -69,3 +73,54 @@ returns-clause-changed c =
 pub returns-clause-accepted : goal.returns-clause-accepted
 returns-clause-accepted c =
     sym (known-id c.args.self.now c.args.id (sym (sought (goal.at.returns-clause-accepted c).After-has_id) ∙ c.if-not-has_id.false))
+
+-- ---- steps
+
+-- those in which its id is looked for
+looked : (c : After-has_id) → Searches (length c.args.self.now.inlays) c.args.steps.now c.has_id.new.steps
+looked c =
+    subst (λ (v : Source). Searches (length v.inlays) c.args.steps.now c.has_id.new.steps)
+    (c.self.invariant.inlaid_is ∙ ap unfolded c.self.view_is) c.has_id.ensures.steps
+
+looked-only : (c : After-has_id) → LaysAtMost (RemoveInlay c.args.id) c.args.self.now c.args.steps.now c.has_id.new.steps
+looked-only c = lays-sought_inlay c.args.self.now c.args.id c.args.steps.now c.has_id.new.steps (looked c)
+
+-- and then it is taken off
+taken : (c : After-remove) → SearchesOnce changing c.args.self.now.text (length c.args.self.now.inlays) c.has_id.new.steps c.remove.new.steps
+taken c =
+    subst (λ (m : InlayState). SearchesOnce changing m.current.text (length m.current.inlays) c.has_id.new.steps c.remove.new.steps)
+    (c.in_ok-inlays.ensures ∙ c.self.invariant.inlays_are ∙ ap inlays_of c.self.view_is) c.remove.ensures.steps
+
+taken-only : (c : After-remove) → Searches (length c.args.self.now.inlays) c.args.steps.now c.has_id.new.steps
+    → LaysAtMost (RemoveInlay c.args.id) c.args.self.now c.args.steps.now c.remove.new.steps
+taken-only c first =
+    lays-removed c.args.self.now c.args.id c.args.steps.now c.has_id.new.steps c.remove.new.steps c.remove.new.steps first (taken c)
+    (shows-none (RemoveInlay c.args.id) c.args.self.now c.remove.new.steps)
+
+pub returns-then-not-has_id-clause-steps : goal.returns-then-not-has_id-clause-steps
+returns-then-not-has_id-clause-steps c = looked-only (goal.at.returns-then-not-has_id-clause-steps c).After-has_id
+
+pub returns-in_err-inlays-clause-steps : goal.returns-in_err-inlays-clause-steps
+returns-in_err-inlays-clause-steps c = looked-only (goal.at.returns-in_err-inlays-clause-steps c).After-has_id
+
+pub returns-in_err-remove-clause-steps : goal.returns-in_err-remove-clause-steps
+returns-in_err-remove-clause-steps c =
+    let a = goal.at.returns-in_err-remove-clause-steps c in taken-only a.After-remove (looked a.After-has_id)
+
+pub returns-in_err-folds-clause-steps : goal.returns-in_err-folds-clause-steps
+returns-in_err-folds-clause-steps c =
+    let a = goal.at.returns-in_err-folds-clause-steps c in taken-only a.After-remove (looked a.After-has_id)
+
+pub returns-in_err-turned-clause-steps : goal.returns-in_err-turned-clause-steps
+returns-in_err-turned-clause-steps c =
+    let a = goal.at.returns-in_err-turned-clause-steps c in
+    lays-removed c.args.self.now c.args.id c.args.steps.now c.has_id.new.steps c.remove.new.steps c.turned.new.steps (looked a.After-has_id) (taken a.After-remove)
+    (c.turned.ensures.steps (RemoveInlay c.args.id)
+    (told a.After-share-2 c.in_ok-folds.folds c.in_ok-folds.ensures (sym (sought a.After-has_id) ∙ c.if-not-has_id.false)))
+
+pub returns-clause-steps : goal.returns-clause-steps
+returns-clause-steps c =
+    let a = goal.at.returns-clause-steps c in
+    lays-removed c.args.self.now c.args.id c.args.steps.now c.has_id.new.steps c.remove.new.steps c.turned.new.steps (looked a.After-has_id) (taken a.After-remove)
+    (c.turned.ensures.steps (RemoveInlay c.args.id)
+    (told a.After-share-2 c.in_ok-folds.folds c.in_ok-folds.ensures (sym (sought a.After-has_id) ∙ c.if-not-has_id.false)))
