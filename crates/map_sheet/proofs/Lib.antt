@@ -19,3 +19,12 @@ pub mod Readings
 pub mod SpotPlaces
 pub mod Listing
 pub mod Sent
+pub mod StepSums
+pub mod ListPlaces
+pub mod TouchedLines
+pub mod AnewBlocks
+pub mod OperatedBlocks
+pub mod LandedBlocks
+pub mod Reached
+pub mod Works
+pub mod BlockWorks

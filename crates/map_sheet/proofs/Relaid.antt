@@ -2,7 +2,7 @@
 use Rattle.std.proofs.Common.{◌≡◌, ◌≤◌, ◌+◌, ℕ, List, Option, Some, drop, length, replicate, take, refl, sym, ap, subst, ◌∙◌, arith, append_assoc}
 use Rattle.cell_units.specs.declared.limits.TheConstants.{LAID_LIMIT}
 use Rattle.cell_units.specs.declared.place.Shift.{Shift}
-use Rattle.cell_units.specs.Lawful.{IsLawful}
+use Rattle.cell_units.specs.Lawful.{IsLawful, source_of}
 use Rattle.cell_units.specs.Layers.{Source}
 use Rattle.cell_units.specs.Operation.{Operation, operated}
 use Rattle.cell_units.specs.Record.{Record}
@@ -19,15 +19,19 @@ use Rattle.display_sheet.specs.LineSplices.{spliced}
 use Rattle.kept_sheet.specs.Kept.{widths_of}
 use Rattle.wrap_map.specs.Standing.{Standing, marks_after}
 use Rattle.wrap_map.proofs.Snapshots.{shown-have-rows}
+use Rattle.block_map.specs.Carried.{SyncsAtMost}
 use Rattle.block_map.specs.Follows.{IsFollowed}
 use Rattle.block_map.specs.Maps.{BlockState, synced}
 use Rattle.wrapped_lines.specs.WrappedSource as wrapped
 use Rattle.wrapped_lines.specs.WrappedSource.{WrappedSource}
-use Rattle.blocked_rows.specs.Laws.{FollowsOperations, MovesWithRecord, PlacesBlocks}
+use Rattle.blocked_rows.specs.Laws.{AreAsMany, FollowsOperations, MovesWithRecord, PlacesBlocks}
 use Rattle.blocked_rows.specs.Records.{IsRowSplice, kept_blocks, row_texts}
+use Rattle.blocked_rows.specs.Standing.{ArePlaced}
 use Rattle.blocked_rows.proofs.LinesShown.{shown-before, shown-lead}
+use Rattle.map_sheet.specs.Bounds.{ShowsAtMost, touched_blocks}
 use Rattle.map_sheet.specs.Changes.{IsRelaid}
 use Rattle.map_sheet.specs.Kept.{Keeps, lines_in}
+use Rattle.map_sheet.proofs.OperatedBlocks.{operated-shows}
 use Rattle.map_sheet.proofs.Operating.{after_of, lawful-after, operated-by}
 use Rattle.map_sheet.proofs.Rooms.{marks-each, rows-each, rows-room}
 
@@ -95,13 +99,13 @@ module _ (operation : Operation) (r : Record) (is : IsLawful r) (small : length 
   rows-single : rows_before (wrapped.row_texts lines) (run.start + run.count) ≡ rows_before (row_texts r) run.start + run.count
   rows-single = ap (λ (ls : Lines). rows_before ls (run.start + run.count)) rows-laid ∙ shown-before stood (wrapped.lines_of laid) run one_each leads
 
-  pub is-followed : FollowsOperations → PlacesBlocks → IsFollowed source shift rows (wrapped.row_texts lines) (kept_blocks r (row_texts r))
-  is-followed follows places =
+  -- the edit of rows replaces those of the lines that the operation touches
+  pub rows-spliced : let t = re.touches.touches in IsRowSplice (row_texts r) (wrapped.row_texts lines) rows t.front t.before t.after
+  rows-spliced =
       let t = re.touches.touches in
       let old = row_texts r in
       let new = wrapped.row_texts lines in
-      let s = kept_blocks r old in
-      let splice : IsRowSplice old new rows t.front t.before t.after = record {
+      record {
         have = shown-have-rows stood;
         leads =
             subst (λ (n : ℕ). LeadsAt old new t.front (t.front + t.before) n) re.touches.count_is
@@ -116,9 +120,24 @@ module _ (operation : Operation) (r : Record) (is : IsLawful r) (small : length 
             ∙ (λ i. replacement (rows_before old (re.touches.start_is i)) (rows_before old (re.touches.end_is i)) (re.touches.count_is i));
         fits = re.lines_are.fits;
         room = omega (arith, rows-room after after-lawful re.short, ap (λ (ls : Lines). length (all_rows ls)) rows-after);
-      } in
+      }
+
+  placed : PlacesBlocks → ArePlaced (source_of r) (kept_blocks r (row_texts r))
+  placed places = places r is.entries (row_texts r) (rows-each r is small) (rows-room r is small)
+
+  pub is-followed : FollowsOperations → PlacesBlocks → IsFollowed source shift rows (wrapped.row_texts lines) (kept_blocks r (row_texts r))
+  is-followed follows places =
+      let new = wrapped.row_texts lines in
+      let s = kept_blocks r (row_texts r) in
       subst (λ (x : Source). IsFollowed x shift rows new s) (sym re.source_is)
-      (follows operation r is.entries re.allowed t shift re.shift_is new rows s (places r is.entries old (rows-each r is small) (rows-room r is small)) splice)
+      (follows operation r is.entries re.allowed re.touches.touches shift re.shift_is new rows s (placed places) rows-spliced)
+
+  -- blocks at touched lines are shown anew
+  pub is-shown : PlacesBlocks → AreAsMany → (start end : ℕ) → SyncsAtMost shift rows (kept_blocks r (row_texts r)) start end
+      → ShowsAtMost (touched_blocks operation r) 1 r start end
+  is-shown places as_many start end syncs =
+      operated-shows operation r is.entries re.touches.touches (row_texts r) (wrapped.row_texts lines) rows rows-spliced
+      shift re.shift_is (rows-each r is small) (placed places) as_many start end syncs
 
   -- ---- the record
 

@@ -12,19 +12,24 @@ use Rattle.tab_map.specs.TabLines.{AreAll, AreMet, LinesFollow, lines_at}
 use Rattle.display_sheet.specs.declared.sheet.LineSplice.{LineSplice}
 use Rattle.display_sheet.specs.Sheets.{IsOperated}
 use Rattle.display_sheet.specs.Shown.{unstamped}
+use Rattle.plain_rows.specs.Reach.{blocks_at_lines}
+use Rattle.kept_sheet.specs.Kept.{placed_lines}
+use Rattle.block_map.specs.Carried.{SyncsAtMost}
 use Rattle.block_map.specs.Follows.{IsFollowed}
 use Rattle.block_map.specs.Maps.{BlockState, synced}
 use Rattle.wrapped_lines.specs.Changed.{IsLandedAt, IsRewrapped}
 use Rattle.wrapped_lines.specs.WrappedSource as wrapped
 use Rattle.wrapped_lines.specs.WrappedSource.{HaveRoom, WrappedSource}
-use Rattle.blocked_rows.specs.Laws.{FollowsOperations, FollowsRows, MovesWithRecord, PlacesBlocks}
+use Rattle.blocked_rows.specs.Laws.{AreAsMany, FollowsOperations, FollowsRows, MovesWithRecord, PlacesBlocks}
 use Rattle.blocked_rows.specs.Records.{kept_blocks, row_texts}
+use Rattle.map_sheet.specs.Bounds.{ShowsAtMost, touched_blocks}
 use Rattle.map_sheet.specs.Changes.{IsReblocked, IsRelaid, IsTurned, WasReblocked, WasRelaid, WasTurned}
 use Rattle.map_sheet.specs.Kept.{KeepSome, Keeps, lines_in}
 use Rattle.map_sheet.proofs.Landed as landed
 use Rattle.map_sheet.proofs.Landed.{landed-followed, landed-keeps}
+use Rattle.map_sheet.proofs.LandedBlocks.{landed-shows}
 use Rattle.map_sheet.proofs.Relaid as relaid
-use Rattle.map_sheet.proofs.Relaid.{is-followed, is-operated, relaid-keeps}
+use Rattle.map_sheet.proofs.Relaid.{is-followed, is-operated, is-shown, relaid-keeps}
 use Rattle.map_sheet.proofs.Tabbed.{tabbed-relaid}
 use Rattle.map_sheet.proofs.Turned.{follow, room-after, turned-relaid, turned-room}
 use Rattle.map_sheet.proofs.Unmoved.{reblocked, reblocked-keeps, reblocked-operated, widened, widened-keeps, widened-operated}
@@ -69,6 +74,12 @@ module _ (r : Record) (is : IsLawful r) where
           (subst (λ (y : Source). IsFollowed y shift rows (wrapped.row_texts lines) (kept_blocks r (row_texts r))) (sym layer_is)
           (is-followed was.0 r is small plain text lines run rows shift was.1 follows stand)))
 
+      pub step-shows : PlacesBlocks → AreAsMany → (start end : ℕ) → SyncsAtMost shift rows b start end → (operation : Operation) → IsRelaid operation r text lines run rows shift →
+          ShowsAtMost (touched_blocks operation r) 1 r start end
+      step-shows stand many start end syncs operation re =
+          is-shown operation r is small plain text lines run rows shift re stand many start end
+          (subst (λ (x : BlockState). SyncsAtMost shift rows x start end) b_is syncs)
+
       module _ (moves : MovesWithRecord) (blocks : BlockState) (blocks_are : blocks ≡ synced layer shift texts b) where
         blocks-moved : blocks ≡ synced text shift (wrapped.row_texts lines) (kept_blocks r (row_texts r))
         blocks-moved = blocks_are ∙ (λ i. synced (layer_is i) shift (texts_are i) (b_is i))
@@ -98,6 +109,12 @@ module _ (r : Record) (is : IsLawful r) where
           (subst (λ (t : Lines). IsFollowed layer None rows t (kept_blocks r (row_texts r))) (sym texts_are)
           (subst (λ (y : Source). IsFollowed y None rows (wrapped.row_texts lines) (kept_blocks r (row_texts r))) (sym layer_is)
           (landed-followed r is small places lines rows at follows stand)))
+
+      pub land-shows : PlacesBlocks → AreAsMany → (start end : ℕ) → SyncsAtMost None rows b start end →
+          ShowsAtMost (blocks_at_lines (placed_lines places r) r) (length places) r start end
+      land-shows stand many start end syncs =
+          landed-shows r is small places lines rows at stand many start end
+          (subst (λ (x : BlockState). SyncsAtMost None rows x start end) b_is syncs)
 
       pub land-keeps : MovesWithRecord → (text : Source) → text ≡ source_of r → (blocks : BlockState) → blocks ≡ synced layer None texts b →
           Keeps (landed.after r is small places lines rows at) text lines blocks

@@ -1,3 +1,4 @@
 pub mod Kept
 pub mod Changes
 pub mod Listed
+pub mod Bounds

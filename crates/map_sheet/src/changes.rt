@@ -10,6 +10,9 @@ ghost use Rattle.cell_units.specs.Operation.{AddBlock, AddFold, AddInlay, Operat
 ghost use Rattle.cell_units.specs.Record.{line_count};
 ghost use Rattle.display_sheet.specs.Changes.{fold_of, inlay_of, is_replacement, operation_of, replacement};
 ghost use Rattle.display_sheet.specs.Sheets.{IsOperated};
+ghost use Rattle.plain_rows.specs.Reach.{WorksAtMost};
+ghost use Rattle.kept_sheet.specs.Bounds.{ReplacesAtMost};
+ghost use Rattle.map_sheet.specs.Bounds.{RelaysAtMost, ShowsAtMost, touched_blocks};
 ghost use Rattle.map_sheet.specs.Changes.{IsMade, IsReblocked, IsRelaid, IsTurned, WasReblocked, WasRelaid, WasTurned};
 
 use crate::sheet::{Blocked, Layered, MapSheet};
@@ -64,6 +67,9 @@ impl MapSheet {
             IsTurned operation self.now turned.text turned.shown shift →
             IfOk result (λ made. IsOperated operation self.now made.0 made.1) }
         ensures counted { steps.old ≤ steps.new }
+        ensures steps { (operation : Operation) →
+            IsTurned operation self.now turned.text turned.shown shift →
+            RelaysAtMost operation self.now steps.old steps.new }
     {
         self.lawful();
         let layer = Layer::share(turned.text.layer())?;
@@ -86,6 +92,9 @@ impl MapSheet {
             IsRelaid operation self.now (arc_value text) made.lines made.run made.rows shift →
             IfOk result (λ new. IsOperated operation self.now new.0 new.1) }
         ensures counted { steps.old ≤ steps.new }
+        ensures steps { (operation : Operation) →
+            IsRelaid operation self.now (arc_value text) made.lines made.run made.rows shift →
+            ShowsAtMost (touched_blocks operation self.now) 1 self.now steps.old steps.new }
     {
         self.lawful();
         blocked_laws();
@@ -111,6 +120,7 @@ impl MapSheet {
         ensures done { IfOk result (λ made.
             IsOperated (replacement splice.now) self.now made.0 made.1) }
         ensures counted { steps.old ≤ steps.new }
+        ensures steps { ReplacesAtMost (replacement splice.now) self.now steps.old steps.new }
     {
         let text = splice.text.as_str();
         let made = self
@@ -129,6 +139,7 @@ impl MapSheet {
         requires { is_replacement op.now ≡ false }
         ensures made { IsMade (operation_of op.now) self.now result }
         ensures counted { steps.old ≤ steps.new }
+        ensures steps { WorksAtMost (operation_of op.now) self.now steps.old steps.new }
     {
         match op {
             Op::Replace(_) => unreachable!(),
@@ -164,6 +175,8 @@ impl MapSheet {
     ) -> Result<(MapSheet, LineSplice), Fault>
         ensures made { IsMade (AddInlay (inlay_of id offset bias text.now)) self.now result }
         ensures counted { steps.old ≤ steps.new }
+        ensures steps { let operation = AddInlay (inlay_of id offset bias text.now) in
+            WorksAtMost operation self.now steps.old steps.new }
     {
         self.lawful();
         let made = self
@@ -180,6 +193,7 @@ impl MapSheet {
     ) -> Result<(MapSheet, LineSplice), Fault>
         ensures made { IsMade (RemoveInlay id) self.now result }
         ensures counted { steps.old ≤ steps.new }
+        ensures steps { WorksAtMost (RemoveInlay id) self.now steps.old steps.new }
     {
         self.lawful();
         let made = self.text().without_inlay(alloc, id, steps)?;
@@ -196,6 +210,7 @@ impl MapSheet {
     ) -> Result<(MapSheet, LineSplice), Fault>
         ensures made { IsMade (AddFold (fold_of id start end)) self.now result }
         ensures counted { steps.old ≤ steps.new }
+        ensures steps { WorksAtMost (AddFold (fold_of id start end)) self.now steps.old steps.new }
     {
         self.lawful();
         let made = self.text().with_fold(alloc, id, start, end, steps)?;
@@ -210,6 +225,7 @@ impl MapSheet {
     ) -> Result<(MapSheet, LineSplice), Fault>
         ensures made { IsMade (RemoveFold id) self.now result }
         ensures counted { steps.old ≤ steps.new }
+        ensures steps { WorksAtMost (RemoveFold id) self.now steps.old steps.new }
     {
         self.lawful();
         let made = self.text().without_fold(alloc, id, steps)?;
@@ -224,6 +240,7 @@ impl MapSheet {
     ) -> Result<(MapSheet, LineSplice), Fault>
         ensures made { IsMade (SetTab size) self.now result }
         ensures counted { steps.old ≤ steps.new }
+        ensures steps { WorksAtMost (SetTab size) self.now steps.old steps.new }
     {
         self.lawful();
         let made = self.wrapped().with_tab(alloc, size, steps)?;
@@ -267,6 +284,7 @@ impl MapSheet {
     ) -> Result<(MapSheet, LineSplice), Fault>
         ensures made { IsMade (AddBlock row id side lines.now) self.now result }
         ensures counted { steps.old ≤ steps.new }
+        ensures steps { WorksAtMost (AddBlock row id side lines.now) self.now steps.old steps.new }
     {
         self.lawful();
         blocked_laws();
@@ -286,6 +304,7 @@ impl MapSheet {
     ) -> Result<(MapSheet, LineSplice), Fault>
         ensures made { IsMade (RemoveBlock id) self.now result }
         ensures counted { steps.old ≤ steps.new }
+        ensures steps { WorksAtMost (RemoveBlock id) self.now steps.old steps.new }
     {
         self.lawful();
         blocked_laws();

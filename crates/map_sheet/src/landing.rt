@@ -1,10 +1,12 @@
 //! A landing of lines that were wrapped elsewhere.
-ghost use Rattle.std.specs.Prelude.{◌≡◌, ◌≤◌, IfOk};
+ghost use Rattle.std.specs.Prelude.{◌≡◌, ◌≤◌, length, IfOk};
+ghost use Rattle.plain_rows.specs.Reach.{LandsAtMost, blocks_at_lines};
 ghost use Rattle.plain_rows.specs.Rows.{line_elements};
 ghost use Rattle.display_sheet.specs.Landing.{lists_of, with_landed_lines};
 ghost use Rattle.kept_sheet.specs.Kept as kept;
-ghost use Rattle.kept_sheet.specs.Kept.{AreLinesAt, IsRising, cuts_in, standing};
+ghost use Rattle.kept_sheet.specs.Kept.{AreLinesAt, IsRising, cuts_in, placed_lines, standing};
 ghost use Rattle.wrapped_lines.specs.Changed.{IsLandedAt};
+ghost use Rattle.map_sheet.specs.Bounds.{ShowsAtMost};
 ghost use Rattle.map_sheet.specs.Kept.{lines_in};
 
 use crate::sheet::{Held, Layered, MapSheet};
@@ -32,6 +34,8 @@ impl MapSheet {
         ensures landed { IfOk result (λ sheet.
             sheet ≡ with_landed_lines self.now.width places.now self.now) }
         ensures counted { steps.old ≤ steps.new }
+        ensures steps { let lines = placed_lines places.now self.now in
+            LandsAtMost run.count lines self.now steps.old steps.new }
     {
         let made = self
             .wrapped()
@@ -51,6 +55,8 @@ impl MapSheet {
         ensures landed { IfOk result (λ sheet.
             sheet ≡ with_landed_lines self.now.width places.now self.now) }
         ensures counted { steps.old ≤ steps.new }
+        ensures steps { let anew = blocks_at_lines (placed_lines places.now self.now) self.now in
+            ShowsAtMost anew (length places.now) self.now steps.old steps.new }
     {
         self.lawful();
         blocked_laws();

@@ -5,7 +5,8 @@
 //! three counts and no memory. A change makes anew only the parts that it touches, and gives a new sheet, so an error leaves
 //! nothing to undo.
 //!
-//! The crate promises all that the trait `Sheet` asks, and of no call how long it takes.
+//! The crate promises all that the traits `Sheet` and `JobSheet` ask, with the bounds on the steps of changes and
+//! landings, and of no call how long it takes.
 #![tactic(auto)]
 
 mod changes;

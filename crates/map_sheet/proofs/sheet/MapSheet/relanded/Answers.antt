@@ -1,8 +1,8 @@
-use Rattle.std.proofs.Common.{ap, ◌∙◌}
+use Rattle.std.proofs.Common.{ap, ◌∙◌, arith}
 use Rattle.std.specs.Arc.{arc_value}
 use Rattle.wrap_map.specs.Standing.{shown_rows}
 use Rattle.map_sheet.proofs.Landed as landed
-use Rattle.map_sheet.proofs.Steps.{land-followed, land-keeps}
+use Rattle.map_sheet.proofs.Steps.{land-followed, land-keeps, land-shows}
 use Rattle.map_sheet.proofs.Sent.{sheet_sent}
 use Rattle.map_sheet.proofs.sheet.MapSheet.relanded.Goals as goal
 
@@ -53,3 +53,30 @@ returns-clause-landed c =
     c.blocked.result.now c.blocked.ensures c.layer-layer.result.now (c.layer-layer.ensures ∙ c.text.ensures)
     (shown_rows c.in_ok-rows.rows) (c.in_ok-rows.ensures ∙ ap shown_rows c.rows.ensures)
     c.blocked_laws.ensures.moves (arc_value c.in_ok-text.text) c.in_ok-text.ensures c.in_ok-blocks.blocks c.in_ok-blocks.ensures.made)
+
+pub returns-in_err-rows-clause-steps : goal.returns-in_err-rows-clause-steps
+returns-in_err-rows-clause-steps c h before = omega arith
+
+pub returns-in_err-blocks-clause-steps : goal.returns-in_err-blocks-clause-steps
+returns-in_err-blocks-clause-steps c =
+    land-shows c.args.self.now c.lawful.ensures.lawful c.lawful.ensures.short c.lawful.ensures.plain
+    c.args.places.now c.args.made.lines c.args.made.rows c.requires
+    c.blocked.result.now c.blocked.ensures c.layer-layer.result.now (c.layer-layer.ensures ∙ c.text.ensures)
+    (shown_rows c.in_ok-rows.rows) (c.in_ok-rows.ensures ∙ ap shown_rows c.rows.ensures)
+    c.blocked_laws.ensures.places c.blocked_laws.ensures.many c.args.steps.now c.after.new.steps c.after.ensures.steps
+
+pub returns-in_err-text-clause-steps : goal.returns-in_err-text-clause-steps
+returns-in_err-text-clause-steps c =
+    land-shows c.args.self.now c.lawful.ensures.lawful c.lawful.ensures.short c.lawful.ensures.plain
+    c.args.places.now c.args.made.lines c.args.made.rows c.requires
+    c.blocked.result.now c.blocked.ensures c.layer-layer.result.now (c.layer-layer.ensures ∙ c.text.ensures)
+    (shown_rows c.in_ok-rows.rows) (c.in_ok-rows.ensures ∙ ap shown_rows c.rows.ensures)
+    c.blocked_laws.ensures.places c.blocked_laws.ensures.many c.args.steps.now c.after.new.steps c.after.ensures.steps
+
+pub returns-clause-steps : goal.returns-clause-steps
+returns-clause-steps c =
+    land-shows c.args.self.now c.lawful.ensures.lawful c.lawful.ensures.short c.lawful.ensures.plain
+    c.args.places.now c.args.made.lines c.args.made.rows c.requires
+    c.blocked.result.now c.blocked.ensures c.layer-layer.result.now (c.layer-layer.ensures ∙ c.text.ensures)
+    (shown_rows c.in_ok-rows.rows) (c.in_ok-rows.ensures ∙ ap shown_rows c.rows.ensures)
+    c.blocked_laws.ensures.places c.blocked_laws.ensures.many c.args.steps.now c.after.new.steps c.after.ensures.steps

@@ -1,7 +1,7 @@
-use Rattle.std.proofs.Common.{ap, ◌∙◌}
+use Rattle.std.proofs.Common.{ap, ◌∙◌, arith}
 use Rattle.std.specs.Arc.{arc_value}
 use Rattle.wrap_map.specs.Standing.{shown_rows}
-use Rattle.map_sheet.proofs.Steps.{step-followed, step-operated, step-some}
+use Rattle.map_sheet.proofs.Steps.{step-followed, step-operated, step-shows, step-some}
 use Rattle.map_sheet.proofs.Sent.{sheet_sent}
 use Rattle.map_sheet.proofs.sheet.MapSheet.rewrapped.Goals as goal
 
@@ -48,3 +48,30 @@ returns-clause-done c operation relaid =
     c.blocked_laws.ensures.moves c.in_ok-blocks.blocks c.in_ok-blocks.ensures.made
     c.in_ok-sheet.sheet c.in_ok-sheet.ensures c.spliced-splice.result c.spliced-splice.ensures.first c.spliced-splice.ensures.end c.spliced-splice.ensures.count
     operation relaid
+
+pub returns-in_err-rows-clause-steps : goal.returns-in_err-rows-clause-steps
+returns-in_err-rows-clause-steps c operation relaid h before = omega arith
+
+pub returns-in_err-blocks-clause-steps : goal.returns-in_err-blocks-clause-steps
+returns-in_err-blocks-clause-steps c =
+    step-shows c.args.self.now c.lawful.ensures.lawful c.lawful.ensures.short c.lawful.ensures.plain
+    (arc_value c.args.text) c.args.made.lines c.args.made.run c.args.made.rows c.args.shift
+    c.blocked.result.now c.blocked.ensures c.layer.result.now (c.layer.ensures ∙ c.deref.ensures)
+    (shown_rows c.in_ok-rows.rows) (c.in_ok-rows.ensures ∙ ap shown_rows c.rows.ensures)
+    c.blocked_laws.ensures.places c.blocked_laws.ensures.many c.args.steps.now c.after.new.steps c.after.ensures.steps
+
+pub returns-in_err-sheet-clause-steps : goal.returns-in_err-sheet-clause-steps
+returns-in_err-sheet-clause-steps c =
+    step-shows c.args.self.now c.lawful.ensures.lawful c.lawful.ensures.short c.lawful.ensures.plain
+    (arc_value c.args.text) c.args.made.lines c.args.made.run c.args.made.rows c.args.shift
+    c.blocked.result.now c.blocked.ensures c.layer.result.now (c.layer.ensures ∙ c.deref.ensures)
+    (shown_rows c.in_ok-rows.rows) (c.in_ok-rows.ensures ∙ ap shown_rows c.rows.ensures)
+    c.blocked_laws.ensures.places c.blocked_laws.ensures.many c.args.steps.now c.after.new.steps c.after.ensures.steps
+
+pub returns-clause-steps : goal.returns-clause-steps
+returns-clause-steps c =
+    step-shows c.args.self.now c.lawful.ensures.lawful c.lawful.ensures.short c.lawful.ensures.plain
+    (arc_value c.args.text) c.args.made.lines c.args.made.run c.args.made.rows c.args.shift
+    c.blocked.result.now c.blocked.ensures c.layer.result.now (c.layer.ensures ∙ c.deref.ensures)
+    (shown_rows c.in_ok-rows.rows) (c.in_ok-rows.ensures ∙ ap shown_rows c.rows.ensures)
+    c.blocked_laws.ensures.places c.blocked_laws.ensures.many c.args.steps.now c.after.new.steps c.after.ensures.steps

@@ -1,6 +1,7 @@
 use Rattle.std.proofs.Common.{◌∙◌, rules}
 use Rattle.cell_units.specs.Operation.{AddBlock}
 use Rattle.map_sheet.proofs.BlockSteps.{block-accepted, block-made, block-refused, blocks-stand}
+use Rattle.map_sheet.proofs.BlockWorks.{block-works}
 use Rattle.map_sheet.proofs.Sent.{sheet_sent}
 use Rattle.map_sheet.proofs.sheet.MapSheet.with_block.Goals as goal
 
@@ -54,3 +55,18 @@ returns-in_err-reblocked-clause-made c =
     c.blocked_laws.ensures.ids c.blocked_laws.ensures.many c.args.row c.args.id c.row_start-offset.result c.args.side c.args.lines.now c.row_start-offset.ensures.start c.row_start-offset.ensures.past
     c.in_ok-blocks.ensures.accepted in
     search (rules, none)
+
+pub returns-in_err-blocks-clause-steps : goal.returns-in_err-blocks-clause-steps
+returns-in_err-blocks-clause-steps c =
+    block-works c.args.self.now c.blocked.result.now c.blocked.ensures c.blocked_laws.ensures.many c.args.steps.now c.with_block.new.steps
+    c.args.row c.args.id c.args.side c.args.lines.now c.with_block.ensures.steps
+
+pub returns-in_err-reblocked-clause-steps : goal.returns-in_err-reblocked-clause-steps
+returns-in_err-reblocked-clause-steps c =
+    block-works c.args.self.now c.blocked.result.now c.blocked.ensures c.blocked_laws.ensures.many c.args.steps.now c.with_block.new.steps
+    c.args.row c.args.id c.args.side c.args.lines.now c.with_block.ensures.steps
+
+pub returns-clause-steps : goal.returns-clause-steps
+returns-clause-steps c =
+    block-works c.args.self.now c.blocked.result.now c.blocked.ensures c.blocked_laws.ensures.many c.args.steps.now c.with_block.new.steps
+    c.args.row c.args.id c.args.side c.args.lines.now c.with_block.ensures.steps

@@ -1,6 +1,7 @@
 use Rattle.std.proofs.Common.{◌∙◌, rules}
 use Rattle.cell_units.specs.Operation.{RemoveBlock}
 use Rattle.map_sheet.proofs.BlockSteps.{blocks-stand, unblock-accepted, unblock-made, unblock-refused}
+use Rattle.map_sheet.proofs.BlockWorks.{unblock-works}
 use Rattle.map_sheet.proofs.Sent.{sheet_sent}
 use Rattle.map_sheet.proofs.sheet.MapSheet.without_block.Goals as goal
 
@@ -49,3 +50,18 @@ returns-in_err-reblocked-clause-made c =
     let none = unblock-accepted c.args.self.now c.lawful.ensures.lawful c.lawful.ensures.short c.blocked.result.now c.blocked.ensures c.layer.result.now (c.layer.ensures ∙ c.text.ensures)
     c.blocked_laws.ensures.ids c.args.id c.in_ok-blocks.ensures.accepted in
     search (rules, none)
+
+pub returns-in_err-blocks-clause-steps : goal.returns-in_err-blocks-clause-steps
+returns-in_err-blocks-clause-steps c =
+    unblock-works c.args.self.now c.blocked.result.now c.blocked.ensures c.blocked_laws.ensures.many c.args.steps.now c.without_block.new.steps
+    c.args.id c.without_block.ensures.steps
+
+pub returns-in_err-reblocked-clause-steps : goal.returns-in_err-reblocked-clause-steps
+returns-in_err-reblocked-clause-steps c =
+    unblock-works c.args.self.now c.blocked.result.now c.blocked.ensures c.blocked_laws.ensures.many c.args.steps.now c.without_block.new.steps
+    c.args.id c.without_block.ensures.steps
+
+pub returns-clause-steps : goal.returns-clause-steps
+returns-clause-steps c =
+    unblock-works c.args.self.now c.blocked.result.now c.blocked.ensures c.blocked_laws.ensures.many c.args.steps.now c.without_block.new.steps
+    c.args.id c.without_block.ensures.steps
