@@ -21,6 +21,7 @@ pub mod LawfulReplays
 pub mod LinePatches
 pub mod Lowered
 pub mod NextRuns
+pub mod Noted
 pub mod OpenedDisplays
 pub mod OutRuns
 pub mod Outstanding

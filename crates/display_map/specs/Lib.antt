@@ -9,6 +9,7 @@ pub mod LawfulStates
 pub mod LinePatches
 pub mod OutRuns
 pub mod Outs
+pub mod Prepared
 pub mod Replay
 pub mod Sending
 pub mod Splicing

@@ -258,6 +258,21 @@ impl<S: Sheet> DisplayOn<S> {
         })
     }
 
+    /// The same display once more, which shares all but the list of the jobs that are out.
+    pub fn copied(&self, alloc: Global) -> Result<DisplayOn<S>, NoMemory>
+        ensures { IfOk result (λ copy. copy ≡ self.now) }
+    {
+        Ok(DisplayOn {
+            opening: self.opening.share()?,
+            journal: self.journal.share()?,
+            sheet: self.sheet.share()?,
+            outs: outs::copied(alloc, &self.outs)?,
+            versions: self.versions,
+            jobs: self.jobs,
+            first: self.first,
+        })
+    }
+
     /// Its history is lawful, so the laws of histories, of records and of what they show hold of it. It does nothing.
     pub fn lawful(&self)
         ensures { IsLawfulHistory self.now }

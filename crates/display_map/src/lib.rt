@@ -10,6 +10,7 @@ mod held;
 pub mod journal;
 pub mod laws;
 mod outs;
+pub mod prepared;
 mod splicing;
 pub mod version;
 pub mod view;
@@ -23,5 +24,6 @@ pub use laws::{
     job_laws, landing_laws, line_patch_laws, replay_laws, stamp_laws, worked_line_patches,
 };
 pub use map_sheet::Held;
+pub use prepared::{Prepared, PreparedOn};
 pub use version::{Version, VersionOn};
 pub use view::{View, ViewOn};

@@ -21,6 +21,8 @@ mod lines;
 #[cfg(test)]
 mod plain;
 #[cfg(test)]
+mod prepared;
+#[cfg(test)]
 mod starts;
 #[cfg(test)]
 mod work;

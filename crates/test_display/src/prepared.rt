@@ -1,0 +1,63 @@
+//! Changes that are prepared beside a display, and taken later.
+ghost use Rattle.std.specs.Prelude.{◌≡◌, IfOk};
+
+use crate::displays::{assert_events, assert_row};
+use cell_units::{Fault, Refusal, Steps, Text};
+use display_map::{Change, Display, Kind, Op, Prepared, Splice};
+use std::alloc::Global;
+use std::process::Abort;
+use std::test::Fail;
+
+/// Prepares the insertion of a letter at an offset, which the seventh line of a script asks for.
+fn prepare_letter(
+    rt: &impl Abort,
+    alloc: Global,
+    display: &Display,
+    offset: u32,
+) -> Result<Prepared, Fault>
+    ensures { IfOk result (λ ready. ready.before ≡ display.now) }
+{
+    assert!(rt; display.room() >= 2);
+    let splice = Splice {
+        start: offset,
+        end: offset,
+        text: Text::from_str(alloc, "x")?,
+    };
+    let change = Change::One(Op::Replace(splice));
+    display.prepare(alloc, 7, &change, &mut Steps::new())
+}
+
+/// Asserts that the one row of the display is this.
+fn assert_text(rt: &impl Abort, alloc: Global, display: &Display, text: &str) -> Result<(), Fail> {
+    let view = display.view()?;
+    assert_row(rt, alloc, &view, 0, Kind::Head, text)
+}
+
+/// Puts a letter after the first one of `abc`, which shows only once it is taken.
+fn put_letter(rt: &impl Abort, alloc: Global, display: &mut Display) -> Result<(), Fail> {
+    let ready = prepare_letter(rt, alloc, display, 1)?;
+    assert_text(rt, alloc, display, "abc")?;
+    display.commit(ready);
+    assert_text(rt, alloc, display, "axbc")
+}
+
+#[test]
+fn a_prepared_change_shows_once_it_is_taken(rt: HostRuntime) -> Result<(), Fail> {
+    let alloc = rt.alloc();
+    let mut display = Display::start(alloc, b"abc", &mut Steps::new())?;
+    put_letter(&rt, alloc, &mut display)?;
+    let journal = display.into_journal();
+    assert_events(&rt, &journal, &["Line", "Did"]);
+    Ok(())
+}
+
+#[test]
+fn a_change_that_is_refused_is_not_prepared(rt: HostRuntime) -> Result<(), Fail> {
+    let alloc = rt.alloc();
+    let display = Display::start(alloc, b"abc", &mut Steps::new())?;
+    match prepare_letter(&rt, alloc, &display, 9) {
+        Err(fault) => assert_eq!(rt; fault, Fault::Refused(Refusal::BadRange)),
+        Ok(_) => panic!(rt; "it was prepared"),
+    }
+    Ok(())
+}
