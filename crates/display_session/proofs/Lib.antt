@@ -1,4 +1,5 @@
 pub mod Lines
 pub mod LoneDisplays
 pub mod Settled
+pub mod Slices
 pub mod Wrapping

@@ -7,7 +7,7 @@ use Rattle.cell_units.specs.Record.{Mark}
 use Rattle.display_map.specs.Replay.{SentJob, State, waits, is_held, holds, run_from, first_waiting, next_run, is_settled}
 use Rattle.display_session.specs.LoneDisplays.{have_landed}
 
-if-none : {X : Type 0} (b : Bool) (x : X) → (if b then None else Some x) ≡ None → b ≡ true
+pub if-none : {X : Type 0} (b : Bool) (x : X) → (if b then None else Some x) ≡ None → b ≡ true
 if-none true x e = refl
 if-none false x e = cc
 

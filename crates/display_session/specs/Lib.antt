@@ -2,5 +2,6 @@ pub mod Answers
 pub mod CaretLines
 pub mod Lines
 pub mod LoneDisplays
+pub mod Slices
 pub mod Troubles
 pub mod Wrapping

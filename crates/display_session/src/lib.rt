@@ -9,6 +9,7 @@ mod answering;
 mod caret_lines;
 mod lone;
 pub mod session;
+mod text_parts;
 pub mod trouble;
 
 pub use session::Session;

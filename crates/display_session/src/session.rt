@@ -1,5 +1,5 @@
 //! A session.
-ghost use Rattle.std.specs.Prelude.{◌≡◌, ◌≤◌, true, false, [], ◌∷◌, None, length, map, option_map, slice_get, string_bytes, IfErr, IfNone, IfOk, MatchResult, OnErr, OnOk};
+ghost use Rattle.std.specs.Prelude.{◌≡◌, ◌≤◌, true, false, [], ◌∷◌, None, length, map, option_map, slice_get, slice_range, string_bytes, IfErr, IfNone, IfOk, MatchResult, OnErr, OnOk};
 ghost use Rattle.std.specs.Str.{IsUtf8};
 ghost use Rattle.cell_units.specs.Refusal.{IsAccepted, IsTextRefused};
 ghost use Rattle.cell_units.specs.Text.{clean};
@@ -16,12 +16,14 @@ ghost use Rattle.edit_script.specs.Verdict.{Accepted, command_refusal, query_ref
 ghost use Rattle.display_session.specs.Answers.{filled_with, printed, row_of};
 ghost use Rattle.display_session.specs.CaretLines.{caret_lines};
 ghost use Rattle.display_session.specs.Lines.{HasDone, HasDoneAt, HasFailedAt, IsReady, IsSettled, query_verdict, verdict_on};
+ghost use Rattle.display_session.specs.Slices.{slice_refusal};
 ghost use Rattle.display_session.specs.Troubles.{IsEditRefused, IsOwed, IsUnwrapped};
 ghost use Rattle.display_session.specs.Wrapping.{IsWrapped};
 
 use crate::answering::{answer_text, wants_settled};
 use crate::caret_lines::caret_answer;
 use crate::lone::LoneDisplay;
+use crate::text_parts::{text_between, text_len};
 use crate::trouble::Trouble;
 use cell_units::{Bias, NoMemory, Refusal, Spot, Steps, Text, TextFault};
 use display_map::{Change, Kind, Op, Splice};
@@ -273,6 +275,34 @@ impl Session {
             out[..count].copy_from_slice(&bytes[from..from + count]);
         }
         bytes.len()
+    }
+
+    /// How many bytes the text has.
+    pub fn text_len(&self) -> Result<u32, NoMemory>
+        ensures { IfOk result (λ bytes. bytes ≡ length (present_of self.now.display).text) }
+    {
+        Ok(text_len(&self.display.view()?))
+    }
+
+    /// Keeps the bytes of the text from `start` to `end` as the answer. `BadRange` unless these are boundaries in order.
+    /// A call that fails leaves the session as it was.
+    pub fn slice(&mut self, alloc: Global, start: u32, end: u32) -> Result<(), Trouble>
+        // When it is done, and what is kept then.
+        ensures accepted { OnOk result
+            (slice_refusal (present_of self.old.display).text start end ≡ None) }
+        ensures sliced { OnOk result (string_bytes self.new.answer
+            ≡ slice_range (present_of self.old.display).text start end) }
+        ensures display { self.new.display ≡ self.old.display }
+
+        // Why it is refused, and that nothing is changed then.
+        ensures refused { IfErr result
+            (IsOwed (slice_refusal (present_of self.old.display).text start end)) }
+        ensures unchanged { OnErr result (self.new ≡ self.old) }
+    {
+        let view = self.display.view()?;
+        let text = text_between(alloc, &view, start, end)?;
+        self.answer = String::from_str(alloc, text.as_str())?;
+        Ok(())
     }
 
     /// How many rows there are.
