@@ -8,6 +8,7 @@ use Rattle.cell_units.specs.declared.limits.TheConstants.{TEXT_LIMIT}
 use Rattle.cell_units.specs.Record.{Mark, Record}
 use Rattle.cell_line.specs.declared.element.Element.{Element}
 use Rattle.plain_rows.specs.Plain.{marks_of}
+use Rattle.plain_rows.specs.Reach.{LandsAtMost}
 use Rattle.plain_rows.specs.Rows.{line_elements}
 use Rattle.wrap_workers.specs.Jobs.{IsRunIn, JobParts, wraps_of}
 use Rattle.display_sheet.specs.Landing.{landed_at, with_landed_lines}
@@ -19,11 +20,12 @@ use Rattle.kept_sheet.specs.Kept.{AreLinesAt, IsRising, cuts_in, lines_in, stand
 use Rattle.display_map.specs.Displays.{KeepsDisplay, KeepsShortDisplay, unlanded}
 use Rattle.display_map.specs.Events.{Event, Landed}
 use Rattle.display_map.specs.Outs.{AreAt, AreOut, IsOut, OutParts}
-use Rattle.display_map.specs.Replay.{History, SentJob, State, appended, job_numbered, state_of}
+use Rattle.display_map.specs.Replay.{History, SentJob, State, appended, job_numbered, lines_landed_on, state_of}
 use Rattle.display_map.specs.Sending.{IsOutstanding}
-use Rattle.display_map.specs.Works.{LinesFit, with_landed}
+use Rattle.display_map.specs.Works.{LinesFit, landing_lines, with_landed}
 use Rattle.display_map.proofs.Jobs.{job_numbered-at, landed_marks, slice_get_some}
 use Rattle.display_map.proofs.LandedCuts.{AreFrom, lines-at, run-from}
+use Rattle.display_map.proofs.LandedSteps.{lands-stamped}
 use Rattle.display_map.proofs.LandedDisplays.{kept-landed, widths-after}
 use Rattle.display_map.proofs.Outstanding.{IsStillOut, no_job, still_out}
 use Rattle.display_map.proofs.Stamps.{stamps}
@@ -129,6 +131,15 @@ module _ (h : History) (sheet : Record) (outs : List OutParts) (versions jobs fi
         these =
             let count : job.run.first + job.run.count - job.run.first ≡ job.run.count = omega arith in
             ap (λ (n : ℕ). take n (drop job.run.first job.lines)) count
+
+  -- its landing takes as many steps as the history says
+  pub landing-takes : (count start end : ℕ) → LandsAtMost count (landing_lines sheet (find (λ out. eqb out.number job.number) outs)) sheet start end →
+      LandsAtMost count (lines_landed_on r (job_numbered job.number s.jobs)) r start end
+  landing-takes count start end takes =
+      subst (λ (j : Option SentJob). LandsAtMost count (lines_landed_on r j) r start end) (sym by_number)
+      (lands-stamped r sent f.out f.is count start end
+      (subst (λ (q : Record). LandsAtMost count (landing_lines q (Some f.out)) q start end) (sym k.sheet_is)
+      (subst (λ (o : Option OutParts). LandsAtMost count (landing_lines sheet o) sheet start end) f.found takes)))
 
   marks-after : marks_of (widths (landed_marks r (Some sent))) ≡ marks_of (cond (eqb sent.width r.width) (landed_at sent.width f.out.lines (widths r.marks)) (widths r.marks))
   marks-after = ap marks_of (widths-after r sent f.out.lines k.stamped.once f.is.lines)

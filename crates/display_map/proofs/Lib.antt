@@ -42,3 +42,7 @@ pub mod WorkedBatches
 pub mod WorkedPatches
 pub mod Works
 pub mod Sent
+pub mod StampedWorks
+pub mod SplicedWorks
+pub mod LandedSteps
+pub mod AppliedWorks

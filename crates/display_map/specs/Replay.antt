@@ -41,6 +41,12 @@ landed_on r None = r
 landed_on r (Some job) =
     if job.width == r.width then record r { marks = wrapped_at job.width job.stamps r.marks } else r
 
+-- of each present line, whether the landing of a job sets its mark
+abbrev pub lines_landed_on : Record → Option SentJob → List Bool
+lines_landed_on r None = []
+lines_landed_on r (Some job) =
+    if job.width == r.width then map (λ m. holds job.stamps m.stamp) r.marks else []
+
 abbrev pub job_numbered : ℕ → List SentJob → Option SentJob
 job_numbered number jobs = find (λ job. job.number == number) jobs
 

@@ -1,12 +1,12 @@
 -- What a change makes of a record that a display keeps, and of the jobs that are out.
-use Rattle.std.specs.Prelude.{ℕ, ◌≡◌, ◌==◌, if◌then◌else◌, List, map, Option, Some, None}
+use Rattle.std.specs.Prelude.{ℕ, ◌≡◌, ◌==◌, if◌then◌else◌, Bool, List, [], map, Option, Some, None}
 use Rattle.cell_line.specs.declared.element.Element.{Element}
 use Rattle.cell_line.specs.declared.lines.Run.{Run}
 use Rattle.cell_units.specs.Operation.{Operation}
 use Rattle.cell_units.specs.Record.{Record}
 use Rattle.plain_rows.specs.Rows.{line_elements}
 use Rattle.display_sheet.specs.Landing.{with_landed_lines}
-use Rattle.kept_sheet.specs.Kept.{AreLinesAt, IsRising, cuts_in, lines_in, standing}
+use Rattle.kept_sheet.specs.Kept.{AreLinesAt, IsRising, cuts_in, lines_in, placed_lines, standing}
 use Rattle.display_map.specs.Displays.{KeepsDisplay}
 use Rattle.display_map.specs.Events.{Did}
 use Rattle.display_map.specs.Outs.{OutParts}
@@ -31,6 +31,11 @@ IsWork ops sheet outs sheet' outs' =
 abbrev pub with_landed : Record → Option OutParts → Record
 with_landed r None = r
 with_landed r (Some out) = if out.width == r.width then with_landed_lines out.width out.lines r else r
+
+-- of each line, whether the landing of a job wraps it
+abbrev pub landing_lines : Record → Option OutParts → List Bool
+landing_lines r None = []
+landing_lines r (Some out) = if out.width == r.width then placed_lines out.lines r else []
 
 -- the lines of the run that the job was made of are those at its places now, in order. The cuts are those of these
 -- lines

@@ -1,15 +1,18 @@
 //! The display: its start, its changes, the jobs that it sends and lands, and its versions.
 ghost use Rattle.std.specs.Prelude.{◌≡◌, ◌+◌, ◌≤◌, false, [], ◌∷◌, None, length, map, OnOk, OnErr, IfOk, IfErr, MatchResult};
 ghost use Rattle.cell_units.specs.declared.limits.TheConstants.{TEXT_LIMIT};
+ghost use Rattle.cell_units.specs.Operation.{Operation};
 ghost use Rattle.cell_units.specs.Record.{opened};
 ghost use Rattle.cell_units.specs.Refusal.{IsAccepted, IsTextRefused};
 ghost use Rattle.cell_units.specs.Text.{IsText, clean};
-ghost use Rattle.display_sheet.specs.Changes.{batch, change_refusal, edit_refusal, is_replacement, operation_of, operation_refusal, ops_of};
+ghost use Rattle.plain_rows.specs.Reach.{LandsAtMost, WorksAtMost};
+ghost use Rattle.display_sheet.specs.declared.change.Splice.{Splice};
+ghost use Rattle.display_sheet.specs.Changes.{batch, change_refusal, edit_refusal, entries_in, is_replacement, operation_of, operation_refusal, ops_of, parts_of, replacement};
 ghost use Rattle.display_sheet.specs.Faults.{IsRefusedAs};
 ghost use Rattle.display_sheet.specs.Shown.{unstamped};
 ghost use Rattle.display_map.specs.Events.{Did, Landed, Line, Published, event_limit};
 ghost use Rattle.display_map.specs.LawfulStates.{IsLawfulHistory};
-ghost use Rattle.display_map.specs.Replay.{appended, is_settled, present_of};
+ghost use Rattle.display_map.specs.Replay.{appended, is_settled, job_numbered, lines_landed_on, present_of, state_of};
 ghost use Rattle.display_map.specs.Sending.{IsOutstanding, IsRunTakenOn, seen_job};
 
 use crate::event::Event;
@@ -162,8 +165,10 @@ impl<S: Sheet> DisplayOn<S> {
             (IsRefusedAs (edit_refusal (present_of self.old) splices.now)) }
         ensures unchanged { OnErr result (self.new ≡ self.old) }
 
-        // The work.
+        // The work, which is bounded where there is one replacement alone.
         ensures counted { steps.old ≤ steps.new }
+        ensures steps { (splice : Splice) → splices.now ≡ splice ∷ [] →
+            WorksAtMost (replacement splice) (present_of self.old) steps.old steps.new }
     {
         if !splicing::are_ranges(&self.sheet, splices, steps) {
             return Err(Fault::Refused(Refusal::BadRange));
@@ -197,6 +202,8 @@ impl<S: Sheet> DisplayOn<S> {
 
         // The work.
         ensures counted { steps.old ≤ steps.new }
+        ensures steps { let operation = operation_of op.now in
+            WorksAtMost operation (present_of self.old) steps.old steps.new }
     {
         let work = work::one(alloc, &self.sheet, &self.outs, op, steps)?;
         let op = op.copy(alloc)?;
@@ -228,8 +235,11 @@ impl<S: Sheet> DisplayOn<S> {
         ensures refused { IfErr result
             (IsRefusedAs (change_refusal (present_of self.old) change.now)) }
         ensures unchanged { OnErr result (self.new ≡ self.old) }
-        // The work.
+        // The work of one operation, which is bounded for a refused one too.
         ensures counted { steps.old ≤ steps.new }
+        ensures steps { (operation : Operation) → entries_in (parts_of change.now) ≡ 1 →
+            ops_of change.now ≡ operation ∷ [] →
+            WorksAtMost operation (present_of self.old) steps.old steps.new }
     {
         match change {
             Change::Edit(splices) => self.edit(alloc, splices, steps),
@@ -351,8 +361,12 @@ impl<S: JobSheet> DisplayOn<S> {
         // What is left if it is out of memory.
         ensures back { IfErr result (λ back. back ≡ done) }
         ensures unchanged { OnErr result (self.new ≡ self.old) }
-        // The work.
+        // The work: for the lines of the run, and the blocks at those of which the mark is set.
         ensures counted { steps.old ≤ steps.new }
+        ensures steps { let state = state_of self.old in
+            let job = done.job in
+            let lines = lines_landed_on state.present (job_numbered job.number state.jobs) in
+            LandsAtMost job.run.count lines state.present steps.old steps.new }
     {
         let job = done.job();
         let number = job.number();

@@ -1,9 +1,10 @@
 //! A batch of replacements, judged in one pass.
-ghost use Rattle.std.specs.Prelude.{◌≡◌, ◌+◌, ◌^◌, ◌<◌, ◌≤◌, ◌++◌, nat_lt, true, length, take, IfOk, OnOk, OnErr};
+ghost use Rattle.std.specs.Prelude.{◌≡◌, ◌+◌, ◌*◌, ◌^◌, ◌<◌, ◌≤◌, ◌++◌, nat_lt, true, length, take, IfOk, OnOk, OnErr};
 ghost use Rattle.std.specs.Str.{IsUtf8};
 ghost use Rattle.cell_units.specs.declared.limits.TheConstants.{TEXT_LIMIT};
 ghost use Rattle.cell_units.specs.Text.{clean};
 ghost use Rattle.display_sheet.specs.Changes.{are_ranges, batch, is_operation};
+ghost use Rattle.kept_sheet.specs.Bounds.{LooksAtMost};
 ghost use Rattle.display_map.specs.Splicing.{did_events, is_range, spliced_text};
 
 use crate::event::Event;
@@ -27,6 +28,7 @@ pub(crate) fn is_operation(splice: &Splice) -> bool
 fn is_range<S: Sheet>(sheet: &S, from: u32, splice: &Splice, steps: &mut Steps) -> bool
     ensures test { result ≡ is_range (S.kept sheet.now).text from splice.now }
     ensures counted { steps.old ≤ steps.new }
+    ensures steps { LooksAtMost 2 (S.kept sheet.now) steps.old steps.new }
 {
     from <= splice.start
         && splice.start <= splice.end
@@ -38,6 +40,8 @@ fn is_range<S: Sheet>(sheet: &S, from: u32, splice: &Splice, steps: &mut Steps) 
 pub(crate) fn are_ranges<S: Sheet>(sheet: &S, splices: &[Splice], steps: &mut Steps) -> bool
     ensures test { result ≡ are_ranges (S.kept sheet.now).text 0 splices.now }
     ensures counted { steps.old ≤ steps.new }
+    ensures steps { let offsets = 2 * length splices.now in
+        LooksAtMost offsets (S.kept sheet.now) steps.old steps.new }
 {
     let mut from = 0;
     for splice in splices {

@@ -1,10 +1,13 @@
 //! What a change makes of a record and of the jobs that are out.
 ghost use Rattle.std.specs.Prelude.{◌≡◌, ◌≤◌, ◌==◌, [], ◌∷◌, None, true, false, length, find, IfErr, IfOk, OnOk};
 ghost use Rattle.cell_units.specs.declared.limits.TheConstants.{TEXT_LIMIT};
-ghost use Rattle.display_sheet.specs.Changes.{are_ranges, batch, is_replacement, operation_of, operation_refusal};
+ghost use Rattle.plain_rows.specs.Reach.{LandsAtMost, WorksAtMost};
+ghost use Rattle.display_sheet.specs.declared.change.Splice.{Splice};
+ghost use Rattle.display_sheet.specs.Changes.{are_ranges, batch, is_replacement, operation_of, operation_refusal, replacement};
 ghost use Rattle.display_sheet.specs.Faults.{IsRefusedAs};
+ghost use Rattle.kept_sheet.specs.Bounds.{ReplacesAtMost};
 ghost use Rattle.display_map.specs.Splicing.{spliced_text};
-ghost use Rattle.display_map.specs.Works.{IsKept, IsWork, LinesFit, with_landed};
+ghost use Rattle.display_map.specs.Works.{IsKept, IsWork, LinesFit, landing_lines, with_landed};
 ghost use Rattle.wrap_workers.specs.Jobs.{places_of};
 
 use crate::outs::{self, Out};
@@ -39,6 +42,7 @@ pub(crate) fn one<S: Sheet>(
     ensures refused { IfErr result
         (IsRefusedAs (operation_refusal (S.kept sheet.now) (operation_of op.now))) }
     ensures counted { steps.old ≤ steps.new }
+    ensures steps { WorksAtMost (operation_of op.now) (S.kept sheet.now) steps.old steps.new }
 {
     let done = sheet.operated(alloc, op, steps)?;
     let mut carried = outs::copied(alloc, outs)?;
@@ -70,7 +74,11 @@ pub(crate) fn batch<S: Sheet>(
     // Whatever history is kept so, it is still kept with the batch after it.
     ensures done { IfOk result (λ work. IsWork (batch splices.now) (S.kept sheet.now) outs.now
         (S.kept work.sheet) work.outs.items) }
+
+    // The work, which is bounded where there is one replacement alone.
     ensures counted { steps.old ≤ steps.new }
+    ensures steps { (splice : Splice) → splices.now ≡ splice ∷ [] →
+        ReplacesAtMost (replacement splice) (S.kept sheet.now) steps.old steps.new }
 {
     let mut now = sheet.share()?;
     let mut carried = outs::copied(alloc, outs)?;
@@ -106,6 +114,9 @@ pub(crate) fn landed<S: JobSheet>(
     ensures landed { IfOk result (λ landed. S.kept landed
         ≡ with_landed (S.kept sheet.now) (find (λ out. out.number == number) outs.now)) }
     ensures counted { steps.old ≤ steps.new }
+    ensures steps { let out = find (λ out. out.number == number) outs.now in
+        let lines = landing_lines (S.kept sheet.now) out in
+        LandsAtMost run.count lines (S.kept sheet.now) steps.old steps.new }
 {
     let Some(out) = outs::found(outs, number) else {
         return sheet.share();

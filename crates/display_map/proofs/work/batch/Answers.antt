@@ -10,6 +10,7 @@ use Rattle.display_map.specs.Replay.{History, appended}
 use Rattle.display_map.specs.Works.{KeepsWork}
 use Rattle.display_map.proofs.Displays.{kept-did}
 use Rattle.display_map.proofs.WorkedBatches.{allowed-next, history-next, history-passed, short-next}
+use Rattle.display_map.proofs.SplicedWorks.{only-done, only-passed, passed-by}
 use Rattle.display_map.proofs.Works.{below-sheet, splice-after, splice-order, splice-within}
 use Rattle.display_map.proofs.work.batch.Goals as goal
 
@@ -88,6 +89,10 @@ loop-i-preserved-then-is_operation g c = record {
       ∙ c.carry.ensures ∙ ap (map (carried_out splice.first splice.end splice.count)) c.as_mut_slice.ensures.value in
       kept-next is (subst (λ (h : History). KeepsWork h sheet' outs' versions jobs) next step);
   counted = omega (arith, c.loop-i.invariant.counted, c.replaced.ensures.counted);
+  unbegun = λ full. absurd (omega (arith, full));
+  took = λ splice only last.
+      only-done c.args.splices.now c.index-splices-i.result c.loop-i.i c.index-splices-i.is (g.S.Sheet.kept c.loop-i.now) (g.S.Sheet.kept c.args.sheet.now)
+      c.args.steps.now c.loop-i.steps c.loop-i.invariant.unbegun splice only (omega (arith, last)) c.replaced.new.steps c.replaced.ensures.steps;
 }
 
 pub loop-i-preserved : goal.loop-i-preserved
@@ -101,6 +106,10 @@ loop-i-preserved g c = record {
       (sym c.is_operation.ensures.operation ∙ c.if-is_operation.false) in
       subst (λ (h : History). KeepsWork h now c.loop-i.carried.items versions jobs) passed k';
   counted = c.loop-i.invariant.counted;
+  unbegun = λ full. absurd (omega (arith, full));
+  took = λ splice only last.
+      only-passed c.args.splices.now c.index-splices-i.result c.loop-i.i c.index-splices-i.is (g.S.Sheet.kept c.loop-i.now) (g.S.Sheet.kept c.args.sheet.now)
+      c.args.steps.now c.loop-i.steps c.loop-i.invariant.unbegun splice only (omega (arith, last));
 }
 
 pub returns-clause-done : goal.returns-clause-done
@@ -111,3 +120,17 @@ returns-clause-done g c =
     λ h versions jobs k.
     subst (λ (l : List Splice). KeepsWork (appended h (map Did (batch l))) (g.S.Sheet.kept c.loop-i.now) c.loop-i.carried.items versions jobs) none
     (c.loop-i.invariant.kept h versions jobs k)
+
+pub returns-clause-steps : goal.returns-clause-steps
+returns-clause-steps g c splice only = c.loop-i.invariant.took splice only (omega (arith, c.loop-i-test.false))
+
+pub returns-in_err-done-clause-steps : goal.returns-in_err-done-clause-steps
+returns-in_err-done-clause-steps g c splice only =
+    only-done c.args.splices.now c.index-splices-i.result c.loop-i.i c.index-splices-i.is (g.S.Sheet.kept c.loop-i.now) (g.S.Sheet.kept c.args.sheet.now)
+    c.args.steps.now c.loop-i.steps c.loop-i.invariant.unbegun splice only (omega (arith, ap length only)) c.replaced.new.steps c.replaced.ensures.steps
+
+pub returns-in_err-now-clause-steps : goal.returns-in_err-now-clause-steps
+returns-in_err-now-clause-steps g c splice only = passed-by splice (g.S.Sheet.kept c.args.sheet.now) c.args.steps.now
+
+pub returns-in_err-carried-clause-steps : goal.returns-in_err-carried-clause-steps
+returns-in_err-carried-clause-steps g c splice only = passed-by splice (g.S.Sheet.kept c.args.sheet.now) c.args.steps.now

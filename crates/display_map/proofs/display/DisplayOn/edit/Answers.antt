@@ -4,11 +4,13 @@ use Rattle.std.proofs.lemmas.Bool.{ltb-false, ltb-true}
 use Rattle.cell_units.specs.declared.limits.TheConstants.{TEXT_LIMIT}
 use Rattle.cell_units.specs.declared.fault.Fault.TheVariants as faults
 use Rattle.cell_units.specs.declared.fault.Refusal.TheVariants.{TooLong}
-use Rattle.display_sheet.specs.Changes.{are_ranges, edit_refusal}
+use Rattle.plain_rows.specs.Reach.{WorksAtMost}
+use Rattle.display_sheet.specs.Changes.{are_ranges, edit_refusal, replacement}
 use Rattle.display_sheet.specs.Faults.{IsRefusedAs}
 use Rattle.display_map.specs.Replay.{History, present_of}
 use Rattle.display_map.specs.Splicing.{spliced_text}
 use Rattle.display_map.proofs.EditedDisplays.{err-same, is-kept, kept-edited, none-or-long, not-refused, too-long}
+use Rattle.display_map.proofs.SplicedWorks.{judged-works, replaced-works}
 use Rattle.display_map.proofs.display.DisplayOn.edit.Goals as goal
 
 pub returns-then-branch-clause-refused : goal.returns-then-branch-clause-refused
@@ -64,3 +66,54 @@ returns-clause-accepted g c =
     let short : length (spliced_text r.text 0 splices) ≤ TEXT_LIMIT = ltb-false TEXT_LIMIT (length (spliced_text r.text 0 splices)) (sym c.in_ok-is_too_long.ensures ∙ c.if-branch.false) in
     subst (λ (h : History). edit_refusal (present_of h) splices ≡ None) c.self.view_is
     (not-refused h r d.outs.items d.versions d.jobs d.first c.self.invariant splices ok short)
+
+pub returns-then-not-are_ranges-clause-steps : goal.returns-then-not-are_ranges-clause-steps
+returns-then-not-are_ranges-clause-steps g c splice only =
+    let d = c.self.inside in
+    let r = g.S.Sheet.kept d.sheet in
+    let h : History = record { opening = (g.S.Sheet.kept d.opening).text; events = d.journal } in
+    subst (λ (h : History). WorksAtMost (replacement splice) (present_of h) c.args.steps.now c.are_ranges.new.steps) c.self.view_is
+    (judged-works (present_of h) r c.self.invariant.kept.sheet_is c.args.splices.now splice only c.args.steps.now c.are_ranges.new.steps c.are_ranges.ensures.steps)
+
+pub returns-in_err-is_too_long-clause-steps : goal.returns-in_err-is_too_long-clause-steps
+returns-in_err-is_too_long-clause-steps g c splice only =
+    let d = c.self.inside in
+    let r = g.S.Sheet.kept d.sheet in
+    let h : History = record { opening = (g.S.Sheet.kept d.opening).text; events = d.journal } in
+    subst (λ (h : History). WorksAtMost (replacement splice) (present_of h) c.args.steps.now c.are_ranges.new.steps) c.self.view_is
+    (judged-works (present_of h) r c.self.invariant.kept.sheet_is c.args.splices.now splice only c.args.steps.now c.are_ranges.new.steps c.are_ranges.ensures.steps)
+
+pub returns-then-branch-clause-steps : goal.returns-then-branch-clause-steps
+returns-then-branch-clause-steps g c splice only =
+    let d = c.self.inside in
+    let r = g.S.Sheet.kept d.sheet in
+    let h : History = record { opening = (g.S.Sheet.kept d.opening).text; events = d.journal } in
+    subst (λ (h : History). WorksAtMost (replacement splice) (present_of h) c.args.steps.now c.are_ranges.new.steps) c.self.view_is
+    (judged-works (present_of h) r c.self.invariant.kept.sheet_is c.args.splices.now splice only c.args.steps.now c.are_ranges.new.steps c.are_ranges.ensures.steps)
+
+pub returns-in_err-work-clause-steps : goal.returns-in_err-work-clause-steps
+returns-in_err-work-clause-steps g c splice only =
+    let d = c.self.inside in
+    let r = g.S.Sheet.kept d.sheet in
+    let h : History = record { opening = (g.S.Sheet.kept d.opening).text; events = d.journal } in
+    subst (λ (h : History). WorksAtMost (replacement splice) (present_of h) c.args.steps.now c.batch.new.steps) c.self.view_is
+    (replaced-works (present_of h) r c.self.invariant.kept.sheet_is c.args.splices.now splice only c.args.steps.now c.are_ranges.new.steps c.are_ranges.ensures.steps
+    c.batch.new.steps (c.batch.ensures.steps splice only))
+
+pub returns-in_err-push_batch-clause-steps : goal.returns-in_err-push_batch-clause-steps
+returns-in_err-push_batch-clause-steps g c splice only =
+    let d = c.self.inside in
+    let r = g.S.Sheet.kept d.sheet in
+    let h : History = record { opening = (g.S.Sheet.kept d.opening).text; events = d.journal } in
+    subst (λ (h : History). WorksAtMost (replacement splice) (present_of h) c.args.steps.now c.batch.new.steps) c.self.view_is
+    (replaced-works (present_of h) r c.self.invariant.kept.sheet_is c.args.splices.now splice only c.args.steps.now c.are_ranges.new.steps c.are_ranges.ensures.steps
+    c.batch.new.steps (c.batch.ensures.steps splice only))
+
+pub returns-clause-steps : goal.returns-clause-steps
+returns-clause-steps g c splice only =
+    let d = c.self.inside in
+    let r = g.S.Sheet.kept d.sheet in
+    let h : History = record { opening = (g.S.Sheet.kept d.opening).text; events = d.journal } in
+    subst (λ (h : History). WorksAtMost (replacement splice) (present_of h) c.args.steps.now c.batch.new.steps) c.self.view_is
+    (replaced-works (present_of h) r c.self.invariant.kept.sheet_is c.args.splices.now splice only c.args.steps.now c.are_ranges.new.steps c.are_ranges.ensures.steps
+    c.batch.new.steps (c.batch.ensures.steps splice only))
