@@ -1,5 +1,5 @@
 //! Calls that read a display.
-ghost use Rattle.std.specs.Prelude.{◌≡◌, ◌≤◌, length, option_map, slice_get, string_bytes, Some, None};
+ghost use Rattle.std.specs.Prelude.{◌≡◌, ◌≤◌, length, option_map, slice_get, slice_range, string_bytes, Some, None};
 ghost use Rattle.cell_units.specs.Refusal.{number_of};
 ghost use Rattle.plain_rows.specs.Rows.{rows_of};
 ghost use Rattle.plain_rows.specs.Spots.{back, clip, show};
@@ -8,6 +8,7 @@ ghost use Rattle.display_map.specs.Replay.{present_of};
 ghost use Rattle.edit_script.specs.declared.asked.Query.TheVariants.{Rows};
 ghost use Rattle.edit_script.specs.Answers.{lines_of};
 ghost use Rattle.display_session.specs.Answers.{printed};
+ghost use Rattle.display_session.specs.Slices.{slice_refusal};
 ghost use Rattle.display_ffi.specs.declared.status.TheConstants.{CLOSED, NO_ROW, OK};
 ghost use Rattle.display_ffi.specs.Biases.{bias_of};
 ghost use Rattle.display_ffi.specs.Calls.{Both};
@@ -30,6 +31,60 @@ fn bias(right: bool) -> Bias
     ensures { result ≡ bias_of right }
 {
     if right { Bias::Right } else { Bias::Left }
+}
+
+/// How many bytes the text has.
+#[unsafe(no_mangle)]
+pub extern "C" fn displaymap_text_len(alloc: Global, handle: &mut Handle, bytes: &mut u32) -> u32
+    requires { IsHandle handle.old }
+    ensures handle { IsHandle handle.new }
+    ensures kept { handle.new.kept.session ≡ handle.old.kept.session }
+    ensures counted { result ≡ OK → Both
+        (λ a b. bytes.new ≡ length (present_of a.display).text)
+        handle.old.kept.session handle.new.kept.session }
+    ensures untouched { 1 ≤ result → bytes.new ≡ bytes.old }
+    ensures closed { handle.old.kept.session ≡ None → result ≡ CLOSED }
+{
+    let Some(session) = take(alloc, handle) else {
+        return CLOSED;
+    };
+    let counted = session.text_len();
+    put(handle, session);
+    match counted {
+        Ok(it) => {
+            *bytes = it;
+            OK
+        }
+        Err(_) => NO_MEMORY,
+    }
+}
+
+/// Keeps the bytes of the text from `start` to `end` as the answer.
+#[unsafe(no_mangle)]
+pub extern "C" fn displaymap_slice(alloc: Global, handle: &mut Handle, start: u32, end: u32) -> u32
+    requires { IsHandle handle.old }
+    ensures handle { IsHandle handle.new }
+    ensures sliced { result ≡ OK → Both
+        (λ a b. (b.display ≡ a.display)
+        × (slice_refusal (present_of a.display).text start end ≡ None)
+        × (string_bytes b.answer ≡ slice_range (present_of a.display).text start end))
+        handle.old.kept.session handle.new.kept.session }
+    ensures refused { 1 ≤ result → result ≤ 8 → Both
+        (λ a b. option_map number_of (slice_refusal (present_of a.display).text start end)
+        ≡ Some result)
+        handle.old.kept.session handle.new.kept.session }
+    ensures failed { 1 ≤ result → handle.new.kept.session ≡ handle.old.kept.session }
+    ensures closed { handle.old.kept.session ≡ None → result ≡ CLOSED }
+{
+    let Some(mut session) = take(alloc, handle) else {
+        return CLOSED;
+    };
+    let done = session.slice(alloc, start, end);
+    put(handle, session);
+    match done {
+        Ok(()) => OK,
+        Err(trouble) => status_of(trouble),
+    }
 }
 
 /// How many rows there are.

@@ -6,7 +6,7 @@ use crate::changing::{
 use crate::handle::Handle;
 use crate::reading::{
     Place, displaymap_back, displaymap_clip, displaymap_row, displaymap_row_count, displaymap_rows,
-    displaymap_show,
+    displaymap_show, displaymap_slice, displaymap_text_len,
 };
 use crate::status::{CLOSED, NO_ROW, OK};
 use std::test::Fail;
@@ -79,6 +79,24 @@ fn a_handle_shows_its_rows(rt: HostRuntime) -> Result<(), Fail> {
         OK
     );
     assert_eq!(rt; number, 13);
+    displaymap_close(alloc, &mut handle);
+    Ok(())
+}
+
+#[test]
+fn a_handle_gives_parts_of_its_text(rt: HostRuntime) -> Result<(), Fail> {
+    let alloc = rt.alloc();
+    let mut handle = Handle::closed();
+    let mut bytes = 0;
+    let mut out = [0; 5];
+    assert_eq!(rt; displaymap_open(alloc, &mut handle, TEXT), OK);
+    assert_eq!(rt; displaymap_text_len(alloc, &mut handle, &mut bytes), OK);
+    assert_eq!(rt; bytes, 30);
+    assert_eq!(rt; displaymap_slice(alloc, &mut handle, 13, 18), OK);
+    assert_eq!(rt; displaymap_answer(alloc, &mut handle, 0, &mut out), 5);
+    assert_eq!(rt; out.as_slice(), b"let t".as_slice());
+    assert_eq!(rt; displaymap_slice(alloc, &mut handle, 18, 13), 2);
+    assert_eq!(rt; displaymap_slice(alloc, &mut handle, 0, 31), 2);
     displaymap_close(alloc, &mut handle);
     Ok(())
 }
