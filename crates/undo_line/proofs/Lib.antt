@@ -1,0 +1,5 @@
+pub mod CleanLengths
+pub mod Operations
+pub mod RoundTrips
+pub mod Inverses
+pub mod RunningInverses
