@@ -77,6 +77,12 @@ uint32_t displaymap_line(displaymap *d, const uint8_t *line, size_t length);
  * Fails with BAD_RANGE, TOO_LONG, NOT_UTF8, NO_MEMORY and JOURNAL_FULL. */
 uint32_t displaymap_edit(displaymap *d, uint32_t start, uint32_t end, const uint8_t *text, size_t length);
 
+/* The text as it is now. `text_len` gives how many bytes it has. `slice` keeps the bytes from `start` to `end` as the
+ * answer; both have to be boundaries of characters, in order.
+ * They fail with NO_MEMORY, and `slice` with BAD_RANGE. */
+uint32_t displaymap_text_len(displaymap *d, uint32_t *bytes);
+uint32_t displaymap_slice(displaymap *d, uint32_t start, uint32_t end);
+
 /* Wraps lines. A line that a change touched is one row until it is wrapped; so is every line after a change of the width.
  * Wraps up to `runs` runs of such lines, of 128 lines at most each. `*waits` is false where no line waits any more.
  * Fails with NO_MEMORY and JOURNAL_FULL. */

@@ -36,7 +36,8 @@ static uint32_t call(int number) {
     case 1: case 2: case 3: return displaymap_line(&d, (const uint8_t *)lines[number - 1], strlen(lines[number - 1]));
     case 4: return displaymap_wrap(&d, UINT32_MAX, &waits);
     case 5: return displaymap_edit(&d, 3, 7, (const uint8_t *)"run", 3);
-    default: return displaymap_line(&d, (const uint8_t *)lines[number - 3], strlen(lines[number - 3]));
+    case 6: return displaymap_slice(&d, 3, 44);
+    default: return displaymap_line(&d, (const uint8_t *)lines[number - 4], strlen(lines[number - 4]));
     }
 }
 
@@ -44,7 +45,7 @@ static uint32_t call(int number) {
 static bool played(long number) {
     left = number;
     failed = 0;
-    for (int i = 0; i < 9; i++) {
+    for (int i = 0; i < 10; i++) {
         uint32_t status = call(i);
         if (status == DISPLAYMAP_NO_MEMORY && failed == 1) status = call(i);
         if (status) {

@@ -112,6 +112,20 @@ impl DisplayMap {
         })
     }
 
+    /// How many bytes the text has.
+    pub fn text_len(&mut self) -> Result<u32, Error> {
+        let mut bytes = 0;
+        checked(unsafe { raw::displaymap_text_len(&mut self.handle, &mut bytes) })?;
+        Ok(bytes)
+    }
+
+    /// The text in a range, whose ends have to be boundaries of characters, in order.
+    pub fn slice(&mut self, range: Range<u32>) -> Result<String, Error> {
+        let Range { start, end } = range;
+        checked(unsafe { raw::displaymap_slice(&mut self.handle, start, end) })?;
+        Ok(self.answer())
+    }
+
     /// Wraps up to so many runs of lines that wait, and returns whether a line may still wait.
     pub fn wrap(&mut self, runs: u32) -> Result<bool, Error> {
         let mut waits = false;

@@ -28,6 +28,8 @@ extern "C" {
         text: *const u8,
         length: usize,
     ) -> u32;
+    pub fn displaymap_text_len(d: *mut Handle, bytes: *mut u32) -> u32;
+    pub fn displaymap_slice(d: *mut Handle, start: u32, end: u32) -> u32;
     pub fn displaymap_wrap(d: *mut Handle, runs: u32, waits: *mut bool) -> u32;
     pub fn displaymap_answer(d: *mut Handle, from: usize, out: *mut u8, room: usize) -> usize;
     pub fn displaymap_row_count(d: *mut Handle, count: *mut u32) -> u32;

@@ -68,6 +68,19 @@ fn offsets_lead_to_spots_and_back() -> Result<(), Error> {
 }
 
 #[test]
+fn the_text_is_read_back() -> Result<(), Error> {
+    let mut map = DisplayMap::open("a⋯\r\nb".as_bytes())?;
+    map.edit(5..5, "\r")?;
+    assert_eq!(map.text_len()?, 7);
+    assert_eq!(map.slice(0..7)?, "a⋯\n\nb");
+    assert_eq!(map.slice(1..4)?, "⋯");
+    assert_eq!(map.slice(1..3), Err(Error::Refused(2)));
+    assert_eq!(map.slice(4..1), Err(Error::Refused(2)));
+    assert_eq!(map.slice(0..8), Err(Error::Refused(2)));
+    Ok(())
+}
+
+#[test]
 fn bytes_that_are_no_text_are_refused() {
     assert_eq!(DisplayMap::open(b"\xff").err(), Some(Error::NotUtf8));
 }

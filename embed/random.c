@@ -1,0 +1,397 @@
+/* Makes calls at random, valid and not, and looks at what each returns and writes: random CALLS [SEED [FOLDER]].
+ *
+ * Into FOLDER it writes a text, the script whose lines ask what the calls asked, and the output that the program has to
+ * print for them. What no line asks it compares with a text of its own. */
+#include "displaymap.h"
+#include <stdarg.h>
+#include <stdio.h>
+#include <stdlib.h>
+#include <string.h>
+
+#define UNTOUCHED 7777
+
+static displaymap d, other; /* the display, and a handle that is opened and closed */
+static uint64_t state;
+static uint32_t refused;
+static FILE *script, *output; /* NULL without a folder */
+
+static char text[8192]; /* what the display has to have */
+static uint32_t length;
+
+static uint8_t too_many[33554432 + 1];
+
+static char answer[1 << 18]; /* the last answer, with a NUL after it */
+static size_t answer_length;
+
+static const char *const sides[2] = {"left", "right"};
+
+/* What edits put in: as bytes, in a line of a script, and as the text has it. */
+static const struct {
+    const char *raw, *quoted, *clean;
+} inserts[] = {
+    {"", "", ""}, {"x", "x", "x"}, {"ab cd ", "ab cd ", "ab cd "}, {"\n", "\\n", "\n"}, {"\t", "\\t", "\t"},
+    {"\xe6\xbc\xa2", "\xe6\xbc\xa2", "\xe6\xbc\xa2"}, {"e\xcc\x81", "e\\u0301", "e\xcc\x81"}, {"\r\n", "\\r\\n", "\n"},
+    {"a\rb", "a\\rb", "a\nb"}, {"f(a, b) {\n\treturn a;\n}\n", "f(a, b) {\\n\\treturn a;\\n}\\n", "f(a, b) {\n\treturn a;\n}\n"}, {"\"\\", "\\\"\\\\", "\"\\"}, {"\xf0\x9f\x91\xa9", "\\ud83d\\udc69", "\xf0\x9f\x91\xa9"},
+};
+
+static uint32_t draw(uint32_t below) {
+    state = state * 6364136223846793005u + 1442695040888963407u;
+    return (uint32_t)(state >> 33) % below;
+}
+
+static void must(bool holds, const char *what) {
+    if (holds) return;
+    fprintf(stderr, "random: %s\n", what);
+    exit(1);
+}
+
+/* ---- what is drawn */
+
+static bool is_boundary(uint32_t offset) {
+    return offset == length || (offset < length && (text[offset] & 0xc0) != 0x80);
+}
+
+/* An offset that mostly is in the text, also within a character. */
+static uint32_t draw_offset(void) {
+    uint32_t it = draw(64);
+    return it == 0 ? UINT32_MAX : it < 4 ? length + it : draw(length + 1);
+}
+
+static uint32_t draw_near(uint32_t offset) {
+    return draw(32) ? offset + draw(7) : draw_offset();
+}
+
+static uint32_t draw_row(void) {
+    return draw(32) ? draw(60) : UINT32_MAX - draw(2);
+}
+
+/* ---- the answer */
+
+/* Reads part of the answer, and looks that no byte around it is written. */
+static void read_part(uint8_t *out, size_t from, size_t room) {
+    out[-1] = out[room] = 0xa5;
+    must(displaymap_answer(&d, from, out, room) == answer_length, "the length of the answer");
+    must(out[-1] == 0xa5 && out[room] == 0xa5, "answer writes past its room");
+}
+
+/* The answer is the same as before. */
+static void answer_stays(void) {
+    uint8_t part[34];
+    size_t from = draw(8) ? draw((uint32_t)answer_length + 1) : SIZE_MAX - draw(2), room = draw(33);
+    read_part(part + 1, from, room);
+    size_t left = from < answer_length ? answer_length - from : 0;
+    must(!memcmp(part + 1, answer + (left ? from : 0), left < room ? left : room), "the last answer isn't kept");
+    if (draw(4) == 0) must(displaymap_answer(&d, draw(9), NULL, 0) == answer_length, "answer without room");
+}
+
+static void answer_is_new(void) {
+    answer_length = displaymap_answer(&d, 0, (uint8_t *)answer, sizeof answer - 1);
+    must(answer_length < sizeof answer, "the answer is too long for this program");
+    answer[answer_length] = 0;
+}
+
+static void answer_is(const char *wanted, size_t size, const char *what) {
+    answer_is_new();
+    must(answer_length == size && !memcmp(answer, wanted, size), what);
+}
+
+/* ---- the script and its output */
+
+__attribute__((format(printf, 2, 3))) static void print_to(FILE *file, const char *form, ...) {
+    if (!file) return;
+    va_list words;
+    va_start(words, form);
+    vfprintf(file, form, words);
+    va_end(words);
+}
+
+/* What the program prints for a refused line. */
+static void print_status(uint32_t status) {
+    if (status) print_to(output, "! %u\n", status);
+    refused += status != 0;
+}
+
+/* Does a line of a script, and writes it and what it prints. */
+static uint32_t ask_bytes(const char *line, size_t size) {
+    uint32_t status = displaymap_line(&d, (const uint8_t *)line, size);
+    must(status <= 7, "the status of a line");
+    if (status) answer_stays();
+    else answer_is_new();
+    print_to(script, "%.*s\n", (int)size, line);
+    if (!status) print_to(output, "%s", answer);
+    print_status(status);
+    return status;
+}
+
+__attribute__((format(printf, 1, 2))) static uint32_t ask(const char *form, ...) {
+    static char line[4096];
+    va_list words;
+    va_start(words, form);
+    int size = vsnprintf(line, sizeof line, form, words);
+    va_end(words);
+    return ask_bytes(line, (size_t)size);
+}
+
+/* Wraps all lines, as a question of a script does before it. */
+static void wrap_all(void) {
+    bool waits = true;
+    must(!displaymap_wrap(&d, UINT32_MAX, &waits) && !waits, "wrap of all lines");
+}
+
+/* ---- changes */
+
+static void put_in(uint32_t start, uint32_t end, const char *clean) {
+    uint32_t size = (uint32_t)strlen(clean);
+    must(length + size < sizeof text, "the text is too long for this program");
+    memmove(text + start + size, text + end, length - end);
+    memcpy(text + start, clean, size);
+    length = length - (end - start) + size;
+}
+
+/* An edit, by a call or by its line. */
+static void edit(void) {
+    uint32_t start = draw_offset(), end = draw(3) ? start : draw_near(start), which = draw(sizeof inserts / sizeof *inserts), status;
+    if (length > 1200 && draw(4) == 0) start = 0, end = draw_offset(); /* the text grows else without an end */
+    bool holds = start <= end && is_boundary(start) && is_boundary(end);
+    const char *raw = inserts[which].raw;
+    if (draw(2)) {
+        status = ask("{\"edit\":[[%u,%u,\"%s\"]]}", start, end, inserts[which].quoted);
+    } else {
+        status = displaymap_edit(&d, start, end, *raw || draw(2) ? (const uint8_t *)raw : NULL, strlen(raw));
+        print_to(script, "{\"edit\":[[%u,%u,\"%s\"]]}\n", start, end, inserts[which].quoted);
+        print_status(status);
+        answer_stays();
+    }
+    must(status == (holds ? DISPLAYMAP_OK : DISPLAYMAP_BAD_RANGE), "the status of an edit");
+    if (holds) put_in(start, end, inserts[which].clean);
+}
+
+/* A fold, an inlay, a block or a setting, with ids and values that may be wrong. */
+static void change(void) {
+    uint32_t a = draw_offset(), b = draw_near(a), id = draw(12);
+    switch (draw(10)) {
+    case 0: ask("{\"fold\":[%u,%u,%u]}", id, a, b); break;
+    case 1: ask("{\"fold\":[%u,[%u,%u,\"left\"],[%u,%u,\"right\"]]}", id, draw(9), draw(9), draw(9), draw(30)); break;
+    case 2: ask("{\"unfold\":%u}", id); break;
+    case 3: ask("{\"inlay\":[%u,%u,\"%s\",\"<%u\\t%u>\"]}", id, a, sides[draw(2)], id, b); break;
+    case 4: ask("{\"uninlay\":%u}", id); break;
+    case 5: ask("{\"block\":[%u,\"%s\",%u,[\"-- %u\",\"\"]]}", id, draw(2) ? "above" : "below", draw_row(), id); break;
+    case 6: ask("{\"unblock\":%u}", id); break;
+    case 7: ask("{\"width\":%u}", draw(4) ? 8 + draw(60) : draw(3)); break;
+    case 8: ask("{\"tab\":%u}", draw(20)); break;
+    default: ask("{\"edit\":[[%u,%u,\"a\"],[%u,%u,\"b\"]]}", b + 1, b, a, a); break; /* ranges that aren't in order */
+    }
+}
+
+/* Lines that ask nothing, or too much. */
+static void bad_line(void) {
+    static const char *const lines[] = {
+        "x", "{", "{}", "[]", "{\"fold\":[1,2]}", "{\"edit\":[[0,1]]}", "{\"rows\":[0,9],\"tab\":4}", "{\"rows\":[-1,2]}",
+        "\xff", "{\"tab\":0}", "{\"width\":10001}", "{\"unfold\":4294967296}", "{\"fold\":[99999999999999999999999,0,1]}",
+        "{\"inlay\":[77,0,\"left\",\"\"]}", "{\"block\":[77,\"above\",0,[]]}", "{\"block\":[77,\"above\",0,[\"a\\nb\"]]}",
+        "{\"peek\":[0]}", "{\"move\":[0,0,0,\"back\"]}", "{\"settle\":false}", "{\"edit\":[[0,0,\"\\ud800\"]]}",
+    };
+    static char long_inlay[1200] = "{\"inlay\":[77,0,\"left\",\"";
+    uint32_t which = draw(sizeof lines / sizeof *lines + 2);
+    if (which == 0) {
+        must(displaymap_line(&d, NULL, 0) == DISPLAYMAP_NOT_COMMAND, "an empty line");
+    } else if (which == 1) {
+        memset(long_inlay + 23, 'x', 1025);
+        memcpy(long_inlay + 23 + 1025, "\"]}", 3);
+        must(ask("%s", long_inlay) == DISPLAYMAP_TOO_LONG, "an inlay that is too long");
+    } else {
+        must(ask("%s", lines[which - 2]) != DISPLAYMAP_OK, "a line that is wrong");
+    }
+}
+
+/* Bytes that aren't UTF-8 change nothing. */
+static void bad_bytes(void) {
+    static const char *const bytes[] = {"\xff", "a\x80", "\xc3", "\xe6\xbc", "\xed\xa0\x80", "\xc0\xaf", "\xf4\x90\x80\x80"};
+    uint32_t start = draw_offset(), which = draw(sizeof bytes / sizeof *bytes);
+    uint32_t status = displaymap_edit(&d, start, draw_near(start), (const uint8_t *)bytes[which], strlen(bytes[which]));
+    must(status == DISPLAYMAP_NOT_UTF8, "an edit that isn't UTF-8");
+    must(displaymap_open(&other, (const uint8_t *)bytes[which], strlen(bytes[which])) == DISPLAYMAP_NOT_UTF8 && !other.open,
+        "a text that isn't UTF-8");
+    answer_stays();
+}
+
+/* ---- questions, each with the line that asks the same */
+
+static void show(void) {
+    uint32_t offset = draw_offset(), side = draw(2);
+    displaymap_place place = {UNTOUCHED, UNTOUCHED};
+    uint32_t status = displaymap_show(&d, offset, side, &place);
+    must(status == (is_boundary(offset) ? DISPLAYMAP_OK : DISPLAYMAP_BAD_RANGE), "the status of show");
+    must(!status || (place.row == UNTOUCHED && place.column == UNTOUCHED), "a refused show wrote a place");
+    print_to(script, "{\"display\":[%u,\"%s\"]}\n", offset, sides[side]);
+    if (!status) print_to(output, "%u %u\n", place.row, place.column);
+    print_status(status);
+}
+
+static void clip_and_back(void) {
+    uint32_t row = draw_row(), column = draw(16) ? draw(90) : UINT32_MAX, side = draw(2), offset;
+    displaymap_place place;
+    must(!displaymap_clip(&d, row, column, side, &place), "clip");
+    must(!displaymap_back(&d, row, column, side, &offset) && is_boundary(offset), "back");
+    print_to(script, "{\"clip\":[%u,%u,\"%s\"]}\n", row, column, sides[side]);
+    print_to(output, "%u %u\n", place.row, place.column);
+    print_to(script, "{\"buffer\":[%u,%u,\"%s\"]}\n", row, column, sides[side]);
+    print_to(output, "%u\n", offset);
+}
+
+static void row(void) {
+    uint32_t number = draw_row(), kind = UNTOUCHED, count;
+    must(!displaymap_row_count(&d, &count) && count > 0, "row_count");
+    uint32_t status = displaymap_row(&d, number, &kind);
+    must(status == (number < count ? DISPLAYMAP_OK : DISPLAYMAP_NO_ROW), "the status of row");
+    must(status ? kind == UNTOUCHED : kind == 't' || kind == 'w' || kind == 'b', "the kind of a row");
+    print_to(script, "{\"rows\":[%u,1]}\n", number);
+    if (status) answer_stays();
+    else answer_is_new();
+    if (!status) print_to(output, "%u %c|%s\n", number, (char)kind, answer);
+    refused += status != 0;
+}
+
+static void rows(void) {
+    uint32_t count, first = draw_row(), most = draw(8) ? draw(9) : UINT32_MAX;
+    must(!displaymap_row_count(&d, &count), "row_count");
+    if (draw(2)) first = count - 1;
+    must(!displaymap_rows(&d, first, most), "rows");
+    answer_is_new();
+    print_to(script, "{\"rows\":[%u,%u]}\n", first, most);
+    print_to(output, "%s", answer);
+}
+
+/* A caret or a selection, which only lines ask. */
+static void caret(void) {
+    static const char *const motions[6] = {"left", "right", "up", "down", "start", "end"};
+    if (draw(2)) ask("{\"move\":[%u,%u,%u,\"%s\"]}", draw_row(), draw(50), draw(50), motions[draw(6)]);
+    else ask("{\"select\":[%u,%u,%u,%u]}", draw_row(), draw(50), draw_row(), draw(50));
+}
+
+/* Parts of the text, which no line asks: they are compared with this program's own. */
+static void slice(void) {
+    uint32_t start = draw_offset(), end = draw_near(start), bytes = UNTOUCHED;
+    must(!displaymap_text_len(&d, &bytes) && bytes == length, "text_len");
+    uint32_t status = displaymap_slice(&d, start, end);
+    bool holds = start <= end && is_boundary(start) && is_boundary(end);
+    must(status == (holds ? DISPLAYMAP_OK : DISPLAYMAP_BAD_RANGE), "the status of slice");
+    if (holds) answer_is(text + start, end - start, "slice");
+    else answer_stays();
+    refused += status != 0;
+}
+
+/* Some runs, or none. A question that isn't a line's meets lines that wait. */
+static void wrap_some(void) {
+    bool waits;
+    uint32_t count = 0, kind;
+    displaymap_place place;
+    must(!displaymap_wrap(&d, draw(3), &waits), "wrap");
+    must(!displaymap_row_count(&d, &count) && !displaymap_row(&d, count - 1, &kind), "the last row");
+    answer_is_new();
+    must(displaymap_row(&d, count, &kind) == DISPLAYMAP_NO_ROW, "the row past the last");
+    must(!displaymap_clip(&d, draw_row(), draw(90), draw(2), &place) && place.row < count, "clip while lines wait");
+}
+
+/* ---- handles */
+
+static void closed_handle(void) {
+    displaymap closed = {0};
+    displaymap_place place = {UNTOUCHED, UNTOUCHED};
+    uint32_t number = UNTOUCHED;
+    uint8_t byte = 0xa5;
+    bool waits = true;
+    must(displaymap_line(&closed, NULL, 0) == DISPLAYMAP_CLOSED, "line of a closed handle");
+    must(displaymap_edit(&closed, 0, 0, NULL, 0) == DISPLAYMAP_CLOSED, "edit of a closed handle");
+    must(displaymap_wrap(&closed, 1, &waits) == DISPLAYMAP_CLOSED && waits, "wrap of a closed handle");
+    must(displaymap_show(&closed, 0, true, &place) == DISPLAYMAP_CLOSED, "show of a closed handle");
+    must(displaymap_clip(&closed, 0, 0, true, &place) == DISPLAYMAP_CLOSED, "clip of a closed handle");
+    must(displaymap_back(&closed, 0, 0, true, &number) == DISPLAYMAP_CLOSED, "back of a closed handle");
+    must(displaymap_row_count(&closed, &number) == DISPLAYMAP_CLOSED, "row_count of a closed handle");
+    must(displaymap_text_len(&closed, &number) == DISPLAYMAP_CLOSED, "text_len of a closed handle");
+    must(displaymap_slice(&closed, 0, 0) == DISPLAYMAP_CLOSED, "slice of a closed handle");
+    must(displaymap_row(&closed, 0, &number) == DISPLAYMAP_CLOSED, "row of a closed handle");
+    must(displaymap_rows(&closed, 0, 1) == DISPLAYMAP_CLOSED, "rows of a closed handle");
+    must(displaymap_answer(&closed, 0, &byte, 1) == 0 && byte == 0xa5, "answer of a closed handle");
+    must(number == UNTOUCHED && place.row == UNTOUCHED && place.column == UNTOUCHED, "a closed handle wrote a value");
+    displaymap_close(&closed);
+    must(!closed.open, "a closed handle is open");
+}
+
+/* Opens and closes a handle beside the display: on its text, on no bytes, on too many, anew while it is open. */
+static void other_handle(void) {
+    uint32_t bytes;
+    switch (draw(4)) {
+    case 0: displaymap_close(&other); break;
+    case 1: must(!displaymap_open(&other, NULL, 0), "open of no bytes"); break;
+    case 2:
+        must(displaymap_open(&other, too_many, sizeof too_many) == DISPLAYMAP_TOO_LONG && !other.open, "open of too many bytes");
+        break;
+    default:
+        must(!displaymap_open(&other, (const uint8_t *)text, length), "open");
+        must(!displaymap_text_len(&other, &bytes) && bytes == length, "text_len of another handle");
+    }
+    answer_stays();
+}
+
+static void call(void) {
+    uint32_t it = draw(32);
+    if (it < 8) edit();
+    else if (it < 13) change();
+    else if (it < 14) bad_line();
+    else if (it < 15) bad_bytes();
+    else if (it < 17) slice();
+    else if (it < 18) wrap_some();
+    else if (it < 19) other_handle();
+    else if (it < 20) draw(8) ? caret() : closed_handle();
+    else {
+        wrap_all();
+        if (it < 23) show();
+        else if (it < 26) clip_and_back();
+        else if (it < 29) row();
+        else rows();
+    }
+}
+
+/* ---- the whole */
+
+static FILE *file_in(const char *folder, const char *name) {
+    char path[512];
+    snprintf(path, sizeof path, "%s/%s", folder, name);
+    FILE *file = fopen(path, "wb");
+    must(file != NULL, "a file can't be written");
+    return file;
+}
+
+/* A line over its limit, once. */
+static void long_line(void) {
+    size_t size = (1 << 20) + 1;
+    char *line = malloc(size);
+    must(line != NULL, "no memory");
+    memset(line, 'x', size);
+    must(ask_bytes(line, size) == DISPLAYMAP_TOO_LONG, "a line that is too long");
+    free(line);
+}
+
+int main(int count, char **words) {
+    static const char start[] = "fn main() {\n\tlet total = items.iter().sum();\n\t// \xe6\xbc\xa2\xe5\xad\x97 e\xcc\x81\n}\n";
+    uint32_t calls = count > 1 ? (uint32_t)strtoul(words[1], NULL, 10) : 1000;
+    state = count > 2 ? strtoull(words[2], NULL, 10) : 1;
+    if (count > 3) {
+        FILE *opened = file_in(words[3], "text");
+        fputs(start, opened);
+        fclose(opened);
+        script = file_in(words[3], "script");
+        output = file_in(words[3], "output");
+    }
+    put_in(0, 0, start);
+    must(!displaymap_open(&d, (const uint8_t *)text, length), "open");
+    print_to(script, "{\"script\":2}\n");
+    long_line();
+    for (uint32_t i = 0; i < calls; i++) call();
+    displaymap_close(&d);
+    displaymap_close(&other);
+    if (script) must(!fclose(script) && !fclose(output), "a file can't be written");
+    printf("random: %u calls, %u of them refused\n", calls, refused);
+    return 0;
+}
