@@ -4,19 +4,21 @@ ghost use Rattle.cell_units.specs.Text.{clean};
 
 use crate::displays::{assert_marks, assert_row, first_landing, view_of};
 use cell_units::{Bias, Fault, NoMemory, Point, Refusal, Spot, Steps, Text};
-use display_map::{Kind, View};
+use display_map::{Kind, ViewOn};
+use kept_sheet::{JobSheet, Sheet};
+use map_sheet::MapSheet;
 use std::alloc::Global;
 use std::process::Abort;
 use std::test::Fail;
 
 /// A view of `abc` with its one line wrapped.
-fn first_view(rt: &impl Abort, alloc: Global) -> Result<View, Fail> {
-    let display = first_landing(rt, alloc)?;
+fn first_view<S: JobSheet>(rt: &impl Abort, alloc: Global) -> Result<ViewOn<S>, Fail> {
+    let display = first_landing::<S>(rt, alloc)?;
     Ok(display.view()?)
 }
 
 /// Asserts where a view of `abc` shows what.
-fn assert_places(rt: &impl Abort, alloc: Global, view: &View) -> Result<(), Fail> {
+fn assert_places<S: Sheet>(rt: &impl Abort, alloc: Global, view: &ViewOn<S>) -> Result<(), Fail> {
     let mut steps = Steps::new();
     let past = view.show(alloc, 4, Bias::Left, &mut steps);
     assert_eq!(rt; past, Err(Fault::Refused(Refusal::BadRange)));
@@ -28,7 +30,11 @@ fn assert_places(rt: &impl Abort, alloc: Global, view: &View) -> Result<(), Fail
 }
 
 /// Asserts that a view's record is the text `abc` with one line at 80 cells.
-fn assert_plain(rt: &impl Abort, alloc: Global, view: &View) -> Result<(), NoMemory> {
+fn assert_plain<S: Sheet>(
+    rt: &impl Abort,
+    alloc: Global,
+    view: &ViewOn<S>,
+) -> Result<(), NoMemory> {
     let plain = view.plain(alloc, &mut Steps::new())?;
     assert_eq!(rt; plain.text.as_str(), "abc");
     assert_eq!(rt; plain.marks.as_slice(), [80].as_slice());
@@ -37,33 +43,46 @@ fn assert_plain(rt: &impl Abort, alloc: Global, view: &View) -> Result<(), NoMem
 }
 
 /// Asserts that there is no row of this number.
-fn assert_no_row(rt: &impl Abort, alloc: Global, view: &View, row: u32) -> Result<(), NoMemory> {
+fn assert_no_row<S: Sheet>(
+    rt: &impl Abort,
+    alloc: Global,
+    view: &ViewOn<S>,
+    row: u32,
+) -> Result<(), NoMemory> {
     let shown = view.row(alloc, row, &mut Steps::new())?;
     assert!(rt; shown.is_none());
     Ok(())
 }
 
+/// Asserts the rows of that view, and where it shows what.
+fn assert_shown<S: JobSheet>(rt: &impl Abort, alloc: Global) -> Result<(), Fail> {
+    let view = first_view::<S>(rt, alloc)?;
+    assert_row(rt, alloc, &view, 0, Kind::Head, "abc")?;
+    assert_no_row(rt, alloc, &view, 1)?;
+    assert_places(rt, alloc, &view)
+}
+
 #[test]
 fn a_view_has_rows_and_places(rt: HostRuntime) -> Result<(), Fail> {
-    let alloc = rt.alloc();
-    let view = first_view(&rt, alloc)?;
-    assert_row(&rt, alloc, &view, 0, Kind::Head, "abc")?;
-    assert_no_row(&rt, alloc, &view, 1)?;
-    assert_places(&rt, alloc, &view)
+    assert_shown::<MapSheet>(&rt, rt.alloc())
+}
+
+/// Asserts the number, the marks and the record of that view.
+fn assert_kept<S: JobSheet>(rt: &impl Abort, alloc: Global) -> Result<(), Fail> {
+    let view = first_view::<S>(rt, alloc)?;
+    assert_eq!(rt; view.versions(), 2);
+    assert_marks(rt, alloc, &view, &[(0, 0, 80)])?;
+    assert_plain(rt, alloc, &view)?;
+    Ok(())
 }
 
 #[test]
 fn a_view_has_marks_and_a_record(rt: HostRuntime) -> Result<(), Fail> {
-    let alloc = rt.alloc();
-    let view = first_view(&rt, alloc)?;
-    assert_eq!(rt; view.versions(), 2);
-    assert_marks(&rt, alloc, &view, &[(0, 0, 80)])?;
-    assert_plain(&rt, alloc, &view)?;
-    Ok(())
+    assert_kept::<MapSheet>(&rt, rt.alloc())
 }
 
 /// A view of `abcdefg`.
-fn letters(alloc: Global) -> Result<View, Fail>
+fn letters<S: Sheet>(alloc: Global) -> Result<ViewOn<S>, Fail>
     ensures { IfOk result
         (λ view. view ≡ record { opening = clean (codes "abcdefg"); events = [] }) }
 {
@@ -71,34 +90,38 @@ fn letters(alloc: Global) -> Result<View, Fail>
 }
 
 /// The second and the third of seven letters.
-fn two_letters(alloc: Global, view: &View) -> Result<Text, NoMemory>
+fn two_letters<S: Sheet>(alloc: Global, view: &ViewOn<S>) -> Result<Text, NoMemory>
     requires { view.now ≡ record { opening = clean (codes "abcdefg"); events = [] } }
 {
     view.slice(alloc, 1, 3, &mut Steps::new())
 }
 
-#[test]
-fn a_slice_is_lent_from_boundary_to_boundary(rt: HostRuntime) -> Result<(), Fail> {
-    let alloc = rt.alloc();
-    let view = letters(alloc)?;
+/// Asserts what they are.
+fn assert_two_letters<S: Sheet>(rt: &impl Abort, alloc: Global) -> Result<(), Fail> {
+    let view = letters::<S>(alloc)?;
     let text = two_letters(alloc, &view)?;
     assert_eq!(rt; text.as_str(), "bc");
     Ok(())
 }
 
+#[test]
+fn a_slice_is_lent_from_boundary_to_boundary(rt: HostRuntime) -> Result<(), Fail> {
+    assert_two_letters::<MapSheet>(&rt, rt.alloc())
+}
+
 /// Asserts which offsets points of two lines are, of which the first has five letters and the second of them two bytes.
-fn assert_offsets(rt: &impl Abort, view: &View) {
+fn assert_offsets<S: Sheet>(rt: &impl Abort, alloc: Global) -> Result<(), Fail> {
+    let view = view_of::<S>(alloc, "h\u{e9}llo\nx".as_bytes())?;
     let mut steps = Steps::new();
     let inside = Point { row: 0, column: 2 };
     assert_eq!(rt; view.offset_of(inside, Bias::Left, &mut steps), 1);
     assert_eq!(rt; view.offset_of(inside, Bias::Right, &mut steps), 3);
     let past = Point { row: 9, column: 0 };
     assert_eq!(rt; view.offset_of(past, Bias::Left, &mut steps), 8);
+    Ok(())
 }
 
 #[test]
 fn points_are_offsets(rt: HostRuntime) -> Result<(), Fail> {
-    let view = view_of(rt.alloc(), "h\u{e9}llo\nx".as_bytes())?;
-    assert_offsets(&rt, &view);
-    Ok(())
+    assert_offsets::<MapSheet>(&rt, rt.alloc())
 }

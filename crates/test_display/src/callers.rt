@@ -10,19 +10,21 @@ ghost use Rattle.plain_rows.specs.Plain.{record_of};
 ghost use Rattle.plain_rows.specs.Rows.{rows_of};
 ghost use Rattle.plain_rows.specs.Spots.{spot_le};
 ghost use Rattle.display_map.specs.Events.{event_limit};
-ghost use Rattle.display_map.specs.Replay.{present_of};
 
-use crate::displays::{rows, send};
+use crate::displays::{assert_row_count, send};
 use crate::landings::opened_at;
 use crate::plain::typed;
-use cell_line::Lines;
+use cell_line::{Cuts, Lines};
 use cell_units::{Bias, Fault, NoMemory, Spot, Steps, TextFault, cleaned, read_text};
-use display_map::{Display, Held, Op, Shown, View};
+use display_map::{Display, Op, Shown};
 use display_sheet::operate::operate;
 use display_sheet::{Buffer, Sheet};
+use kept_sheet::JobSheet;
+use map_sheet::MapSheet;
 use plain_rows::{Plain, build, show};
 use spot_laws::laws::show_laws;
 use std::alloc::Global;
+use std::process::Abort;
 use std::sync::Arc;
 use std::test::Fail;
 use wrap_workers::{Done, Finished, Job, do_job};
@@ -44,7 +46,7 @@ fn a_text_is_opened_or_refused(rt: HostRuntime) -> Result<(), Fail> {
 }
 
 /// How many rows a record has.
-fn row_count(alloc: Global, plain: &Plain) -> Result<usize, NoMemory>
+pub(crate) fn row_count(alloc: Global, plain: &Plain) -> Result<usize, NoMemory>
     requires lawful { IsLawful (record_of plain.now) }
     requires size { length plain.now.text ≤ LAID_LIMIT }
     ensures { IfOk result (λ count. count ≡ length (rows_of (record_of plain.now))) }
@@ -57,14 +59,6 @@ fn a_short_line_is_one_row(rt: HostRuntime) -> Result<(), Fail> {
     let plain = typed(rt.alloc())?;
     assert_eq!(rt; row_count(rt.alloc(), &plain)?, 1);
     Ok(())
-}
-
-/// How many rows a view has, from scratch.
-pub(crate) fn built_rows(alloc: Global, view: &View) -> Result<usize, NoMemory>
-    ensures { IfOk result (λ count. count ≡ length (rows_of (present_of view.now))) }
-{
-    let plain = view.plain(alloc, &mut Steps::new())?;
-    Ok(row_count(alloc, &plain)?)
 }
 
 /// Where two boundaries of a record are shown: the first is shown no later than the second.
@@ -109,18 +103,25 @@ fn done<N: Lines>(alloc: Global, job: Job<N>) -> Option<Done<N>>
     }
 }
 
-/// Of two lines at a width of 5 the first is cut after its blank, and the second isn't cut.
-#[test]
-fn a_job_gives_the_cuts_of_its_lines(rt: HostRuntime) -> Result<(), Fail> {
-    let alloc = rt.alloc();
-    let mut display = opened_at(&rt, alloc, "hello world\nabc", 5)?;
-    let job = send(&rt, alloc, &mut display)?.ok_or("no run")?;
-    let done = done(alloc, job).ok_or("no memory")?;
-    let wraps = done.wraps();
+/// Asserts that of two lines the first is cut after its blank, and the second isn't cut.
+fn assert_cuts(rt: &impl Abort, wraps: &[Cuts]) {
     assert_eq!(rt; wraps.len(), 2);
     assert_eq!(rt; wraps[0].as_slice(), [6].as_slice());
     assert_eq!(rt; wraps[1].as_slice().len(), 0);
+}
+
+/// Sends and does the job of those lines, at a width of 5.
+fn cut_lines<S: JobSheet>(rt: &impl Abort, alloc: Global) -> Result<(), Fail> {
+    let mut display = opened_at::<S>(rt, alloc, "hello world\nabc", 5)?;
+    let job = send(rt, alloc, &mut display)?.ok_or("no run")?;
+    let done = done(alloc, job).ok_or("no memory")?;
+    assert_cuts(rt, done.wraps());
     Ok(())
+}
+
+#[test]
+fn a_job_gives_the_cuts_of_its_lines(rt: HostRuntime) -> Result<(), Fail> {
+    cut_lines::<MapSheet>(&rt, rt.alloc())
 }
 
 /// The first rows of a sheet of which the bytes 8 to 13 are folded, or why they aren't.
@@ -170,10 +171,10 @@ fn wrap_run(alloc: Global, display: &mut Display, steps: &mut Steps) -> Result<(
 #[test]
 fn a_landing_wraps_a_line(rt: HostRuntime) -> Result<(), Fail> {
     let alloc = rt.alloc();
-    let mut display = opened_at(&rt, alloc, "hello world", 5)?;
-    assert_eq!(rt; rows(&display)?, 1);
+    let mut display: Display = opened_at(&rt, alloc, "hello world", 5)?;
+    assert_row_count(&rt, &display, 1)?;
     assert!(rt; display.room() >= 2);
     wrap_run(alloc, &mut display, &mut Steps::new())?;
-    assert_eq!(rt; rows(&display)?, 2);
+    assert_row_count(&rt, &display, 2)?;
     Ok(())
 }

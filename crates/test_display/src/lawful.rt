@@ -1,8 +1,9 @@
 //! What a view, a version and a display promise of their history is what laws and plain functions ask.
-ghost use Rattle.std.specs.Prelude.{◌≡◌, ℕ, IsTrue, List, None, map, slice_range, take, IfOk};
+ghost use Rattle.std.specs.Prelude.{◌≡◌, ℕ, IsTrue, List, None, length, map, slice_range, take, IfOk};
 ghost use Rattle.cell_units.specs.declared.place.Bias.TheVariants.{Left};
 ghost use Rattle.cell_line.specs.declared.element.Element.{Element};
 ghost use Rattle.wrap_workers.specs.Jobs.{JobParts};
+ghost use Rattle.plain_rows.specs.Rows.{rows_of};
 ghost use Rattle.plain_rows.specs.Spots.{back, clip, show, spot_le};
 ghost use Rattle.display_sheet.specs.Changes.{ChangeParts, operations_in, refusal_of};
 ghost use Rattle.edit_patch.specs.declared.edit.Edit.{Edit};
@@ -13,18 +14,34 @@ ghost use Rattle.display_map.specs.LinePatches.{CameByStamp, IsPatchOver};
 ghost use Rattle.display_map.specs.Replay.{appended, begun, present_of, replayed, state_of};
 ghost use Rattle.display_map.specs.Sending.{GivesCuts, IsOutstanding};
 
-use crate::callers::built_rows;
+use crate::callers::row_count;
 use crate::displays::{first_landing, view_of};
 use cell_units::{Bias, NoMemory, Spot, Steps, Text};
-use display_map::{Display, Version, View, landing_laws, line_patch_laws, replay_laws, stamp_laws};
+use display_map::{
+    DisplayOn, VersionOn, ViewOn, landing_laws, line_patch_laws, replay_laws, stamp_laws,
+};
+use kept_sheet::{JobSheet, Sheet};
+use map_sheet::MapSheet;
 use plain_rows::{back, clip, show};
 use spot_laws::laws::show_laws;
 use std::alloc::Global;
 use std::process::Abort;
 use std::test::Fail;
 
+/// How many rows a view has, from scratch.
+fn built_rows<S: Sheet>(alloc: Global, view: &ViewOn<S>) -> Result<usize, NoMemory>
+    ensures { IfOk result (λ count. count ≡ length (rows_of (present_of view.now))) }
+{
+    let plain = view.plain(alloc, &mut Steps::new())?;
+    Ok(row_count(alloc, &plain)?)
+}
+
 /// The offset that a spot leads back to, the nearest spot that is shown, and where the offset is shown, from scratch.
-fn placed(alloc: Global, view: &View, spot: Spot) -> Result<(u32, Spot, Spot), NoMemory>
+fn placed<S: Sheet>(
+    alloc: Global,
+    view: &ViewOn<S>,
+    spot: Spot,
+) -> Result<(u32, Spot, Spot), NoMemory>
     ensures { let r = present_of view.now in let o = back r spot Left in
         IfOk result (λ found. found ≡ (o, clip r spot Left, show r o Left)) }
 {
@@ -38,7 +55,12 @@ fn placed(alloc: Global, view: &View, spot: Spot) -> Result<(u32, Spot, Spot), N
 }
 
 /// The text between the offsets that two spots lead back to, the second of them at or after the first.
-fn text_between(alloc: Global, view: &View, first: Spot, second: Spot) -> Result<Text, NoMemory>
+fn text_between<S: Sheet>(
+    alloc: Global,
+    view: &ViewOn<S>,
+    first: Spot,
+    second: Spot,
+) -> Result<Text, NoMemory>
     requires { IsTrue (spot_le first second) }
     ensures { let r = present_of view.now in IfOk result (λ text.
         text ≡ slice_range r.text (back r first Left) (back r second Left)) }
@@ -53,7 +75,7 @@ fn text_between(alloc: Global, view: &View, first: Spot, second: Spot) -> Result
 }
 
 /// Lines of one stamp have equal elements in the record of a version and in each one before it.
-fn same_lines(version: &Version)
+fn same_lines<S: Sheet>(version: &VersionOn<S>)
     ensures { (n : ℕ) → HaveSameLines
         (replayed (begun version.now.opening) (take n version.now.events)).present
         (present_of version.now) }
@@ -65,7 +87,7 @@ fn same_lines(version: &Version)
 
 /// From an earlier view of a display to a later one there is a line patch, by which lines came from lines of their
 /// stamp.
-fn line_patch(earlier: &View, later: &View)
+fn line_patch<S: Sheet>(earlier: &ViewOn<S>, later: &ViewOn<S>)
     ensures { (events : List Event) → later.now ≡ appended earlier.now events →
         (patch : List Edit) × IsPatchOver (state_of earlier.now) events patch
         × CameByStamp patch (present_of earlier.now) (present_of later.now) }
@@ -77,7 +99,7 @@ fn line_patch(earlier: &View, later: &View)
 }
 
 /// The operations of a change that a display doesn't refuse are allowed, each in the record that it finds.
-fn fitting_changes(display: &Display)
+fn fitting_changes<S: Sheet>(display: &DisplayOn<S>)
     ensures { (change : ChangeParts) → ChangeInsertsUtf8 change →
         refusal_of (present_of display.now) change ≡ None →
         EventsFit (state_of display.now) (map Did (operations_in change)) }
@@ -88,7 +110,7 @@ fn fitting_changes(display: &Display)
 }
 
 /// A job that is out has the cuts of exactly the lines that its landing marks.
-fn landing_cuts(display: &Display)
+fn landing_cuts<S: Sheet>(display: &DisplayOn<S>)
     ensures { (job : JobParts (List (List Element))) → IsOutstanding display.now job →
         GivesCuts (state_of display.now) job }
 {
@@ -97,10 +119,9 @@ fn landing_cuts(display: &Display)
     landing_laws();
 }
 
-#[test]
-fn plain_functions_read_a_view(rt: HostRuntime) -> Result<(), Fail> {
-    let alloc = rt.alloc();
-    let view = view_of(alloc, b"abc\ndefg")?;
+/// Asserts what they read of two lines.
+fn assert_read<S: Sheet>(rt: &impl Abort, alloc: Global) -> Result<(), Fail> {
+    let view = view_of::<S>(alloc, b"abc\ndefg")?;
     assert_eq!(rt; built_rows(alloc, &view)?, 2);
     let spot = Spot { row: 1, col: 9 };
     let end = Spot { row: 1, col: 4 };
@@ -111,22 +132,35 @@ fn plain_functions_read_a_view(rt: HostRuntime) -> Result<(), Fail> {
     Ok(())
 }
 
+#[test]
+fn plain_functions_read_a_view(rt: HostRuntime) -> Result<(), Fail> {
+    assert_read::<MapSheet>(&rt, rt.alloc())
+}
+
 /// Publishes a display.
-fn published(rt: &impl Abort, alloc: Global, display: &mut Display) -> Result<Version, NoMemory> {
+fn published<S: Sheet>(
+    rt: &impl Abort,
+    alloc: Global,
+    display: &mut DisplayOn<S>,
+) -> Result<VersionOn<S>, NoMemory> {
     assert!(rt; display.room() > 0);
     display.publish(alloc, false)
 }
 
-#[test]
-fn laws_hold_of_a_display(rt: HostRuntime) -> Result<(), Fail> {
-    let alloc = rt.alloc();
-    let mut display = first_landing(&rt, alloc)?;
+/// Asks the laws of a display that was published twice, of a view of it, and of its next version.
+fn ask_laws<S: JobSheet>(rt: &impl Abort, alloc: Global) -> Result<(), Fail> {
+    let mut display = first_landing::<S>(rt, alloc)?;
     let earlier = display.view()?;
-    let version = published(&rt, alloc, &mut display)?;
+    let version = published(rt, alloc, &mut display)?;
     same_lines(&version);
     line_patch(&earlier, version.view());
     fitting_changes(&display);
     landing_cuts(&display);
     assert_eq!(rt; version.number(), 2);
     Ok(())
+}
+
+#[test]
+fn laws_hold_of_a_display(rt: HostRuntime) -> Result<(), Fail> {
+    ask_laws::<MapSheet>(&rt, rt.alloc())
 }

@@ -2,30 +2,45 @@
 use crate::displays::{assert_events, assert_row, edit, first_landing, operate, view_of};
 use cell_units::limits::TEXT_LIMIT;
 use cell_units::{Fault, NoMemory, Refusal, Steps, TextFault};
-use display_map::{Display, Event, Journal, Kind, Op, View};
+use display_map::{DisplayOn, Event, Journal, Kind, Op, ViewOn};
+use kept_sheet::{JobSheet, Sheet};
+use map_sheet::MapSheet;
 use std::alloc::Global;
 use std::process::Abort;
 use std::test::Fail;
 
-#[test]
-fn carriage_returns_end_lines(rt: HostRuntime) -> Result<(), Fail> {
-    let alloc = rt.alloc();
-    let view = view_of(alloc, b"abc\r\n")?;
+/// Asserts that there are two rows, of which the second is empty.
+fn assert_rows<S: Sheet>(rt: &impl Abort, alloc: Global) -> Result<(), Fail> {
+    let view = view_of::<S>(alloc, b"abc\r\n")?;
     assert_eq!(rt; view.row_count(), 2);
-    assert_row(&rt, alloc, &view, 0, Kind::Head, "abc")?;
-    assert_row(&rt, alloc, &view, 1, Kind::Head, "")
+    assert_row(rt, alloc, &view, 0, Kind::Head, "abc")?;
+    assert_row(rt, alloc, &view, 1, Kind::Head, "")
 }
 
 #[test]
-fn bytes_that_are_no_text_are_refused(rt: HostRuntime) {
-    match Display::start(rt.alloc(), b"abc\xff", &mut Steps::new()) {
+fn carriage_returns_end_lines(rt: HostRuntime) -> Result<(), Fail> {
+    assert_rows::<MapSheet>(&rt, rt.alloc())
+}
+
+/// Asserts that no display starts where the fourth byte is none of a text.
+fn refuse_bytes<S: Sheet>(rt: &impl Abort, alloc: Global) {
+    match DisplayOn::<S>::start(alloc, b"abc\xff", &mut Steps::new()) {
         Err(fault) => assert_eq!(rt; fault, TextFault::NotUtf8 { at: 3 }),
         Ok(_) => panic!(rt; "no fault"),
     }
 }
 
+#[test]
+fn bytes_that_are_no_text_are_refused(rt: HostRuntime) {
+    refuse_bytes::<MapSheet>(&rt, rt.alloc());
+}
+
 /// Notes the first line of a script.
-fn note(rt: &impl Abort, alloc: Global, display: &mut Display) -> Result<(), NoMemory> {
+fn note<S: Sheet>(
+    rt: &impl Abort,
+    alloc: Global,
+    display: &mut DisplayOn<S>,
+) -> Result<(), NoMemory> {
     assert!(rt; display.room() > 0);
     display.note_line(alloc, 1)
 }
@@ -36,18 +51,22 @@ fn assert_noted(rt: &impl Abort, journal: &Journal) {
     assert!(rt; matches!(journal.get(4), Some(Event::Line { number: 1 })));
 }
 
-#[test]
-fn a_line_is_noted(rt: HostRuntime) -> Result<(), Fail> {
-    let alloc = rt.alloc();
-    let mut display = first_landing(&rt, alloc)?;
-    note(&rt, alloc, &mut display)?;
+/// Does both.
+fn note_fifth<S: JobSheet>(rt: &impl Abort, alloc: Global) -> Result<(), Fail> {
+    let mut display = first_landing::<S>(rt, alloc)?;
+    note(rt, alloc, &mut display)?;
     let journal = display.into_journal();
-    assert_noted(&rt, &journal);
+    assert_noted(rt, &journal);
     Ok(())
 }
 
+#[test]
+fn a_line_is_noted(rt: HostRuntime) -> Result<(), Fail> {
+    note_fifth::<MapSheet>(&rt, rt.alloc())
+}
+
 /// Asserts that a fold of the first nine bytes is refused.
-fn refuse_fold(rt: &impl Abort, alloc: Global, display: &mut Display) {
+fn refuse_fold<S: Sheet>(rt: &impl Abort, alloc: Global, display: &mut DisplayOn<S>) {
     let fold = Op::Fold {
         id: 1,
         start: 0,
@@ -57,14 +76,18 @@ fn refuse_fold(rt: &impl Abort, alloc: Global, display: &mut Display) {
     assert_eq!(rt; result, Err(Fault::Refused(Refusal::BadRange)));
 }
 
+/// Asserts that, and that it is no event.
+fn assert_no_fold<S: JobSheet>(rt: &impl Abort, alloc: Global) -> Result<(), Fail> {
+    let mut display = first_landing::<S>(rt, alloc)?;
+    refuse_fold(rt, alloc, &mut display);
+    let journal = display.into_journal();
+    assert_events(rt, &journal, &["Published", "Sent", "Landed", "Published"]);
+    Ok(())
+}
+
 #[test]
 fn a_fold_past_the_end_is_refused(rt: HostRuntime) -> Result<(), Fail> {
-    let alloc = rt.alloc();
-    let mut display = first_landing(&rt, alloc)?;
-    refuse_fold(&rt, alloc, &mut display);
-    let journal = display.into_journal();
-    assert_events(&rt, &journal, &["Published", "Sent", "Landed", "Published"]);
-    Ok(())
+    assert_no_fold::<MapSheet>(&rt, rt.alloc())
 }
 
 /// As many letters as a text may have.
@@ -74,21 +97,29 @@ fn longest(alloc: Global) -> Result<String, NoMemory> {
 }
 
 /// Asserts that the letters are too long beside the one that is there.
-fn refuse_edit(rt: &impl Abort, alloc: Global, display: &mut Display) -> Result<(), NoMemory> {
+fn refuse_edit<S: Sheet>(
+    rt: &impl Abort,
+    alloc: Global,
+    display: &mut DisplayOn<S>,
+) -> Result<(), NoMemory> {
     let text = longest(alloc)?;
     let result = edit(rt, alloc, display, &[(0, 0, text.as_str())]);
     assert_eq!(rt; result, Err(Fault::Refused(Refusal::TooLong)));
     Ok(())
 }
 
-#[test]
-fn a_text_over_the_limit_is_refused(rt: HostRuntime) -> Result<(), Fail> {
-    let alloc = rt.alloc();
-    let mut display = Display::start(alloc, b"a", &mut Steps::new())?;
-    refuse_edit(&rt, alloc, &mut display)?;
+/// Asserts that, and that it is no event.
+fn assert_no_edit<S: Sheet>(rt: &impl Abort, alloc: Global) -> Result<(), Fail> {
+    let mut display = DisplayOn::<S>::start(alloc, b"a", &mut Steps::new())?;
+    refuse_edit(rt, alloc, &mut display)?;
     let journal = display.into_journal();
     assert_eq!(rt; journal.len(), 0);
     Ok(())
+}
+
+#[test]
+fn a_text_over_the_limit_is_refused(rt: HostRuntime) -> Result<(), Fail> {
+    assert_no_edit::<MapSheet>(&rt, rt.alloc())
 }
 
 /// Of a hundred lines of twenty letters, each first of two letters is replaced by `xy` and each second by `-`.
@@ -105,16 +136,16 @@ fn ranges(alloc: Global) -> Result<Vec<(u32, u32, &'static str)>, NoMemory> {
 }
 
 /// A display of those lines, with that done.
-fn edited(rt: &impl Abort, alloc: Global) -> Result<Display, Fail> {
+fn edited<S: Sheet>(rt: &impl Abort, alloc: Global) -> Result<DisplayOn<S>, Fail> {
     let text = "abababababababababab\n".repeat(alloc, 100)?;
     let ranges = ranges(alloc)?;
-    let mut display = Display::start(alloc, text.as_bytes(), &mut Steps::new())?;
+    let mut display = DisplayOn::<S>::start(alloc, text.as_bytes(), &mut Steps::new())?;
     edit(rt, alloc, &mut display, ranges.as_slice())?;
     Ok(display)
 }
 
 /// Asserts the rows of that.
-fn assert_edited(rt: &impl Abort, alloc: Global, view: &View) -> Result<(), Fail> {
+fn assert_edited<S: Sheet>(rt: &impl Abort, alloc: Global, view: &ViewOn<S>) -> Result<(), Fail> {
     assert_eq!(rt; view.row_count(), 101);
     let line = "xy-xy-xy-xy-xy-xy-xy-xy-xy-xy-";
     assert_row(rt, alloc, view, 0, Kind::Head, line)?;
@@ -122,13 +153,17 @@ fn assert_edited(rt: &impl Abort, alloc: Global, view: &View) -> Result<(), Fail
     assert_row(rt, alloc, view, 100, Kind::Head, "")
 }
 
-#[test]
-fn a_batch_of_two_thousand_ranges_is_applied(rt: HostRuntime) -> Result<(), Fail> {
-    let alloc = rt.alloc();
-    let display = edited(&rt, alloc)?;
+/// Asserts them, and how many events there are.
+fn assert_applied<S: Sheet>(rt: &impl Abort, alloc: Global) -> Result<(), Fail> {
+    let display = edited::<S>(rt, alloc)?;
     let view = display.view()?;
-    assert_edited(&rt, alloc, &view)?;
+    assert_edited(rt, alloc, &view)?;
     let journal = display.into_journal();
     assert_eq!(rt; journal.len(), 2000);
     Ok(())
+}
+
+#[test]
+fn a_batch_of_two_thousand_ranges_is_applied(rt: HostRuntime) -> Result<(), Fail> {
+    assert_applied::<MapSheet>(&rt, rt.alloc())
 }

@@ -1,6 +1,8 @@
 //! How many tree nodes a change opens or makes, on the counter that is handed in.
 use cell_units::{Fault, NoMemory, Steps, Text};
-use display_map::{Change, Display, Op, Splice};
+use display_map::{Change, DisplayOn, Op, Splice};
+use kept_sheet::Sheet;
+use map_sheet::MapSheet;
 use std::alloc::Global;
 use std::process::Abort;
 use std::test::Fail;
@@ -18,7 +20,7 @@ fn counted(alloc: Global, steps: &Steps) -> Result<u64, NoMemory> {
 }
 
 /// A display of a thousand lines, each of 63 letters and a line feed.
-fn thousand_lines(alloc: Global) -> Result<Display, Fail> {
+fn thousand_lines<S: Sheet>(alloc: Global) -> Result<DisplayOn<S>, Fail> {
     let mut text = String::new(alloc);
     for _ in 0..1000 {
         for _ in 0..63 {
@@ -26,7 +28,7 @@ fn thousand_lines(alloc: Global) -> Result<Display, Fail> {
         }
         text.push('\n')?;
     }
-    Ok(Display::start(alloc, text.as_bytes(), &mut Steps::new())?)
+    Ok(DisplayOn::<S>::start(alloc, text.as_bytes(), &mut Steps::new())?)
 }
 
 /// The insertion of a letter at the start.
@@ -39,11 +41,23 @@ fn letter(alloc: Global) -> Result<Op, NoMemory> {
 }
 
 /// Does one operation, and returns its steps.
-fn steps_of(rt: &impl Abort, alloc: Global, display: &mut Display, op: Op) -> Result<u64, Fault> {
+fn steps_of<S: Sheet>(
+    rt: &impl Abort,
+    alloc: Global,
+    display: &mut DisplayOn<S>,
+    op: Op,
+) -> Result<u64, Fault> {
     let mut steps = Steps::new();
     assert!(rt; display.room() > 0);
     display.apply(alloc, &Change::One(op), &mut steps)?;
     Ok(counted(alloc, &steps)?)
+}
+
+/// Inserts the letter, and returns the steps of that.
+fn steps_of_letter<S: Sheet>(rt: &impl Abort, alloc: Global) -> Result<u64, Fail> {
+    let mut display = thousand_lines::<S>(alloc)?;
+    let letter = letter(alloc)?;
+    Ok(steps_of(rt, alloc, &mut display, letter)?)
 }
 
 /// The text has at least 500 chunks, so its tree has at least two levels below the root, and a way down it takes three
@@ -51,9 +65,7 @@ fn steps_of(rt: &impl Abort, alloc: Global, display: &mut Display, op: Op) -> Re
 /// than five levels below its root, so it takes at most 4,000 * (3 + 1) * (5 + 1) steps.
 #[test]
 fn a_letter_takes_the_steps_of_its_line_and_not_of_the_text(rt: HostRuntime) -> Result<(), Fail> {
-    let alloc = rt.alloc();
-    let mut display = thousand_lines(alloc)?;
-    let steps = steps_of(&rt, alloc, &mut display, letter(alloc)?)?;
+    let steps = steps_of_letter::<MapSheet>(&rt, rt.alloc())?;
     assert!(rt; steps >= 3, "{steps} steps");
     assert!(rt; steps <= 96_000, "{steps} steps");
     Ok(())

@@ -7,7 +7,7 @@ use Rattle.display_map.specs.Replay.{History, begun, present_of}
 use Rattle.test_display.proofs.lawful.line_patch.Goals as goal
 
 pub returns : goal.returns
-returns c = λ events is.
+returns g c = λ events is.
     let h = c.args.earlier.now in
     let text = subst (λ (q : History). IsText q.opening) is c.lawful.ensures.opening in
     let fits = subst (λ (q : History). EventsFit (begun q.opening) q.events) is c.lawful.ensures.fits in

@@ -10,13 +10,13 @@ use Rattle.display_map.specs.Replay.{present_of}
 use Rattle.test_display.proofs.lawful.placed.Goals as goal
 
 pub show-requires-clause-boundary : goal.show-requires-clause-boundary
-show-requires-clause-boundary c =
+show-requires-clause-boundary g c =
     let r = record_of c.in_ok-plain.plain in
     subst (λ (o : ℕ). IsBoundary r.text o) (sym c.in_ok-offset.ensures)
     (c.show_laws.ensures.back_left r c.args.spot c.in_ok-plain.ensures.lawful).0.1
 
 pub returns : goal.returns
-returns c =
+returns g c =
     let r = present_of c.args.view.now in
     let spot = c.args.spot in
     let same = c.in_ok-plain.ensures.same in

@@ -6,7 +6,7 @@ use Rattle.display_map.specs.Replay.{begun, replayed}
 use Rattle.test_display.proofs.lawful.same_lines.Goals as goal
 
 pub returns : goal.returns
-returns c = λ n.
+returns g c = λ n.
     let h = c.args.version.now in
     subst (λ (events : List Event). HaveSameLines (replayed (begun h.opening) (take n h.events)).present (replayed (begun h.opening) events).present)
     (take_all (length h.events) h.events (omega arith))
