@@ -57,6 +57,23 @@ fn offsets_lead_to_spots_and_back(rt: HostRuntime) -> Result<(), Fail> {
 }
 
 #[test]
+fn a_slice_ends_between_characters(rt: HostRuntime) -> Result<(), Fail> {
+    let alloc = rt.alloc();
+    let text = "a⋯\r\nb".as_bytes();
+    let mut session = Session::open(alloc, text).ok().ok_or("no session")?;
+    assert_eq!(rt; session.text_len().ok(), Some(6));
+    assert_eq!(rt; session.slice(alloc, 1, 5), Ok(()));
+    assert_eq!(rt; session.answer(), "⋯\n");
+    let refused = Err(Trouble::Refused(Refusal::BadRange));
+    assert_eq!(rt; session.slice(alloc, 1, 3), refused);
+    assert_eq!(rt; session.slice(alloc, 2, 4), refused);
+    assert_eq!(rt; session.slice(alloc, 4, 1), refused);
+    assert_eq!(rt; session.slice(alloc, 6, 7), refused);
+    assert_eq!(rt; session.answer(), "⋯\n");
+    Ok(())
+}
+
+#[test]
 fn an_edit_is_one_row_until_its_line_is_wrapped(rt: HostRuntime) -> Result<(), Fail> {
     let alloc = rt.alloc();
     let mut session = Session::open(alloc, b"world").ok().ok_or("no session")?;
