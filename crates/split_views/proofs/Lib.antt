@@ -1,0 +1,9 @@
+pub mod Idle
+pub mod Keeping
+pub mod OneText
+pub mod Reached
+pub mod Rooms
+pub mod Settled
+pub mod Taken
+pub mod Texts
+pub mod Wraps
