@@ -2,17 +2,16 @@
 
 use crate::looks::rows;
 use crate::text::{block_lines, scattered, side_of, start_of};
-use blocked_text::BlockedText;
-use cell_units::{Bias, Fault, NoMemory, Point, Side, Steps, Text};
+use cell_units::{Bias, Fault, NoMemory, Point, Steps, Text};
 use std::alloc::Global;
+use test_stages::{BlockedText, StagedText};
 use text_rope::Rope;
-use wrapped_text::WrappedText;
 
 /// The id of a block that is added and taken out again.
 const FRESH: u32 = u32::MAX;
 
-/// Adds a block at a line and takes it out again, each with what is shown then, at lines far from each other. It gives the
-/// number of rows of the last snapshot.
+/// Adds a block at a line and takes it out again, each with what is shown then, at lines far from each other. It gives
+/// the number of rows of the last snapshot.
 pub fn blocks(
     alloc: Global,
     text: &mut BlockedText,
@@ -23,7 +22,7 @@ pub fn blocks(
 ) -> Result<u64, Fault> {
     let given = block_lines(alloc)?;
     put_and_take(alloc, text, given.as_slice(), lines, group, times, steps)?;
-    Ok(rows(&text.shown))
+    Ok(rows(text))
 }
 
 /// The same with the lines of the block.
@@ -38,30 +37,9 @@ fn put_and_take(
 ) -> Result<(), Fault> {
     for turn in 0..times {
         let at = start_of(scattered(turn, lines), group);
-        put_one(alloc, text, given, side_of(turn), at, steps)?;
-        take_one(alloc, text, steps)?;
+        text.insert(alloc, FRESH, side_of(turn), at, given, steps)?;
+        text.remove(alloc, FRESH, steps)?;
     }
-    Ok(())
-}
-
-/// Adds a block and shows it.
-fn put_one(
-    alloc: Global,
-    text: &mut BlockedText,
-    given: &[Text],
-    side: Side,
-    at: u32,
-    steps: &mut Steps,
-) -> Result<(), Fault> {
-    text.insert(alloc, FRESH, side, at, given, steps)?;
-    text.show(alloc, steps)?;
-    Ok(())
-}
-
-/// Takes the block out and shows what is left.
-fn take_one(alloc: Global, text: &mut BlockedText, steps: &mut Steps) -> Result<(), Fault> {
-    text.remove(alloc, FRESH, steps)?;
-    text.show(alloc, steps)?;
     Ok(())
 }
 
@@ -75,11 +53,11 @@ pub fn shows(
     for _ in 0..times {
         text.show(alloc, steps)?;
     }
-    Ok(rows(&text.shown))
+    Ok(rows(text))
 }
 
-/// Changes letters of lines far from each other, each time with what is shown then: the text with its maps and its blocks. It
-/// gives the number of rows of the last snapshot.
+/// Changes letters of lines far from each other, each time with what is shown then: the text with its maps and its
+/// blocks. It gives the number of rows of the last snapshot.
 pub fn letters(
     alloc: Global,
     text: &mut BlockedText,
@@ -92,7 +70,7 @@ pub fn letters(
         let at = start_of(scattered(turn, lines), group);
         text.replace(alloc, at, at.saturating_add(1), "b", steps)?;
     }
-    Ok(rows(&text.shown))
+    Ok(rows(text))
 }
 
 /// The same without blocks: the text with its maps alone. It gives the number of rows of the last snapshot.
@@ -104,14 +82,14 @@ pub fn letters_below(
     times: u32,
     steps: &mut Steps,
 ) -> Result<u64, Fault> {
-    let mut changed = text.text.share()?;
+    let mut changed = text.late.text.share()?;
     change_letters(alloc, &mut changed, lines, group, times, steps)
 }
 
 /// The same in a text of its own.
 fn change_letters(
     alloc: Global,
-    text: &mut WrappedText,
+    text: &mut StagedText,
     lines: u32,
     group: u32,
     times: u32,
@@ -128,17 +106,17 @@ fn change_letters(
 /// Puts a letter in the place of a range. It gives how many rows come for those of its line.
 fn put_letter(
     alloc: Global,
-    text: &mut WrappedText,
+    text: &mut StagedText,
     start: u32,
     end: u32,
     steps: &mut Steps,
 ) -> Result<u64, Fault> {
     let change = text.replace(alloc, start, end, "b", steps)?;
-    Ok(change.rows.map_or(0, |rows| rows.count as u64))
+    Ok(change.run.count as u64)
 }
 
-/// Types a letter at the starts of lines far from each other, each time with what is shown then: the text with its maps and its
-/// blocks. It gives the number of rows of the last snapshot.
+/// Types a letter at the starts of lines far from each other, each time with what is shown then: the text with its maps
+/// and its blocks. It gives the number of rows of the last snapshot.
 pub fn typed(
     alloc: Global,
     text: &mut BlockedText,
@@ -147,10 +125,10 @@ pub fn typed(
     steps: &mut Steps,
 ) -> Result<u64, Fault> {
     for turn in 0..times {
-        let at = start_in(&text.text.rope, scattered(turn, lines), steps);
+        let at = start_in(&text.late.text.rope, scattered(turn, lines), steps);
         text.replace(alloc, at, at, "b", steps)?;
     }
-    Ok(rows(&text.shown))
+    Ok(rows(text))
 }
 
 /// The same without blocks: the text with its maps alone. It gives how many rows come for those of the last line.
@@ -161,14 +139,14 @@ pub fn typed_below(
     times: u32,
     steps: &mut Steps,
 ) -> Result<u64, Fault> {
-    let mut changed = text.text.share()?;
+    let mut changed = text.late.text.share()?;
     type_letters(alloc, &mut changed, lines, times, steps)
 }
 
 /// The same in a text of its own.
 fn type_letters(
     alloc: Global,
-    text: &mut WrappedText,
+    text: &mut StagedText,
     lines: u32,
     times: u32,
     steps: &mut Steps,

@@ -1,19 +1,19 @@
-//! Makes a text of short lines under the maps of its lines and rows, wraps it, puts blocks between its rows, changes it and asks
-//! it, and prints a check of what it read. On standard error it says how many nodes it opened or made.
+//! Makes a text of short lines under the maps of its lines and rows, wraps it, puts blocks between its rows, changes it
+//! and asks it, and prints a check of what it read. On standard error it says how many nodes it opened or made.
 //!
-//! The words are what to do, the number of lines, how many blocks there are, how often, and of how many lines one is long
-//! (0: none is): `blocks 1000000 65535 1000 16`. `bench/blocks` times it. With no words it wraps a small text, puts blocks in it,
-//! changes letters of it and types some, and counts its rows.
+//! The words are what to do, the number of lines, how many blocks there are, how often, and of how many lines one is
+//! long (0: none is): `blocks 1000000 65535 1000 16`. `bench/blocks` times it. With no words it wraps a small text,
+//! puts blocks in it, changes letters of it and types some, and counts its rows.
 #![tactic(auto)]
 
 mod changes;
 mod looks;
 mod text;
 
-use blocked_text::BlockedText;
-use cell_units::{Fault, Steps};
+use cell_units::{Fault, NoMemory, Steps};
 use std::alloc::Global;
 use std::{env, io};
+use test_stages::BlockedText;
 
 /// What to do, on how many lines with how many blocks, and how often.
 #[derive(Drop)]
@@ -91,7 +91,7 @@ impl Task {
     }
 }
 
-/// The check of what was read. A fault is want of memory, or that there can be no such text or no such block.
+/// The check of what was read. A fault is out of memory, or that there can be no such text or no such block.
 fn carry_out(alloc: Global, order: &Order, steps: &mut Steps) -> Result<u64, Fault> {
     let mut text = text::of_lines(alloc, order.lines, order.group, steps)?;
     with_blocks(alloc, &mut text, order, steps)
@@ -105,10 +105,9 @@ fn with_blocks(
     steps: &mut Steps,
 ) -> Result<u64, Fault> {
     if let Task::Wrap = order.task {
-        return Ok(looks::rows(&text.shown));
+        return Ok(looks::rows(text));
     }
     text::put_blocks(alloc, text, order.lines, order.blocks, order.group, steps)?;
-    text.show(alloc, steps)?;
     change(alloc, text, order, steps)
 }
 
@@ -142,17 +141,16 @@ fn look(
     text: &BlockedText,
     order: &Order,
     steps: &mut Steps,
-) -> Result<u64, cell_units::NoMemory> {
-    let shown = &text.shown;
+) -> Result<u64, NoMemory> {
     match order.task {
-        Task::LineAt => Ok(looks::lines_of_rows(shown, order.times)),
-        Task::TextRow => looks::texts_of_rows(alloc, shown, order.times),
-        Task::RowOf => Ok(looks::rows_of_lines(shown, order.times, steps)),
-        Task::TextAt => Ok(looks::texts_at_rows(shown, order.times, steps)),
-        Task::Row => looks::rows_at(alloc, shown, order.times, steps),
-        Task::Screens => looks::screens(alloc, shown, order.times, steps),
-        Task::ScreensByRow => looks::screens_by_row(alloc, shown, order.times, steps),
-        _ => Ok(looks::rows(shown)),
+        Task::LineAt => Ok(looks::lines_of_rows(text, order.times)),
+        Task::TextRow => looks::texts_of_rows(alloc, text, order.times),
+        Task::RowOf => Ok(looks::rows_of_lines(text, order.times, steps)),
+        Task::TextAt => Ok(looks::texts_at_rows(text, order.times, steps)),
+        Task::Row => looks::rows_at(alloc, text, order.times, steps),
+        Task::Screens => looks::screens(alloc, text, order.times, steps),
+        Task::ScreensByRow => looks::screens_by_row(alloc, text, order.times, steps),
+        _ => Ok(looks::rows(text)),
     }
 }
 

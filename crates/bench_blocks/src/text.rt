@@ -1,9 +1,9 @@
-//! The text that is timed: lines of words of seven letters with a blank behind each, and blocks between them.
+//! The text that is timed: lines of words of seven letters with a blank after each, and blocks between them.
 ghost use Rattle.std.specs.Prelude.{◌≤◌};
 
-use blocked_text::{BlockedText, LateBlocks};
 use cell_units::{Fault, NoMemory, Refusal, Side, Steps, Text, TextFault};
 use std::alloc::Global;
+use test_stages::BlockedText;
 use text_rope::Rope;
 
 /// The cells at which lines are cut.
@@ -37,7 +37,7 @@ fn bytes_of_lines(alloc: Global, lines: u32, group: u32) -> Result<Vec<u8>, NoMe
     Ok(bytes)
 }
 
-/// A text of so many lines, and an empty one behind them, that are all wrapped.
+/// A text of so many lines, and an empty one after them, that are all wrapped.
 pub fn of_lines(
     alloc: Global,
     lines: u32,
@@ -62,41 +62,38 @@ fn rope_of(alloc: Global, lines: u32, group: u32, steps: &mut Steps) -> Result<R
 /// The text of a rope, whose lines wait for being wrapped.
 fn at_width(alloc: Global, rope: Rope, steps: &mut Steps) -> Result<BlockedText, Fault> {
     let mut text = BlockedText::new(alloc, rope, steps)?;
-    match text.set_width(WIDTH) {
-        Ok(()) => Ok(text),
-        Err(refusal) => Err(Fault::Refused(refusal)),
-    }
+    text.set_width(WIDTH)?;
+    Ok(text)
 }
 
 /// The text with all lines wrapped.
 fn wrapped(
     alloc: Global,
-    text: BlockedText,
+    mut text: BlockedText,
     lines: u32,
     steps: &mut Steps,
 ) -> Result<BlockedText, NoMemory> {
-    let mut late = LateBlocks::new(alloc, text)?;
-    wrap_all(alloc, &mut late, lines, steps)?;
-    late.blocked.share()
+    wrap_all(alloc, &mut text, lines, steps)?;
+    text.share(alloc)
 }
 
 /// Wraps all lines, a run at a time.
 fn wrap_all(
     alloc: Global,
-    late: &mut LateBlocks,
+    text: &mut BlockedText,
     lines: u32,
     steps: &mut Steps,
 ) -> Result<(), NoMemory> {
     for _ in 0..lines {
-        if late.take(alloc, steps)?.is_none() {
+        if text.take(alloc, steps)?.is_none() {
             break;
         }
-        late.land(alloc, steps)?;
+        text.land(alloc, steps)?;
     }
     Ok(())
 }
 
-/// Adds a block at the start of each of so many lines that stand equally far apart, above one and below the next.
+/// Adds a block at the start of each of so many lines that are equally far apart, above one and below the next.
 pub fn put_blocks(
     alloc: Global,
     text: &mut BlockedText,
@@ -110,7 +107,7 @@ pub fn put_blocks(
     put_each(alloc, text, rows.as_slice(), apart, blocks, group, steps)
 }
 
-/// The same with the lines of the blocks, and how far apart they stand.
+/// The same with the lines of the blocks, and how far apart they are.
 fn put_each(
     alloc: Global,
     text: &mut BlockedText,

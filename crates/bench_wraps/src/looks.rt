@@ -5,7 +5,7 @@ use cell_line::{Lines, Run};
 use cell_units::limits::RUN_LIMIT;
 use cell_units::{NoMemory, Rows};
 use std::alloc::Global;
-use wrapped_text::{Shown, WrappedText};
+use test_stages::{Shown, StagedText};
 
 /// The number of rows.
 pub fn rows(shown: &Shown) -> u64 {
@@ -13,9 +13,9 @@ pub fn rows(shown: &Shown) -> u64 {
 }
 
 /// Cuts all lines at the width, so many together as are wrapped at a time. It gives the number of cuts.
-pub fn cuts(alloc: Global, text: &WrappedText) -> Result<u64, NoMemory> {
+pub fn cuts(alloc: Global, text: &StagedText) -> Result<u64, NoMemory> {
     let mut count: u64 = 0;
-    let lines = text.lines.lines();
+    let lines = text.lines.lines().lines();
     let most = RUN_LIMIT as u32;
     let mut first = 0;
     for _ in 0..lines {
@@ -42,7 +42,7 @@ pub fn lines_of_rows(shown: &Shown, times: u32) -> u64 {
     check
 }
 
-/// Asks how many rows stand before lines far from each other. It gives their sum.
+/// Asks how many rows are before lines far from each other. It gives their sum.
 pub fn rows_before_lines(shown: &Shown, times: u32) -> u64 {
     let lines = shown.lines();
     let mut check: u64 = 0;

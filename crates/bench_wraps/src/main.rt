@@ -1,9 +1,9 @@
-//! Makes a text of short lines under the maps of its lines and rows, wraps it, changes it and asks it, and prints a check of
-//! what it read. On standard error it says how many nodes it opened or made.
+//! Makes a text of short lines under the maps of its lines and rows, wraps it, changes it and asks it, and prints a
+//! check of what it read. On standard error it says how many nodes it opened or made.
 //!
-//! The words are what to do, the number of lines, the width in cells, how often, and of how many lines one is long (0: none is):
-//! `letters 1000000 80 100000 16`. `bench/wraps` times it. With no words it wraps a small text, changes a letter of it, and counts
-//! its rows.
+//! The words are what to do, the number of lines, the width in cells, how often, and of how many lines one is long (0:
+//! none is): `letters 1000000 80 100000 16`. `bench/wraps` times it. With no words it wraps a small text, changes a
+//! letter of it, and counts its rows.
 #![tactic(auto)]
 
 mod changes;
@@ -13,7 +13,7 @@ mod text;
 use cell_units::{Fault, Steps};
 use std::alloc::Global;
 use std::{env, io};
-use wrapped_text::WrappedText;
+use test_stages::StagedText;
 
 /// What to do, on how many lines, at which width and how often.
 #[derive(Drop)]
@@ -75,7 +75,7 @@ impl Task {
     }
 }
 
-/// The check of what was read. A fault is want of memory, or that there can be no such text or no such width.
+/// The check of what was read. A fault is out of memory, or that there can be no such text or no such width.
 fn carry_out(alloc: Global, order: &Order, steps: &mut Steps) -> Result<u64, Fault> {
     let mut text = text::of_lines(alloc, order.lines, order.group, order.width, steps)?;
     match order.task {
@@ -89,7 +89,7 @@ fn carry_out(alloc: Global, order: &Order, steps: &mut Steps) -> Result<u64, Fau
 /// Wraps all lines, and then does what is to be done with them.
 fn wrap_and(
     alloc: Global,
-    text: &mut WrappedText,
+    text: &mut StagedText,
     order: &Order,
     steps: &mut Steps,
 ) -> Result<u64, Fault> {
@@ -103,13 +103,13 @@ fn wrap_and(
             order.times,
             steps,
         ),
-        Task::LineAt => Ok(looks::lines_of_rows(&text.map.snapshot()?, order.times)),
-        Task::RowsBefore => Ok(looks::rows_before_lines(&text.map.snapshot()?, order.times)),
+        Task::LineAt => Ok(looks::lines_of_rows(text.lines.rows(), order.times)),
+        Task::RowsBefore => Ok(looks::rows_before_lines(text.lines.rows(), order.times)),
         Task::Check => {
             changes::letters(alloc, text, order.lines, order.group, 1, steps)?;
-            Ok(looks::rows(&text.map.snapshot()?))
+            Ok(looks::rows(text.lines.rows()))
         }
-        _ => Ok(looks::rows(&text.map.snapshot()?)),
+        _ => Ok(looks::rows(text.lines.rows())),
     }
 }
 

@@ -1,10 +1,10 @@
-//! The text that is timed: lines of words of seven letters with a blank behind each.
+//! The text that is timed: lines of words of seven letters with a blank after each.
 ghost use Rattle.std.specs.Prelude.{◌≤◌};
 
 use cell_units::{Fault, NoMemory, Refusal, Steps, TextFault};
 use std::alloc::Global;
+use test_stages::StagedText;
 use text_rope::Rope;
-use wrapped_text::WrappedText;
 
 /// The bytes of a short line with its feed.
 const SHORT: u32 = 24;
@@ -34,25 +34,23 @@ fn bytes_of_lines(alloc: Global, lines: u32, group: u32) -> Result<Vec<u8>, NoMe
     Ok(bytes)
 }
 
-/// A text of so many lines, and an empty one behind them, which are to stand at this width.
+/// A text of so many lines, and an empty one after them, which are to be wrapped at this width.
 pub fn of_lines(
     alloc: Global,
     lines: u32,
     group: u32,
     width: u32,
     steps: &mut Steps,
-) -> Result<WrappedText, Fault> {
+) -> Result<StagedText, Fault> {
     let bytes = bytes_of_lines(alloc, lines, group)?;
     let rope = match Rope::from_bytes(alloc, &bytes, steps) {
         Ok(rope) => rope,
         Err(TextFault::NoMemory) => return Err(Fault::NoMemory),
         Err(_) => return Err(Fault::Refused(Refusal::TooLong)),
     };
-    let mut text = WrappedText::new(alloc, rope, 0, steps)?;
-    match text.set_width(width) {
-        Ok(()) => Ok(text),
-        Err(refusal) => Err(Fault::Refused(refusal)),
-    }
+    let mut text = StagedText::new(alloc, rope, steps)?;
+    text.set_width(width)?;
+    Ok(text)
 }
 
 /// The offset at which a line begins.

@@ -17,7 +17,7 @@ fn is_row(shown: &Shown, row: &PlainRow) -> bool {
     letter_of(shown.kind) == row.letter && shown.text.as_str().as_bytes() == row.text.as_slice()
 }
 
-/// Whether a row is shown at a number, and what stands there is told, and leads back.
+/// Whether a row is shown at a number, and what is there is known, and leads back.
 fn has_row(seen: &Seen, number: u32, row: &PlainRow) -> Result<bool, NoMemory> {
     let told = seen.row(number)?;
     if !told.is_some_and(|told| is_row(&told, row)) {
@@ -41,7 +41,7 @@ fn has_row_at(seen: &Seen, rows: &[PlainRow], number: u32) -> Result<bool, NoMem
     Ok(past.is_none() && seen.text_at(number).is_none())
 }
 
-/// Whether each number has its row, and the one behind the last has none.
+/// Whether each number has its row, and the one after the last has none.
 fn has_each_row(seen: &Seen, rows: &[PlainRow]) -> Result<bool, NoMemory> {
     for number in 0..seen.row_count() {
         if !has_row_at(seen, rows, number)? {
@@ -90,7 +90,7 @@ impl Blocked {
         })
     }
 
-    /// Makes a random change of both, and tells whether the answers agree.
+    /// Makes a random change of both, and returns whether the answers agree.
     fn answers_alike(&mut self) -> Result<bool, NoMemory> {
         match self.generator.below(20) {
             0 => {
@@ -108,7 +108,7 @@ impl Blocked {
             6 | 7 | 8 | 9 => self.inserts_alike(),
             10 | 11 => self.removes_alike(),
             12 => {
-                // What was added is to be shown first where the next edit moves it.
+                // A block that comes right before an edit, and is seen with it first.
                 Ok(self.inserts_alike()? && self.edits_alike()?)
             }
             _ => self.edits_alike(),
@@ -148,25 +148,29 @@ impl Blocked {
         Ok(answers(answer, None))
     }
 
-    /// Shows both, and tells whether they show the same rows. Of one turn in eight it asks for each by itself.
+    /// Shows both, and returns whether they show the same rows.
     fn shows_alike(&mut self) -> Result<bool, NoMemory> {
         self.laid.show()?;
         let seen = self.laid.seen_now()?;
         let rows = self.plain.rows(&seen)?;
-        let rows = rows.as_slice();
+        self.has_rows(&seen, rows.as_slice())
+    }
+
+    /// Whether these rows are shown, and no others. Of one turn in eight it asks for each by itself.
+    fn has_rows(&mut self, seen: &Seen, rows: &[PlainRow]) -> Result<bool, NoMemory> {
         let count = seen.row_count();
-        if count as usize != rows.len() || !has_rows_together(&seen, rows, 0, u32::MAX)? {
+        if count as usize != rows.len() || !has_rows_together(seen, rows, 0, u32::MAX)? {
             return Ok(false);
         }
         let first = self.generator.below(count.saturating_add(2));
         let most = self.generator.below(9);
-        if !has_rows_together(&seen, rows, first, most)? || !has_row_at(&seen, rows, first)? {
+        if !has_rows_together(seen, rows, first, most)? || !has_row_at(seen, rows, first)? {
             return Ok(false);
         }
         if self.generator.below(8) > 0 {
             return Ok(true);
         }
-        has_each_row(&seen, rows)
+        has_each_row(seen, rows)
     }
 }
 
@@ -181,8 +185,8 @@ fn differ_at(alloc: Global, text: &str, seed: u64, turns: u32) -> Result<Option<
     Ok(first_difference(Blocked::new(alloc, text, seed)?, turns)?)
 }
 
-/// After each of 250 random edits, landings, widths and blocks, refused ones among them, the map shows the rows of the plain
-/// lists.
+/// After each of 250 random edits, landings, widths and blocks, refused ones among them, the map shows the rows of the
+/// plain lists.
 #[test]
 fn random_changes_show_the_plain_rows(rt: HostRuntime) -> Result<(), Fail> {
     assert_eq!(rt; differ_at(rt.alloc(), "", 21, 250)?, None);

@@ -30,7 +30,7 @@ fn blocks_stay_at_their_lines_when_a_run_lands(rt: HostRuntime) -> Result<(), Fa
     Ok(())
 }
 
-/// A run that lands where its lines stand now has the blocks of these around it, and those that were added since.
+/// A run that lands where its lines are now has the blocks of these around it, and those that were added since.
 #[test]
 fn blocks_that_came_since_stand_at_the_lines_that_land(rt: HostRuntime) -> Result<(), Fail> {
     let steps = [

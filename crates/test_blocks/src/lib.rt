@@ -1,5 +1,5 @@
-//! Worked rows of the block map: which rows stand between those of lines, on texts that are known and on texts that random changes
-//! have made. There is nothing here but tests.
+//! Worked rows of the block map: which rows are between those of lines, on texts that are known and on texts that
+//! random changes have made. There is nothing here but tests.
 #![tactic(auto)]
 
 #[cfg(test)]

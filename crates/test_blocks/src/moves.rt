@@ -25,7 +25,7 @@ fn a_block_moves_with_its_line(rt: HostRuntime) -> Result<(), Fail> {
     Ok(())
 }
 
-/// A block goes behind what is inserted at its anchor: with a break in it to another line.
+/// A block goes after what is inserted at its anchor: with a break in it to another line.
 #[test]
 fn a_block_goes_behind_what_is_inserted_at_its_anchor(rt: HostRuntime) -> Result<(), Fail> {
     let steps = [
@@ -44,7 +44,7 @@ fn a_block_goes_behind_what_is_inserted_at_its_anchor(rt: HostRuntime) -> Result
     Ok(())
 }
 
-/// When lines are joined their blocks stand at the one line, in their order.
+/// When lines are joined their blocks are at the one line, in their order.
 #[test]
 fn blocks_of_joined_lines_stand_at_one_line(rt: HostRuntime) -> Result<(), Fail> {
     let steps = [

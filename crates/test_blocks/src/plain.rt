@@ -73,7 +73,7 @@ impl PlainBlocks {
         row_at(&self.text, offset)
     }
 
-    /// Adds a block, behind all that come before it.
+    /// Adds a block, after all that come before it.
     pub(crate) fn insert(
         &mut self,
         id: u32,

@@ -49,7 +49,7 @@ fn all_told(alloc: Global, rows: Vec<Shown>) -> Result<String, NoMemory> {
     Ok(all)
 }
 
-/// The line and the text row in it that stand at a row, or `none`.
+/// The line and the text row in it that are at a row, or `none`.
 pub(crate) fn text_at(seen: &Seen, row: u32) -> Result<String, NoMemory> {
     pair(seen.alloc(), seen.text_at(row))
 }

@@ -21,7 +21,8 @@ fn a_line_of_a_block_may_be_too_long(rt: HostRuntime) -> Result<(), Fail> {
     Ok(())
 }
 
-/// No line is no block, nor are more than 256, or one with a break. So 256 lines are one, and so is a line without letters.
+/// No line is no block, nor are more than 256, or one with a break. So 256 lines are one, and so is a line without
+/// letters.
 #[test]
 fn lines_that_are_no_block_are_refused(rt: HostRuntime) -> Result<(), Fail> {
     let steps = [
@@ -58,7 +59,7 @@ fn an_offset_off_the_text_is_refused(rt: HostRuntime) -> Result<(), Fail> {
     Ok(())
 }
 
-/// Of several refusals the first in their order is answered, and an id is one of both sides.
+/// Of several refusals the first in their order is returned, and an id is one of both sides.
 #[test]
 fn refusals_come_in_their_order(rt: HostRuntime) -> Result<(), Fail> {
     let steps = [

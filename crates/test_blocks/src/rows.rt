@@ -7,7 +7,7 @@ use crate::script::play;
 use cell_units::Side::{Above, Below};
 use std::test::Fail;
 
-/// The two lines of a block stand above the line of its row, and the text row behind them.
+/// The two lines of a block are above the line of its row, and the text row is after them.
 #[test]
 fn a_block_stands_above_its_line(rt: HostRuntime) -> Result<(), Fail> {
     let steps = [
@@ -70,7 +70,8 @@ fn blocks_are_shown_from_the_next_snapshot_on(rt: HostRuntime) -> Result<(), Fai
     Ok(())
 }
 
-/// At one line blocks stand by offset, then by id, in whatever order they come, and those of one side by themselves.
+/// At one line blocks are ordered by offset, then by id, in whatever order they come, and those of one side by
+/// themselves.
 #[test]
 fn blocks_of_one_line_stand_by_offset_and_id(rt: HostRuntime) -> Result<(), Fail> {
     let steps = [
@@ -130,7 +131,7 @@ fn an_empty_text_has_blocks_on_both_sides(rt: HostRuntime) -> Result<(), Fail> {
     Ok(())
 }
 
-/// What stands at a line that is wrapped stands above its first row and below its last.
+/// What is at a line that is wrapped is above its first row and below its last.
 #[test]
 fn blocks_stand_around_a_wrapped_line(rt: HostRuntime) -> Result<(), Fail> {
     let steps = [
@@ -155,8 +156,8 @@ fn blocks_stand_around_a_wrapped_line(rt: HostRuntime) -> Result<(), Fail> {
     Ok(())
 }
 
-/// A line begins with the blocks above it. At a row of these the line before it is the last one whose text has begun, or the
-/// first line.
+/// A line begins with the blocks above it. At a row of these the line before it is the last one whose text has begun,
+/// or the first line.
 #[test]
 fn a_line_begins_with_the_blocks_above_it(rt: HostRuntime) -> Result<(), Fail> {
     let steps = [
@@ -208,7 +209,8 @@ fn a_row_has_the_last_line_that_has_begun(rt: HostRuntime) -> Result<(), Fail> {
     Ok(())
 }
 
-/// The blocks of a side are listed by offset and id, where the last edit has moved them, and past the last there is none.
+/// The blocks of a side are listed by offset and id, where the last edit has moved them, and past the last there is
+/// none.
 #[test]
 fn blocks_of_a_side_are_listed_in_order(rt: HostRuntime) -> Result<(), Fail> {
     let steps = [

@@ -1,4 +1,4 @@
-//! What is done to a text with blocks and asked of it, step by step, and what is answered, in words.
+//! What is done to a text with blocks and asked of it, step by step, and what comes of it, in words.
 use crate::laid::Laid;
 use crate::read::{row, rows, text_at, texts};
 use crate::seen::Seen;
@@ -18,8 +18,8 @@ pub(crate) enum Step<'a> {
     BlockLetters(u32, u32, usize),
     /// The same, with so many lines `x`.
     BlockLines(u32, u32, usize),
-    /// Adds a block of the line `x` at the first line for each id below this one, above it for the even ones and below it for the
-    /// odd ones.
+    /// Adds a block of the line `x` at the first line for each id below this one, above it for the even ones and below
+    /// it for the odd ones.
     BlockEach(u32),
     /// Takes the block of an id out.
     Unblock(u32),
@@ -27,11 +27,11 @@ pub(crate) enum Step<'a> {
     Show,
     /// Puts a text in the place of a range, and shows what is there then.
     Edit(u32, u32, &'a str),
-    /// Sets the width that lines are to stand at.
+    /// Sets the width at which lines are to be wrapped.
     Width(u32),
-    /// Wraps the first lines that wait, shows what is there then, and tells how many these are.
+    /// Wraps the first lines that wait, shows what is there then, and says how many these are.
     Wrap,
-    /// Takes the first lines that wait, cuts them, and tells how many these are.
+    /// Takes the first lines that wait, cuts them, and says how many these are.
     Take,
     /// Lands what was taken last, and shows what is there then.
     Land,
@@ -56,13 +56,14 @@ pub(crate) enum Step<'a> {
     StartOf(u32),
 }
 
-/// Takes the steps one by one over a text of which each line stands in one row. It gives their answers, with `; ` between them.
+/// Takes the steps one by one over a text of which each line is in one row. It gives their answers, with `; ` between
+/// them.
 pub(crate) fn play(alloc: Global, text: &str, steps: &[Step]) -> Result<String, Fail> {
     Ok(steps::play(Laid::new(alloc, text)?, steps)?)
 }
 
-/// The same, and then other steps over an equal text, and others again over the first one. It gives the answers of the last two,
-/// with ` / ` between them.
+/// The same, and then other steps over an equal text, and others again over the first one. It gives the answers of the
+/// last two, with ` / ` between them.
 pub(crate) fn play_apart(
     alloc: Global,
     text: &str,
@@ -74,8 +75,8 @@ pub(crate) fn play_apart(
     Ok(steps::play_apart(laid, before, apart, behind)?)
 }
 
-/// The same, with the last steps but one over the text, and the last asked of what was shown before them, and of what is shared of
-/// it.
+/// The same, with the last steps but one over the text, and the last asked of what was shown before them, and of what
+/// is shared of it.
 pub(crate) fn play_behind(
     alloc: Global,
     text: &str,
@@ -149,7 +150,7 @@ fn change(laid: &mut Laid, step: &Step) -> Result<String, NoMemory> {
     match step {
         Step::Show => done(alloc, laid.show()),
         Step::Edit(start, end, text) => accepted(alloc, laid.edit(*start, *end, text)),
-        Step::Width(width) => refused(alloc, laid.set_width(*width)),
+        Step::Width(width) => accepted(alloc, laid.set_width(*width)),
         Step::Wrap => counted(alloc, laid.wrap_next()?),
         Step::Take => counted(alloc, laid.take()?),
         Step::Land => done(alloc, laid.land()),

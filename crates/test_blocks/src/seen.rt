@@ -1,15 +1,30 @@
 //! What is shown of a text with blocks: any row may be asked for, and each answer is a plain value.
+ghost use Rattle.std.specs.Prelude.{◌≡◌};
+ghost use Rattle.wrap_map.specs.Standing.{shown_rows};
+
 use block_map::Shown;
-use blocked_text::BlockRows;
+use blocked_rows::BlockedRows;
 use cell_units::{NoMemory, Rows, Steps, Text};
 use std::alloc::Global;
 use std::marker::Model;
+use test_stages::BlockedText;
 
 /// Rows of lines with blocks between them. Proofs see nothing of it: whoever asks owes nothing.
-#[derive(Drop)]
 pub(crate) struct Seen {
     alloc: Global,
-    shown: BlockRows<wrapped_text::Shown>,
+    rows: test_stages::Shown,
+    blocks: BlockedRows<test_stages::Shown>,
+    ghost same: { blocks.lines ≡ shown_rows rows },
+}
+
+impl Drop for Seen {
+    fn drop(self) {
+        let Seen {
+            alloc: _,
+            rows: _,
+            blocks: _,
+        } = self;
+    }
 }
 
 impl Model for Seen {
@@ -20,19 +35,25 @@ impl Model for Seen {
 
 impl Seen {
     /// What is shown.
-    pub(crate) fn of(
-        alloc: Global,
-        shown: &BlockRows<wrapped_text::Shown>,
-    ) -> Result<Seen, NoMemory> {
+    pub(crate) fn of(alloc: Global, text: &BlockedText) -> Result<Seen, NoMemory> {
+        let rows = Rows::share(text.late.text.lines.rows())?;
+        let blocks = text.blocks.share()?;
         Ok(Seen {
             alloc,
-            shown: shown.share()?,
+            rows,
+            blocks,
         })
     }
 
     /// An equal one.
     pub(crate) fn share(&self) -> Result<Seen, NoMemory> {
-        Seen::of(self.alloc, &self.shown)
+        let rows = Rows::share(&self.rows)?;
+        let blocks = self.blocks.share()?;
+        Ok(Seen {
+            alloc: self.alloc,
+            rows,
+            blocks,
+        })
     }
 
     /// The allocator of what it makes.
@@ -42,29 +63,29 @@ impl Seen {
 
     /// The number of rows.
     pub(crate) fn row_count(&self) -> u32 {
-        self.shown.blocks.row_count()
+        self.blocks.shown().row_count()
     }
 
     /// The row of a number, if there is one.
     pub(crate) fn row(&self, row: u32) -> Result<Option<Shown>, NoMemory> {
-        self.shown.blocks.row(self.alloc, row, &mut Steps::new())
+        self.blocks.shown().row(self.alloc, row, &mut Steps::new())
     }
 
     /// The rows from one on, as many as there are up to a count.
     pub(crate) fn rows(&self, first: u32, count: u32) -> Result<Vec<Shown>, NoMemory> {
-        self.shown
-            .blocks
+        self.blocks
+            .shown()
             .rows(self.alloc, first, count, &mut Steps::new())
     }
 
-    /// The line and the text row in it that stand at a row, if one does.
+    /// The line and the text row in it that are at a row, if one is.
     pub(crate) fn text_at(&self, row: u32) -> Option<(u32, u32)> {
-        self.shown.blocks.text_at(row, &mut Steps::new())
+        self.blocks.shown().text_at(row, &mut Steps::new())
     }
 
     /// The number of text rows of a line, or 0 where there is no such line.
     pub(crate) fn rows_of(&self, line: u32) -> u32 {
-        let rows = &self.shown.rows;
+        let rows = &self.rows;
         if line >= rows.lines() {
             return 0;
         }
@@ -73,25 +94,24 @@ impl Seen {
 
     /// The text of a text row of a line, if there is one.
     pub(crate) fn row_text(&self, line: u32, row: u32) -> Result<Option<Text>, NoMemory> {
-        let rows = &self.shown.rows;
+        let rows = &self.rows;
         if line >= rows.lines() || row >= rows.rows_of(line) {
             return Ok(None);
         }
         Ok(Some(rows.row_text(self.alloc, line, row)?))
     }
 
-    /// The row at which a text row of a line stands, if there is one.
+    /// The row at which a text row of a line is, if there is one.
     pub(crate) fn row_of(&self, line: u32, row: u32) -> Option<u32> {
-        let shown = &self.shown;
-        if line >= shown.rows.lines() || row >= shown.rows.rows_of(line) {
+        if line >= self.rows.lines() || row >= self.rows.rows_of(line) {
             return None;
         }
-        Some(shown.blocks.row_of(line, row, &mut Steps::new()))
+        Some(self.blocks.shown().row_of(line, row, &mut Steps::new()))
     }
 
     /// The last line that begins at or before a row, or the first, if there is such a row.
     pub(crate) fn line_of_row(&self, row: u32) -> Option<u32> {
-        let blocks = &self.shown.blocks;
+        let blocks = self.blocks.shown();
         if row >= blocks.row_count() {
             return None;
         }
@@ -100,10 +120,9 @@ impl Seen {
 
     /// The row at which a line begins, with the blocks above it, if there are so many lines.
     pub(crate) fn start_of(&self, line: u32) -> Option<u32> {
-        let shown = &self.shown;
-        if line > shown.rows.lines() {
+        if line > self.rows.lines() {
             return None;
         }
-        Some(shown.blocks.start_of(line, &mut Steps::new()))
+        Some(self.blocks.shown().start_of(line, &mut Steps::new()))
     }
 }

@@ -1,4 +1,4 @@
--- A line of three letters, and so many empty lines behind it.
+-- A line of three letters, and so many empty lines after it.
 use Rattle.std.proofs.Common.{◌≡◌, ℕ, zero, suc, ◌+◌, ◌<◌, ◌≤◌, ◌^◌, List, [], ◌∷◌, length, replicate, inl, inr, ap, arith}
 use Rattle.std.proofs.lemmas.Bool.{cases_lt}
 use Rattle.std.proofs.lemmas.List.{get_or-replicate, get_or_past, length-replicate}
@@ -9,7 +9,7 @@ use Rattle.cell_line.specs.declared.element.Element.{Element}
 use Rattle.cell_line.specs.Lines.{FitsU32, LineFitsU32, line_at}
 use Rattle.cell_line.specs.Worked.{wide}
 use Rattle.wrap_map.proofs.Rooms.{has-room}
-use Rattle.wrapped_text.specs.Shown.{HaveRoom}
+use Rattle.wrapped_lines.specs.WrappedSource.{HaveRoom}
 
 abbrev pub three : List Element
 three = replicate 3 (wide (230 ∷ 188 ∷ 162 ∷ []))

@@ -1,7 +1,8 @@
 //! Random changes of a text under its maps, each beside the same change of plain lists.
+use crate::items::items;
 use crate::plain::{PlainLine, PlainRun, PlainText};
 use crate::read::{
-    mark, marks, row_count, row_text, rows_before, rows_of, waiting, waiting_beside,
+    mark, marks, row_count, row_text, rows_before, rows_of, stretch, waiting, waiting_beside,
 };
 use crate::script::{lines_of, unwrapped};
 use cell_line::Run;
@@ -10,17 +11,17 @@ use edit_patch::Patch;
 use generated_input::Generator;
 use std::alloc::Global;
 use std::test::Fail;
+use test_stages::{LateText, Shown};
 use test_support::steps::{History, first_difference};
-use test_support::told::{Stretch, numbers};
+use test_support::told::Stretch;
 use test_support::words::{drawn_range, drawn_text, drawn_width};
-use wrapped_text::{LateText, Shown};
 
 /// The first line of a run, and how many there are.
 fn plain_run(run: Option<Run>) -> PlainRun {
     run.map(|run| (run.first, run.count))
 }
 
-/// Whether a line has these rows, behind so many others.
+/// Whether a line has these rows, after so many others.
 fn has_line(
     alloc: Global,
     shown: &Shown,
@@ -87,7 +88,7 @@ struct Wrapped {
 }
 
 impl Wrapped {
-    /// A text, of which each line stands in one row.
+    /// A text, of which each line is in one row.
     fn new(alloc: Global, text: &str, seed: u64) -> Result<Wrapped, Fail> {
         Ok(Wrapped {
             alloc,
@@ -105,7 +106,7 @@ impl Wrapped {
         let told = self.late.take(self.alloc, &mut Steps::new())?;
         if let Some(run) = run {
             self.stamps = self.plain.stamps(run)?;
-            self.width = self.late.text.width;
+            self.width = self.late.text.lines.width();
         }
         Ok(plain_run(told) == run)
     }
@@ -113,7 +114,7 @@ impl Wrapped {
     /// Lands what was taken last.
     fn lands_alike(&mut self) -> Result<bool, NoMemory> {
         let patch = self.late.land(self.alloc, &mut Steps::new())?;
-        if self.width != self.late.text.width {
+        if self.width != self.late.text.lines.width() {
             return Ok(patch.edits().is_empty());
         }
         let edits = self.plain.land(self.stamps.as_slice())?;
@@ -133,18 +134,17 @@ impl Wrapped {
         Ok(self.edit(start, end, word) == Ok(Some(rows)))
     }
 
-    /// Puts a text in the place of a range, and tells which rows this replaced.
+    /// Puts a text in the place of a range, and gives the rows that this replaced.
     fn edit(&mut self, start: u32, end: u32, word: &str) -> Result<Stretch, Fault> {
         let alloc = self.alloc;
         let change = self
             .late
             .replace(alloc, start, end, word, &mut Steps::new())?;
-        Ok(numbers(change.rows))
+        Ok(stretch(&change.rows))
     }
 
     /// Whether the map shows the plain lines, with their marks, and has those wait that do.
     fn shows_alike(&mut self) -> Result<bool, NoMemory> {
-        let shown = self.late.text.map.snapshot()?;
         let out = Run {
             first: self.generator.below(9),
             count: self.generator.below(9),
@@ -153,12 +153,14 @@ impl Wrapped {
             first: u32::MAX,
             count: 0,
         };
-        let beside = waiting_beside(&self.late.text, out, none);
+        let late = &self.late;
+        let beside = waiting_beside(&late.text, out, none);
+        let shown = late.text.lines.rows();
         Ok(
-            has_lines(self.alloc, &shown, self.plain.lines())?
-                && marks(self.alloc, &shown)?.as_slice() == self.plain.marks()?.as_slice()
-                && self.late.text.map.items() == self.plain.items()
-                && plain_run(waiting(&self.late.text)) == self.plain.waiting(None)
+            has_lines(self.alloc, shown, self.plain.lines())?
+                && marks(self.alloc, shown)?.as_slice() == self.plain.marks()?.as_slice()
+                && items(self.alloc, &late.text)? == self.plain.items()
+                && plain_run(waiting(&late.text)) == self.plain.waiting(None)
                 && plain_run(beside) == self.plain.waiting(Some((out.first, out.count))),
         )
     }

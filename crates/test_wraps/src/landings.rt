@@ -42,7 +42,7 @@ fn a_line_that_was_changed_back_waits(rt: HostRuntime) -> Result<(), Fail> {
     Ok(())
 }
 
-/// Cuts land at the lines that they were made of, wherever these stand now.
+/// Cuts land at the lines that they were made of, wherever these are now.
 #[test]
 fn cuts_land_at_lines_that_have_moved(rt: HostRuntime) -> Result<(), Fail> {
     let steps = [
@@ -113,7 +113,7 @@ fn a_landing_has_no_more_edits_than_lines(rt: HostRuntime) -> Result<(), Fail> {
     Ok(())
 }
 
-/// A map is settled where each line stands at the width: not while one waits, and again at the width that they had.
+/// A map is settled where each line is wrapped at the width: not while one waits, and again at the width that they had.
 #[test]
 fn a_map_is_settled_where_no_line_waits(rt: HostRuntime) -> Result<(), Fail> {
     let text = lines_of(rt.alloc(), "aaa bbb", 300)?;

@@ -1,9 +1,11 @@
-//! Worked rows of the tab map and the wrap map: which lines wait, what stands where once they are wrapped, and what edits leave
-//! of it, on texts that are known and on texts that random changes have made. There is nothing here but tests.
+//! Worked rows of the tab map and the wrap map: which lines wait, what is where once they are wrapped, and what edits
+//! leave of it, on texts that are known and on texts that random changes have made. There is nothing here but tests.
 #![tactic(auto)]
 
 #[cfg(test)]
 mod histories;
+#[cfg(test)]
+mod items;
 #[cfg(test)]
 mod landings;
 #[cfg(test)]

@@ -2,7 +2,7 @@
 ghost use Rattle.std.specs.Prelude.{◌≡◌, ◌+◌, ◌≤◌, ◌^◌, ◌∷◌, [], IfOk};
 ghost use Rattle.cell_line.specs.Lines.{FitsU32};
 ghost use Rattle.cell_line.specs.Worked.{wide};
-ghost use Rattle.wrapped_text.specs.Shown.{HaveRoom};
+ghost use Rattle.wrapped_lines.specs.WrappedSource.{HaveRoom};
 
 use crate::script::landed;
 use cell_line::{Element, Lines};
@@ -10,11 +10,11 @@ use cell_units::{NoMemory, Rows, Steps, Text};
 use edit_patch::Patch;
 use std::alloc::Global;
 use std::test::Fail;
+use test_stages::wraps;
 use test_support::told::number;
 use wrap_map::WrapMap;
-use wrapped_text::wraps;
 
-/// A line of three letters of two cells each, and so many empty lines behind it.
+/// A line of three letters of two cells each, and so many empty lines after it.
 #[derive(Drop)]
 struct MostlyEmpty {
     empty: u32,
@@ -67,8 +67,8 @@ impl MostlyEmpty {
     }
 }
 
-/// Wraps the first lines that wait at two cells, and lands the same run once more. It tells which rows each landing replaced, and
-/// by which.
+/// Wraps the first lines that wait at two cells, and lands the same run once more. It says which rows each landing
+/// replaced, and by which.
 fn landed_twice<N: Lines>(
     alloc: Global,
     map: &mut WrapMap<N>,
@@ -94,8 +94,8 @@ fn landed_twice<N: Lines>(
     Ok(told)
 }
 
-/// Where rows that are added for a moment might have no room, a landing takes rows off first. It answers the same rows then: the 130
-/// of 128 lines, of which one has three.
+/// Where rows that are added for a moment might have no room, a landing takes rows off first. It gives the same rows
+/// then: the 130 of 128 lines, of which one has three.
 #[test]
 fn a_landing_with_hardly_any_room_answers_its_rows(rt: HostRuntime) -> Result<(), Fail> {
     let mut steps = Steps::new();

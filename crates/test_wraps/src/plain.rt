@@ -1,4 +1,5 @@
-//! What has to be shown, by plain lists: each line by its bytes, with a stamp of its own and the width at which it stands.
+//! What has to be shown, by plain lists: each line by its bytes, with a stamp of its own and the width at which it is
+//! wrapped.
 use cell_units::NoMemory;
 use std::alloc::Global;
 use test_support::lists::count_of;
@@ -68,7 +69,7 @@ fn indent_of(line: &[Cell], width: u32) -> u32 {
     }
 }
 
-/// Whether a row of a line may end before this byte: behind a blank and before none, but not in the indent.
+/// Whether a row of a line may end before this byte: after a blank and before none, but not in the indent.
 fn may_end(line: &[Cell], end: usize) -> bool {
     if end >= line.len() {
         return true;
@@ -114,7 +115,7 @@ fn text_of(alloc: Global, indent: u32, row: &[Cell]) -> Result<Vec<u8>, NoMemory
     Ok(text)
 }
 
-/// The texts of the rows of a line that stands at a width.
+/// The texts of the rows of a line that is wrapped at a width.
 fn rows_of(alloc: Global, bytes: &[u8], width: u32) -> Result<Vec<Vec<u8>>, NoMemory> {
     let line = cells_of(alloc, bytes)?;
     let indent = indent_of(&line, width);
@@ -141,7 +142,7 @@ fn rows_of(alloc: Global, bytes: &[u8], width: u32) -> Result<Vec<Vec<u8>>, NoMe
     Ok(rows)
 }
 
-/// A line as it stands. No two lines that were ever there have one stamp.
+/// A line as it is wrapped. No two lines that were ever there have one stamp.
 #[derive(Drop)]
 pub(crate) struct PlainLine {
     stamp: u32,
@@ -175,7 +176,7 @@ impl PlainLine {
 /// The numbers of the lines of a run, or what is left of it.
 pub(crate) type PlainRun = Option<(u32, u32)>;
 
-/// The lines of a text, and the width that they are to stand at.
+/// The lines of a text, and the width at which they are to be wrapped.
 #[derive(Drop)]
 pub(crate) struct PlainText {
     alloc: Global,
@@ -238,7 +239,7 @@ impl PlainText {
         len.wrapping_sub(1)
     }
 
-    /// The line of an offset, and how many bytes of it stand before.
+    /// The line of an offset, and how many of its bytes are before.
     fn point_of(&self, offset: u32) -> (usize, usize) {
         let mut rest = offset as usize;
         let mut number: usize = 0;
@@ -252,7 +253,7 @@ impl PlainText {
         (number, rest)
     }
 
-    /// How many rows stand before a line.
+    /// How many rows are before a line.
     fn rows_before(&self, line: usize) -> u32 {
         let mut rows: u32 = 0;
         for line in self.lines.get(..line).unwrap_or(&[]) {
@@ -342,8 +343,8 @@ impl PlainText {
         Ok(stamps)
     }
 
-    /// Lets the lines with these stamps stand at the width. It gives the rows that were replaced and those that came for them:
-    /// the start and end of both, for each group of neighbours.
+    /// Wraps the lines with these stamps at the width. It gives the rows that were replaced and those that came for
+    /// them: the start and end of both, for each group of neighbours.
     pub(crate) fn land(&mut self, stamps: &[u32]) -> Result<Vec<[u32; 4]>, NoMemory> {
         let mut edits = Vec::new(self.alloc);
         let mut open: Option<[u32; 4]> = None;

@@ -3,16 +3,18 @@ ghost use Rattle.std.specs.Prelude.{◌+◌, ◌≤◌};
 
 use cell_line::Run;
 use cell_units::{NoMemory, Rows, Steps};
+use edit_patch::Patch;
 use std::alloc::Global;
+use test_stages::{Shown, StagedText};
+use test_support::told::Stretch;
 use wrap_map::MarkRun;
-use wrapped_text::{Shown, WrappedText};
 
 /// The number of rows.
 pub(crate) fn row_count(shown: &Shown) -> u32 {
     shown.rows_before(shown.lines())
 }
 
-/// How many rows stand before a line, where there is such a line, or before the end.
+/// How many rows are before a line, where there is such a line, or before the end.
 pub(crate) fn rows_before(shown: &Shown, line: u32) -> Option<u32> {
     if line > shown.lines() {
         return None;
@@ -42,7 +44,7 @@ pub(crate) fn row_text(
     Ok(None)
 }
 
-/// The width at which a line stands wrapped, if there is such a line.
+/// The width at which a line is wrapped, if there is such a line.
 pub(crate) fn mark(shown: &Shown, line: u32) -> Option<u32> {
     if line >= shown.lines() {
         return None;
@@ -55,13 +57,24 @@ pub(crate) fn marks(alloc: Global, shown: &Shown) -> Result<Vec<MarkRun>, NoMemo
     shown.marks(alloc, &mut Steps::new())
 }
 
+/// What a patch of one edit replaces, or none where it has another number of edits.
+pub(crate) fn stretch(patch: &Patch) -> Stretch {
+    let edits = patch.edits();
+    let edit = edits.first()?;
+    if edits.len() != 1 || edit.new_start != edit.old_start {
+        return None;
+    }
+    let count = edit.new_end.wrapping_sub(edit.new_start);
+    Some((edit.old_start, edit.old_end, count))
+}
+
 /// The run that is to be wrapped next.
-pub(crate) fn waiting(text: &WrappedText) -> Option<Run> {
-    text.map.next_run(&[], &mut Steps::new())
+pub(crate) fn waiting(text: &StagedText) -> Option<Run> {
+    text.lines.next_run(&[], &mut Steps::new())
 }
 
 /// The run that is to be wrapped next where these two are out, or `None` where they aren't in order.
-pub(crate) fn waiting_beside(text: &WrappedText, one: Run, other: Run) -> Option<Run> {
+pub(crate) fn waiting_beside(text: &StagedText, one: Run, other: Run) -> Option<Run> {
     let end = one.first.saturating_add(one.count);
     if end == u32::MAX || end > other.first {
         return None;
@@ -70,8 +83,8 @@ pub(crate) fn waiting_beside(text: &WrappedText, one: Run, other: Run) -> Option
 }
 
 /// The same of two that are in order.
-fn waiting_apart(text: &WrappedText, one: Run, other: Run) -> Option<Run>
+fn waiting_apart(text: &StagedText, one: Run, other: Run) -> Option<Run>
     requires { one.first + one.count ≤ other.first }
 {
-    text.map.next_run(&[one, other], &mut Steps::new())
+    text.lines.next_run(&[one, other], &mut Steps::new())
 }

@@ -6,7 +6,7 @@ use crate::script::Step::{
 use crate::script::{lines_of, play};
 use std::test::Fail;
 
-/// Ten lines of two words wait together, and stand in one row each.
+/// Ten lines of two words wait together, and are in one row each.
 #[test]
 fn ten_new_lines_wait(rt: HostRuntime) -> Result<(), Fail> {
     let text = lines_of(rt.alloc(), "aaa bbb", 10)?;
@@ -34,7 +34,7 @@ fn ten_lines_are_wrapped_to_two_rows_each(rt: HostRuntime) -> Result<(), Fail> {
     Ok(())
 }
 
-/// The sixth of them, replaced, stands in one row and waits again. All others have the rows that they had.
+/// The sixth of them, replaced, is in one row and waits again. All others have the rows that they had.
 #[test]
 fn a_replaced_line_stands_in_one_row(rt: HostRuntime) -> Result<(), Fail> {
     let text = lines_of(rt.alloc(), "aaa bbb", 10)?;
@@ -126,7 +126,7 @@ fn rows_and_lines_are_found_by_number(rt: HostRuntime) -> Result<(), Fail> {
     Ok(())
 }
 
-/// Lines that are joined stand in one row, and so do the two that a line feed makes of one.
+/// Lines that are joined are in one row, and so are the two that a line feed makes of one.
 #[test]
 fn joined_and_parted_lines_wait(rt: HostRuntime) -> Result<(), Fail> {
     let text = lines_of(rt.alloc(), "aaa bbb", 4)?;
@@ -157,7 +157,8 @@ fn a_row_goes_on_under_the_indent(rt: HostRuntime) -> Result<(), Fail> {
     Ok(())
 }
 
-/// At another width all lines wait, and stand as they did until they are wrapped again. At width 0 they go back to one row.
+/// At another width all lines wait, and are as they were until they are wrapped again. At width 0 they go back to one
+/// row.
 #[test]
 fn lines_stand_at_the_old_width_until_they_are_wrapped(rt: HostRuntime) -> Result<(), Fail> {
     let text = lines_of(rt.alloc(), "aaa bbb", 10)?;

@@ -1,35 +1,36 @@
-//! What is done to a text under its maps and asked of it, step by step, and what is answered, in words.
+//! What is done to a text under its maps and asked of it, step by step, and what comes of it, in words.
+use crate::items::items;
 use crate::read::{
-    mark, marks, row_count, row_text, rows_before, rows_of, waiting, waiting_beside,
+    mark, marks, row_count, row_text, rows_before, rows_of, stretch, waiting, waiting_beside,
 };
 use cell_line::{Lines, Run};
 use cell_units::{NoMemory, Rows, Steps};
 use edit_patch::Patch;
 use std::alloc::Global;
 use std::test::Fail;
+use test_stages::{LateText, Shown, StagedText};
 use test_support::steps::{self, Played};
-use test_support::told::{edited, number, numbers, pair, refused};
+use test_support::told::{accepted, edited, number, pair};
 use text_rope::Rope;
-use wrapped_text::{LateText, Shown, WrappedText};
 
 /// A change, or a question.
 #[derive(Clone, Copy)]
 pub(crate) enum Step<'a> {
-    /// Puts a text in the place of a range, and tells which rows this replaced.
+    /// Puts a text in the place of a range, and says which rows this replaced.
     Edit(u32, u32, &'a str),
-    /// Sets the width that lines are to stand at.
+    /// Sets the width at which lines are to be wrapped.
     Width(u32),
-    /// Takes the first lines that wait, and cuts them. It tells which.
+    /// Takes the first lines that wait, and cuts them. It says which.
     Take,
-    /// Lands what was taken last, and tells which rows this replaced, and by which.
+    /// Lands what was taken last, and says which rows this replaced, and by which.
     Land,
-    /// Wraps all lines, and tells in how many runs.
+    /// Wraps all lines, and says in how many runs.
     WrapAll,
     /// The lines that are to be wrapped next.
     Next,
     /// The same where two runs are out.
     Beside(Run, Run),
-    /// Whether each line stands at the width.
+    /// Whether each line is wrapped at the width.
     Settled,
     Items,
     Lines,
@@ -42,13 +43,14 @@ pub(crate) enum Step<'a> {
     Row(u32, u32),
 }
 
-/// Takes the steps one by one over a text of which each line stands in one row. It gives their answers, with `; ` between them.
+/// Takes the steps one by one over a text of which each line is in one row. It gives their answers, with `; ` between
+/// them.
 pub(crate) fn play(alloc: Global, text: &str, width: u32, steps: &[Step]) -> Result<String, Fail> {
     Ok(steps::play(Laid::new(alloc, text, width)?, steps)?)
 }
 
-/// The same, and then other steps over equal maps, and others again over the first ones. It gives the answers of the last two,
-/// with ` / ` between them.
+/// The same, and then other steps over equal maps, and others again over the first ones. It gives the answers of the
+/// last two, with ` / ` between them.
 pub(crate) fn play_apart(
     alloc: Global,
     text: &str,
@@ -61,7 +63,8 @@ pub(crate) fn play_apart(
     Ok(steps::play_apart(laid, before, apart, behind)?)
 }
 
-/// The same, with the last steps but one over the text, and the last over the snapshot from before them and one that is shared.
+/// The same, with the last steps but one over the text, and the last over the snapshot from before them and one that is
+/// shared.
 pub(crate) fn play_behind(
     alloc: Global,
     text: &str,
@@ -84,12 +87,12 @@ pub(crate) fn lines_of(alloc: Global, line: &str, count: u32) -> Result<String, 
     Ok(text)
 }
 
-/// A text of which each line stands in one row.
+/// A text of which each line is in one row.
 pub(crate) fn unwrapped(alloc: Global, text: &str, width: u32) -> Result<LateText, Fail> {
     let mut steps = Steps::new();
     let rope = Rope::from_bytes(alloc, text.as_bytes(), &mut steps)?;
-    let mut text = WrappedText::new(alloc, rope, 0, &mut steps)?;
-    let _refused = text.set_width(width);
+    let mut text = StagedText::new(alloc, rope, &mut steps)?;
+    text.set_width(width)?;
     Ok(LateText::new(alloc, text)?)
 }
 
@@ -119,21 +122,20 @@ impl<'a> Played<Step<'a>> for Laid {
         let alloc = self.alloc;
         match step {
             Step::Edit(start, end, text) => self.edit(*start, *end, text),
-            Step::Width(width) => refused(alloc, self.late.text.set_width(*width)),
+            Step::Width(width) => accepted(alloc, self.late.text.set_width(*width)),
             Step::Take => run(alloc, self.late.take(alloc, &mut Steps::new())?),
             Step::Land => landed(alloc, &self.late.land(alloc, &mut Steps::new())?),
             Step::WrapAll => number(alloc, Some(self.wrap_all()?)),
             Step::Next => run(alloc, waiting(&self.late.text)),
             Step::Beside(one, other) => run(alloc, waiting_beside(&self.late.text, *one, *other)),
-            Step::Settled => yes_or_no(alloc, self.late.text.map.is_settled()),
-            Step::Items => number(alloc, Some(self.late.text.map.items())),
-            _ => look(alloc, &self.late.text.map.snapshot()?, step),
+            Step::Settled => yes_or_no(alloc, self.late.text.lines.is_settled()),
+            Step::Items => number(alloc, Some(items(alloc, &self.late.text)?)),
+            _ => look(alloc, self.late.text.lines.rows(), step),
         }
     }
 
     fn seen(&self) -> Result<Shown, NoMemory> {
-        let shown = self.late.text.map.snapshot()?;
-        Rows::share(&shown)
+        Rows::share(self.late.text.lines.rows())
     }
 
     fn share_seen(seen: &Shown) -> Result<Shown, NoMemory> {
@@ -157,12 +159,12 @@ impl Laid {
         let change = self
             .late
             .replace(alloc, start, end, text, &mut Steps::new());
-        edited(alloc, change.map(|change| numbers(change.rows)))
+        edited(alloc, change.map(|change| stretch(&change.rows)))
     }
 
-    /// Wraps all lines, and tells in how many runs.
+    /// Wraps all lines, and says in how many runs.
     fn wrap_all(&mut self) -> Result<u32, NoMemory> {
-        let lines = self.late.text.lines.lines();
+        let lines = self.late.text.lines.lines().lines();
         for runs in 0..lines {
             if self
                 .late
@@ -200,7 +202,7 @@ fn yes_or_no(alloc: Global, answer: bool) -> Result<String, NoMemory> {
     Ok(String::from_str(alloc, if answer { "yes" } else { "no" })?)
 }
 
-/// The first line of a run and the line behind its last, or `none`.
+/// The first line of a run and the line after its last, or `none`.
 fn run(alloc: Global, run: Option<Run>) -> Result<String, NoMemory> {
     match run {
         Some(run) => {

@@ -5,9 +5,9 @@ use cell_units::{Fault, NoMemory, Refusal, Steps};
 use std::alloc::Global;
 use std::test::Fail;
 use tab_map::{TabMap, TabSnapshot};
+use test_stages::LateText;
 use test_support::told::{number, numbers, replaced};
 use text_rope::Rope;
-use wrapped_text::LateText;
 
 /// The cells of each element of a line, or `none` where there is no such line.
 fn cells_of(alloc: Global, lines: &TabSnapshot<Rope>, line: u32) -> Result<String, NoMemory> {
@@ -32,8 +32,8 @@ fn edit(
     line: u32,
 ) -> Result<String, Fault> {
     let change = late.replace(alloc, start, end, put, &mut Steps::new())?;
-    let mut told = replaced(alloc, numbers(change.lines))?;
-    let cells = cells_of(alloc, &late.text.lines, line)?;
+    let mut told = replaced(alloc, numbers(Some(change.run)))?;
+    let cells = cells_of(alloc, late.text.lines.lines(), line)?;
     told.push_str("; ").map_err(NoMemory::from)?;
     told.push_str(cells.as_str()).map_err(NoMemory::from)?;
     Ok(told)

@@ -1,0 +1,8 @@
+use Rattle.std.proofs.Common.{arith}
+use Rattle.test_stages.proofs.Texts.{text-fits}
+use Rattle.test_stages.proofs.text.StagedText.wrap_next.Goals as goal
+
+pub taken-requires-clause-fits : goal.taken-requires-clause-fits
+taken-requires-clause-fits c κs =
+    let text = c.args.self.now in
+    text-fits text.rope text.lines text.of_text text.tab (omega (arith, c.len-bytes.ensures.value, c.len-bytes.ensures.within))

@@ -1,8 +1,0 @@
-use Rattle.std.proofs.Common.{◌≡◌}
-use Rattle.wrapped_text.proofs.Runs.{cuts-between, places}
-use Rattle.wrapped_text.proofs.callers.wraps.Given as goal
-
-abbrev pub invariant-loop-line : goal.invariant-loop-line
-invariant-loop-line g l =
-    places l.wraps.items
-    ≡ cuts-between (g.N.Lines.elements_by_line l.lines) l.fn.run.first l.line l.width
