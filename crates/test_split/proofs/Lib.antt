@@ -1,1 +1,1 @@
-mod Changes
+mod After

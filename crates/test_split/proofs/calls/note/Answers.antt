@@ -4,7 +4,7 @@ use Rattle.display_map.specs.Events.{Line}
 use Rattle.display_map.specs.Replay.{History, appended}
 use Rattle.split_views.specs.Views.{appended_in, history_of}
 use Rattle.split_views.specs.Wrapping.{IsIdle}
-use Rattle.test_split.proofs.Changes.{after}
+use Rattle.test_split.proofs.After.{after}
 use Rattle.test_split.proofs.calls.note.Goals as goal
 
 pub note_line-requires-clause-room : goal.note_line-requires-clause-room

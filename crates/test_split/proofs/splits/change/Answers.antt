@@ -5,7 +5,7 @@ use Rattle.display_map.specs.Events.{event_limit}
 use Rattle.display_map.specs.Replay.{History}
 use Rattle.split_views.specs.Views.{changed, history_of}
 use Rattle.split_views.specs.Wrapping.{IsIdle}
-use Rattle.test_split.proofs.Changes.{after}
+use Rattle.test_split.proofs.After.{after}
 use Rattle.test_split.proofs.splits.change.Goals as goal
 
 pub apply-requires-clause-room : goal.apply-requires-clause-room

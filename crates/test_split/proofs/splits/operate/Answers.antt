@@ -1,4 +1,4 @@
-use Rattle.test_split.proofs.Changes.{one_at_most}
+use Rattle.test_split.proofs.After.{one_at_most}
 use Rattle.test_split.proofs.splits.operate.Goals as goal
 
 pub change-requires-clause-few : goal.change-requires-clause-few
