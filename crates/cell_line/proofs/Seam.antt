@@ -1,24 +1,24 @@
 -- Where two quiet characters are side by side, a text may be cut into clusters in two parts.
-use Rattle.std.proofs.Common.{◌≡◌, inl, inr, ℕ, ◌<◌, ◌≤◌, ◌+◌, ◌-◌, length, take, drop, slice_index, slice_range, append_assoc, Bool, true, false, not, ◌&&◌, ◌||◌, List, [], ◌∷◌, ◌++◌, map, unwrap_or, Some, nat_lt, encode_utf8_all, append-nil, refl, arith, ap, ap₂, sym, ◌∙◌}
-use Rattle.std.specs.Str.{chars, chars_after, continuation_len, lead_bits, IsUtf8, IsCharBoundary}
-use Rattle.std.proofs.lemmas.Bool.Decides.{nat_tests}
-use Rattle.std.proofs.lemmas.List.{map-append, take_rest, drop_all, drop_more}
-use Rattle.std.proofs.lemmas.List.Folds.{drop_split}
-use Rattle.std.proofs.lemmas.Str.{chars-nil, chars-append, encode_ascii, IsUtf8-between, IsCharBoundary-end, IsCharBoundary-before_ascii}
+use Rattle.std.proofs.Common.{◌≡◌, inl, inr, ℕ, ◌+◌, ◌-◌, ◌<◌, ◌≤◌, length, length-append, slice_range, take-add, take_at, take, drop, append_assoc, Bool, true, false, not, ◌&&◌, ◌||◌, List, [], ◌∷◌, ◌++◌, map, unwrap_or, Some, encode_utf8_all, append-nil, take-append-drop, take_all, refl, arith, ap, ap₂, sym, subst, ◌∙◌}
+use Rattle.std.specs.Char.{IsScalar, encode_utf8, len_utf8}
+use Rattle.std.specs.Str.{chars, IsUtf8, IsCharBoundary}
+use Rattle.std.proofs.lemmas.Bool.{and_right}
+use Rattle.std.proofs.lemmas.List.{map-append, drop_all, length-drop}
+use Rattle.std.proofs.lemmas.Str.{chars-nil, chars-append, IsUtf8-append, IsUtf8-encode, IsUtf8-nil, IsUtf8-past_char, IsUtf8-take, drop_past_char, len_utf8_bounds, length-encode, IsCharBoundary-at_seam, IsCharBoundary-end, IsCharBoundary-from_drop}
 use Rattle.ucd_breaks.specs.GraphemeClusterBreak.{grapheme_cluster_break}
 use Rattle.ucd_breaks.specs.declared.GraphemeClusterBreak.{GraphemeClusterBreak}
-use Rattle.ucd_breaks.specs.declared.GraphemeClusterBreak.TheVariants.{Control}
+use Rattle.ucd_breaks.specs.declared.GraphemeClusterBreak.TheVariants.{Control, Other}
 use Rattle.ucd_derived.specs.IndicConjunctBreak.{indic_conjunct_break}
 use Rattle.ucd_derived.specs.declared.IndicConjunctBreak.{IndicConjunctBreak}
 use Rattle.ucd_derived.specs.declared.IndicConjunctBreak.TheVariants as InCb
 use Rattle.ucd_emoji.specs.Binary.{is_extended_pictographic}
 use Rattle.unicode_segmentation.specs.Segments.{Rule, cut, segments}
 use Rattle.unicode_segmentation.specs.Grapheme.{break_by_pair, ends_in_linker, is_consonant, joins_conjunct, is_extend, is_zwj, is_regional, ends_in_pictograph, joins_emoji, ends_in_half_flag, joins_flag, is_grapheme_break, graphemes}
-use Rattle.unicode_segmentation.proofs.GraphemeLemmas.{is_grapheme_break-others}
+use Rattle.unicode_segmentation.proofs.GraphemeLemmas.{is_grapheme_break-inside, joins_emoji-not_zwj}
 use Rattle.unicode_segmentation.proofs.SegmentsLemmas.{attach}
-use Rattle.unicode_segmentation.proofs.TextLemmas.{slice_range_split}
-use Rattle.cell_line.specs.inside.Simple.{IsSeam}
-use Rattle.cell_line.proofs.Quiet.{IsQuiet, simple_is_quiet}
+use Rattle.unicode_segmentation.proofs.TextLemmas.{chars-encode_utf8, IsUtf8-after}
+use Rattle.cell_line.specs.inside.Quiet.{is_alone, EndsAlone, IsSeam, StartsAlone}
+use Rattle.cell_line.proofs.Quiet.{IsQuiet, alone_is_quiet}
 
 -- ---- the rule of clusters at a quiet character
 
@@ -30,14 +30,25 @@ between a b before after l r =
     unwrap_or (break_by_pair true l r)
     (not ((true && joins_conjunct (a ∷ before) b) || joins_emoji (a ∷ before) b || joins_flag (a ∷ before) b))
 
+others_part : (a b : ℕ) (before after : List ℕ) → IsQuiet b → grapheme_cluster_break a ≡ Other → grapheme_cluster_break b ≡ Other →
+    is_grapheme_break true (a ∷ before) (b ∷ after) ≡ true
+others_part a b before after q left right =
+    let conjunct : joins_conjunct (a ∷ before) b ≡ false = and_right (ends_in_linker (map indic_conjunct_break (a ∷ before))) _ (ap is_consonant q.conjunct) in
+    let emoji : joins_emoji (a ∷ before) b ≡ false = joins_emoji-not_zwj (a ∷ before) b (ap is_zwj left) in
+    let flag : joins_flag (a ∷ before) b ≡ false = and_right (ends_in_half_flag (a ∷ before)) _ (ap is_regional right) in
+    let rest = not ((true && joins_conjunct (a ∷ before) b) || joins_emoji (a ∷ before) b || joins_flag (a ∷ before) b) in
+    is_grapheme_break-inside true (a ∷ before) b after (omega arith)
+    ∙ ap₂ (λ l r. unwrap_or (break_by_pair true l r) rest) left right
+    ∙ ap not (ap₂ ◌||◌ (ap₂ ◌||◌ conjunct emoji) flag)
+
 -- two of them part
 quiet_part : (a b : ℕ) (before after : List ℕ) → IsQuiet a → IsQuiet b → is_grapheme_break true (a ∷ before) (b ∷ after) ≡ true
 unfolding is_grapheme_break between
 quiet_part a b before after p q =
     let F : GraphemeClusterBreak → GraphemeClusterBreak → Bool = between a b before after in
-    elim p.alone [
-      | inl other ↦ elim q.alone [
-        | inl also ↦ sym (is_grapheme_break-others true (a ∷ before) b after (omega arith) (let e = q.early in omega arith) (sym other) (sym also))
+    elim p.apart [
+      | inl other ↦ elim q.apart [
+        | inl also ↦ others_part a b before after q other also
         | inr control ↦ ap₂ F other control
       ]
       | inr control ↦ ap (λ l. F l (grapheme_cluster_break b)) control ∙ ap (λ o. unwrap_or o
@@ -63,10 +74,10 @@ linker_wall [] a before q =
 linker_wall (z ∷ zs) a before q = linker_more (indic_conjunct_break z) _ _ (linker_wall zs a before q)
 
 not_extend : (a : ℕ) → IsQuiet a → is_extend (grapheme_cluster_break a) ≡ false
-not_extend a q = elim q.alone [ inl e ↦ ap is_extend e | inr e ↦ ap is_extend e ]
+not_extend a q = elim q.apart [ inl e ↦ ap is_extend e | inr e ↦ ap is_extend e ]
 
 not_regional : (a : ℕ) → IsQuiet a → is_regional (grapheme_cluster_break a) ≡ false
-not_regional a q = elim q.alone [ inl e ↦ ap is_regional e | inr e ↦ ap is_regional e ]
+not_regional a q = elim q.apart [ inl e ↦ ap is_regional e | inr e ↦ ap is_regional e ]
 
 pictograph_wall : (zs : List ℕ) (a : ℕ) (before : List ℕ) → IsQuiet a →
     ends_in_pictograph (zs ++ a ∷ before) ≡ ends_in_pictograph zs
@@ -146,89 +157,128 @@ cut_seam before (u ∷ us) a b ys p q =
     ap₂ (λ t ps. attach t (u ∷ []) ps) (same_ahead (u ∷ before) us a b ys) (cut_seam (u ∷ before) us a b ys p q)
     ∙ attach_past (is_grapheme_break true (u ∷ before) ((us ++ a ∷ []) ++ [])) (u ∷ []) rest right (cut_some (is_grapheme_break true) (u ∷ before) us a)
 
--- ---- bytes
+-- ---- texts
 
-after_lead : (b : ℕ) (bs : List ℕ) → chars_after 0 b bs ≡ b ∷ chars bs
-unfolding chars
-after_lead b [] = refl
-after_lead b (c ∷ cs) = refl
+chars-cons : (c : ℕ) (rest : List ℕ) → IsScalar c → chars (encode_utf8 c ++ rest) ≡ c ∷ chars rest
+chars-cons c rest h =
+    let utf8 = IsUtf8-encode c h in
+    chars-append (encode_utf8 c) rest utf8 ∙ ap (λ t. t ++ chars rest) (chars-encode_utf8 c utf8)
 
-pub chars-ascii : (b : ℕ) (bs : List ℕ) → b < 128 → chars (b ∷ bs) ≡ b ∷ chars bs
-unfolding chars
-chars-ascii b bs h =
-    let e : nat_lt b 128 ≡ true = grind (arith, nat_tests) in
-    let n : continuation_len b ≡ 0 = rw e refl in
-    let l : lead_bits b ≡ b = rw e refl in
-    ap₂ (λ k v. chars_after k v bs) n l ∙ after_lead b bs
+chars-end : (p : List ℕ) (c : ℕ) → IsUtf8 p → IsScalar c → chars (p ++ encode_utf8 c) ≡ chars p ++ c ∷ []
+chars-end p c u h = chars-append p (encode_utf8 c) u ∙ ap (λ t. chars p ++ t) (chars-encode_utf8 c (IsUtf8-encode c h))
 
-chars-end : (p : List ℕ) (a : ℕ) → IsUtf8 p → a < 128 → chars (p ++ a ∷ []) ≡ chars p ++ a ∷ []
-unfolding chars
-chars-end p a u h = chars-append p (a ∷ []) u ∙ ap (λ t. chars p ++ t) (chars-ascii a [] h)
-
--- between two quiet bytes the clusters of a text part
-pub graphemes_seam : (p q : List ℕ) (a b : ℕ) → IsUtf8 p → IsQuiet a → IsQuiet b →
-    graphemes true (p ++ a ∷ b ∷ q) ≡ graphemes true (p ++ a ∷ []) ++ graphemes true (b ∷ q)
+-- between two quiet characters the clusters of a text part
+graphemes_seam : (p q : List ℕ) (a b : ℕ) → IsUtf8 p → IsQuiet a → IsQuiet b →
+    graphemes true (p ++ (encode_utf8 a ++ (encode_utf8 b ++ q))) ≡ graphemes true (p ++ encode_utf8 a) ++ graphemes true (encode_utf8 b ++ q)
 unfolding segments
 graphemes_seam p q a b u x y =
-    let whole : chars (p ++ a ∷ b ∷ q) ≡ chars p ++ a ∷ b ∷ chars q =
-    chars-append p (a ∷ b ∷ q) u ∙ ap (λ t. chars p ++ t) (chars-ascii a (b ∷ q) x.early)
-    ∙ ap (λ t. chars p ++ a ∷ t) (chars-ascii b q y.early) in
+    let whole : chars (p ++ (encode_utf8 a ++ (encode_utf8 b ++ q))) ≡ chars p ++ a ∷ b ∷ chars q =
+    chars-append p (encode_utf8 a ++ (encode_utf8 b ++ q)) u
+    ∙ ap (λ t. chars p ++ t) (chars-cons a (encode_utf8 b ++ q) x.scalar ∙ ap (λ t. a ∷ t) (chars-cons b q y.scalar)) in
     ap (λ cs. map encode_utf8_all (cut (is_grapheme_break true) [] cs [])) whole
     ∙ ap (map encode_utf8_all) (cut_seam [] (chars p) a b (chars q) x y)
     ∙ map-append encode_utf8_all _ _
     ∙ ap₂ (λ xs ys. map encode_utf8_all (cut (is_grapheme_break true) [] xs []) ++ map encode_utf8_all (cut (is_grapheme_break true) [] ys []))
-    (sym (chars-end p a u x.early)) (sym (chars-ascii b q y.early))
+    (sym (chars-end p a u x.scalar)) (sym (chars-cons b q y.scalar))
 
--- an ASCII byte by itself is one cluster
-pub graphemes_one : (a : ℕ) → a < 128 → graphemes true (a ∷ []) ≡ (a ∷ []) ∷ []
-unfolding segments cut is_grapheme_break chars
-graphemes_one a h =
-    ap (λ cs. map encode_utf8_all (cut (is_grapheme_break true) [] cs [])) (chars-ascii a [] h)
-    ∙ ap (λ t. (t ++ []) ∷ []) (encode_ascii a h)
-
--- ---- the same in terms of places in a text
+-- a character by itself is one cluster
+graphemes_one : (c : ℕ) → IsScalar c → graphemes true (encode_utf8 c) ≡ encode_utf8 c ∷ []
+unfolding segments cut is_grapheme_break
+graphemes_one c h =
+    ap (λ cs. map encode_utf8_all (cut (is_grapheme_break true) [] cs [])) (chars-encode_utf8 c (IsUtf8-encode c h))
+    ∙ ap (λ t. t ∷ []) (append-nil (encode_utf8 c))
 
 pub graphemes_none : graphemes true [] ≡ []
 unfolding segments cut
 graphemes_none = ap (λ cs. map encode_utf8_all (cut (is_grapheme_break true) [] cs [])) chars-nil
 
-pub no_graphemes : (text : List ℕ) (at : ℕ) → length text ≤ at → graphemes true (drop at text) ≡ []
-no_graphemes text at le = ap (graphemes true) (drop_all at text le) ∙ graphemes_none
+-- the character with which a text begins is one cluster, where the next one is its like
+pub graphemes_start : (text : List ℕ) (c : ℕ) (rest : List ℕ) → StartsAlone text c rest → graphemes true text ≡ encode_utf8 c ∷ graphemes true rest
+graphemes_start text c rest s =
+    let quiet = alone_is_quiet c s.alone in
+    ap (graphemes true) s.text_is
+    ∙ elim s.next [
+      | inl none ↦
+          ap (λ t. graphemes true (encode_utf8 c ++ t)) none ∙ ap (graphemes true) (append-nil (encode_utf8 c)) ∙ graphemes_one c quiet.scalar
+          ∙ ap (λ gs. encode_utf8 c ∷ gs) (sym (ap (graphemes true) none ∙ graphemes_none))
+      | inr next ↦
+          ap (λ t. graphemes true (encode_utf8 c ++ t)) next.2
+          ∙ graphemes_seam [] next.1 c next.0 IsUtf8-nil quiet (alone_is_quiet next.0 next.3)
+          ∙ ap₂ (λ l r. l ++ r) (graphemes_one c quiet.scalar) (ap (graphemes true) (sym next.2))
+    ]
 
-pub seam_boundary : (text : List ℕ) (from at : ℕ) → IsUtf8 text → IsSeam text from at → IsCharBoundary text at
-seam_boundary text from at u s =
+-- ---- places in a text
+
+pub seam_boundary : (text : List ℕ) (at : ℕ) → IsUtf8 text → IsSeam text at → IsCharBoundary text at
+seam_boundary text at u s =
     elim s.apart [
       | inl end ↦ rw end (IsCharBoundary-end text)
-      | inr inside ↦ IsCharBoundary-before_ascii text at inside.0 (simple_is_quiet (slice_index text at) inside.2).early
+      | inr inside ↦
+          let left = inside.0 in
+          let front : IsUtf8 (take at text) =
+          subst IsUtf8 (sym left.3) (IsUtf8-append left.0 (encode_utf8 left.1) left.2 (IsUtf8-encode left.1 (alone_is_quiet left.1 left.4).scalar)) in
+          IsCharBoundary-from_drop text at s.within (IsUtf8-after text (take at text) (drop at text) u front (sym (take-append-drop at text)))
     ]
 
-pub graphemes_at_seam : (text : List ℕ) (from at : ℕ) → IsUtf8 text → IsCharBoundary text from → IsSeam text from at →
-    graphemes true (drop from text) ≡ graphemes true (slice_range text from at) ++ graphemes true (drop at text)
-graphemes_at_seam text from at u start s =
+taken_apart : (text : List ℕ) (at : ℕ) → IsSeam text at → graphemes true text ≡ graphemes true (take at text) ++ graphemes true (drop at text)
+taken_apart text at s =
     elim s.apart [
       | inl end ↦
-          let rest : slice_range text from at ≡ drop from text = ap (λ n. slice_range text from n) end ∙ take_rest text from in
-          sym (append-nil (graphemes true (drop from text)))
-          ∙ ap₂ (λ l r. graphemes true l ++ r) (sym rest) (sym (no_graphemes text at (omega (arith, end))))
+          let whole : take at text ≡ text = ap (λ n. take n text) end ∙ take_all (length text) text (omega arith) in
+          let none : drop at text ≡ [] = drop_all at text (omega (arith, end)) in
+          sym (append-nil (graphemes true text))
+          ∙ ap₂ (λ l r. l ++ r) (ap (graphemes true) (sym whole)) (sym (ap (graphemes true) none ∙ graphemes_none))
       | inr inside ↦
-          let e = at - 1 in
-          let past = s.past in
-          let lt : e < length text = omega (arith, inside.0) in
-          let a = slice_index text e in
-          let b = slice_index text at in
-          let x = simple_is_quiet a inside.1 in
-          let y = simple_is_quiet b inside.2 in
-          let p = slice_range text from e in
-          let front : IsUtf8 p = IsUtf8-between text from e u (omega arith) start (IsCharBoundary-before_ascii text e lt x.early) in
-          let one : slice_range text e at ≡ a ∷ [] =
-          let n : at - e ≡ 1 = omega arith in
-          ap₂ take n (drop_more text e 0 lt) in
-          let left : slice_range text from at ≡ p ++ a ∷ [] =
-          slice_range_split text from e at (omega arith) (omega arith) ∙ ap (λ t. p ++ t) one in
-          let right : drop at text ≡ b ∷ drop (at + 1) text = drop_more text at 0 inside.0 in
-          let whole : drop from text ≡ p ++ a ∷ b ∷ drop (at + 1) text =
-          drop_split text from at (omega arith) ∙ ap₂ (λ l r. l ++ r) left right ∙ append_assoc p (a ∷ []) (b ∷ drop (at + 1) text) in
-          ap (graphemes true) whole
-          ∙ graphemes_seam p (drop (at + 1) text) a b front x y
-          ∙ ap₂ (λ l r. graphemes true l ++ graphemes true r) (sym left) (sym right)
+          let left = inside.0 in
+          let right = inside.1 in
+          ap (graphemes true) (sym (take-append-drop at text) ∙ ap₂ (λ l r. l ++ r) left.3 right.2 ∙ append_assoc left.0 (encode_utf8 left.1) (encode_utf8 right.0 ++ right.1))
+          ∙ graphemes_seam left.0 right.1 left.1 right.0 left.2 (alone_is_quiet left.1 left.4) (alone_is_quiet right.0 right.3)
+          ∙ ap₂ (λ l r. graphemes true l ++ graphemes true r) (sym left.3) (sym right.2)
     ]
+
+from_start : (text : List ℕ) (at : ℕ) → slice_range text 0 at ≡ take at text
+from_start text at = let e : at - 0 ≡ at = omega arith in ap (λ n. take n text) e
+
+pub graphemes_at_seam : (text : List ℕ) (at : ℕ) → IsSeam text at → graphemes true text ≡ graphemes true (slice_range text 0 at) ++ graphemes true (drop at text)
+graphemes_at_seam text at s = taken_apart text at s ∙ ap (λ t. graphemes true t ++ graphemes true (drop at text)) (sym (from_start text at))
+
+-- the character with which a text begins
+pub start_boundary : (text : List ℕ) (c : ℕ) (rest : List ℕ) → StartsAlone text c rest → IsCharBoundary text (length (encode_utf8 c))
+start_boundary text c rest s = IsCharBoundary-at_seam text (encode_utf8 c) rest s.text_is s.utf8
+
+pub start_slice : (text : List ℕ) (c : ℕ) (rest : List ℕ) (n : ℕ) → StartsAlone text c rest → n ≡ length (encode_utf8 c) → slice_range text 0 n ≡ encode_utf8 c
+start_slice text c rest n s size = from_start text n ∙ ap (take n) s.text_is ∙ take_at (encode_utf8 c) rest n (sym size)
+
+-- ---- a walk over the characters
+
+-- the walk is at the place, and has this left; the character before may part the clusters
+pub record IsSearched (text rest : List ℕ) (at : ℕ) (parts : Bool) : Type 0 where
+  pub within : at ≤ length text
+  pub left : rest ≡ drop at text
+  pub utf8 : IsUtf8 rest
+  pub before : parts ≡ true → (0 < at) × EndsAlone (take at text)
+
+pub searched_start : (text : List ℕ) → IsUtf8 text → IsSearched text text 0 false
+searched_start text utf8 = record { within = omega arith; left = refl; utf8 = utf8; before = λ h. absurd (cc) }
+
+pub searched_more : (text rest rest' : List ℕ) (at c : ℕ) (parts : Bool) → IsUtf8 text → IsSearched text rest at parts → rest ≡ encode_utf8 c ++ rest' →
+    IsSearched text rest' (at + len_utf8 c) (is_alone c)
+searched_more text rest rest' at c parts utf8 s is =
+    let n = len_utf8 c in
+    let here : drop at text ≡ encode_utf8 c ++ rest' = sym s.left ∙ is in
+    let size : length (drop at text) ≡ n + length rest' =
+    ap length here ∙ length-append (encode_utf8 c) rest' ∙ ap (λ k. k + length rest') (length-encode c) in
+    let one : take (at + n) text ≡ take at text ++ encode_utf8 c =
+    take-add at n text ∙ ap (λ t. take at text ++ t) (ap (take n) here ∙ take_at (encode_utf8 c) rest' n (length-encode c)) in
+    let front : IsUtf8 (take at text) = IsUtf8-take text at utf8 (IsCharBoundary-from_drop text at s.within (subst IsUtf8 s.left s.utf8)) in
+    record {
+      within = let h = s.within in omega (arith, size, length-drop at text);
+      left = sym (drop_past_char text rest' at c here);
+      utf8 = IsUtf8-past_char rest rest' c s.utf8 is;
+      before = λ h. (let b = (len_utf8_bounds c).0 in omega arith, (take at text, c, front, one, h));
+    }
+
+pub searched_seam : (text rest rest' : List ℕ) (at c : ℕ) → IsSearched text rest at true → rest ≡ encode_utf8 c ++ rest' → is_alone c ≡ true → IsSeam text at
+searched_seam text rest rest' at c s is alone =
+    let left = s.before refl in
+    record { past = left.0; within = s.within; apart = inr (left.1, (c, rest', sym s.left ∙ is, alone)) }

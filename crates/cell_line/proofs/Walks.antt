@@ -1,72 +1,97 @@
 -- The elements of a line, one after another.
-use Rattle.std.proofs.Common.{◌≡◌, inl, inr, ℕ, ◌+◌, ◌-◌, ◌^◌, ◌<◌, ◌≤◌, Bool, true, false, not, ◌&&◌, ◌||◌, cond, zero, suc, nat_eq, nat_le, is_some, Option, Some, None, List, [], ◌∷◌, ◌++◌, length, take, drop, get_or, slice_index, slice_range, append_assoc, refl, ap, ap₂, sym, subst, ◌∙◌, arith}
+use Rattle.std.proofs.Common.{◌≡◌, ◌⊎◌, inl, inr, ℕ, ◌+◌, ◌-◌, ◌^◌, ◌<◌, ◌≤◌, Bool, true, false, not, ◌||◌, cond, zero, suc, nat_eq, nat_le, nat_lt, is_some, Option, Some, None, List, [], ◌∷◌, ◌++◌, length, take, drop, get_or, slice_index, slice_range, append_assoc, refl, ap, ap₂, sym, subst, subst₂, ◌∙◌, arith}
 use Rattle.std.specs.Int.{is_in_range}
 use Rattle.std.specs.List.{concat}
 use Rattle.std.specs.Str.{chars, IsCharBoundary, IsUtf8}
-use Rattle.std.proofs.lemmas.Bool.{and_parts, cases_eq, cases_lt, ne_eqb}
+use Rattle.std.proofs.lemmas.Bool.{and_parts, cases_eq, cases_lt, eq-eqb, ne_eqb}
 use Rattle.std.proofs.lemmas.Bool.Decides.{nat_tests}
 use Rattle.std.proofs.lemmas.List.{drop_all, drop_more, length-drop, nil_from_length}
 use Rattle.std.proofs.lemmas.List.Sums.{prefix_len-le-length}
-use Rattle.std.proofs.lemmas.Str.{chars-nil, IsCharBoundary-before_ascii, IsCharBoundary-start, IsUtf8-drop}
+use Rattle.std.proofs.lemmas.Str.{encode_ascii, IsCharBoundary-before_ascii, IsCharBoundary-start, IsUtf8-encode, IsUtf8-past_char}
+use Rattle.std.specs.Char.{encode_utf8}
 use Rattle.unicode_segmentation.specs.Grapheme.{graphemes, is_grapheme_break}
 use Rattle.unicode_segmentation.specs.declared.grapheme.Graphemes.{Graphemes}
 use Rattle.unicode_segmentation.proofs.SegmentsLemmas.{concat-segments}
 use Rattle.unicode_width.specs.Width.{str_width}
-use Rattle.unicode_width.proofs.Rules.{str_width-printable}
+use Rattle.unicode_segmentation.proofs.TextLemmas.{chars-encode_utf8}
 use Rattle.cell_units.specs.declared.piece.Piece.{Piece}
 use Rattle.cell_line.specs.declared.element.Element.{Element}
-use Rattle.cell_line.specs.Elements.{cells_of, clusters, placed, tab_cells_of, total_cells}
+use Rattle.cell_line.specs.Elements.{cells_of, clusters, is_tab, placed, tab_cells_of, total_cells}
 use Rattle.cell_line.specs.declared.mark.Lead.{Lead}
 use Rattle.cell_line.specs.declared.mark.Mark.{Mark}
 use Rattle.cell_line.specs.Wrapping.{element_at, is_blank, lead_of, nothing}
 use Rattle.cell_line.specs.inside.Filling.{IsMarkAt}
 use Rattle.cell_line.specs.inside.Marks.{element_of, letter, mark_of, AreLetters, IsLead, IsMarked}
 use Rattle.cell_line.specs.inside.Parts.{clusters_in}
-use Rattle.cell_line.specs.inside.Simple.{is_letter_before, is_simple, IsSeam, StartsWithLetters}
+use Rattle.cell_line.specs.inside.Quiet.{is_alone, quiet_cells, BeginsAlone, IsSeam, StartsAlone}
+use Rattle.cell_line.specs.inside.Simple.{is_letter_before, is_simple, StartsSimple, StartsWithLetters}
 use Rattle.cell_line.proofs.Placed.{clusters_step, total_cells-cons}
-use Rattle.cell_line.proofs.Quiet.{simple_is_quiet}
-use Rattle.cell_line.proofs.Seam.{chars-ascii, graphemes_at_seam, graphemes_none, graphemes_one, seam_boundary}
+use Rattle.cell_line.proofs.Quiet.{alone_is_quiet, char_byte, quiet_width}
+use Rattle.cell_line.proofs.Seam.{graphemes_at_seam, graphemes_none, graphemes_start}
 
--- ---- one byte
+-- ---- one character
 
-one_byte : (text : List ℕ) → length text ≡ 1 → text ≡ slice_index text 0 ∷ []
-one_byte [] h = absurd (omega arith)
-one_byte (b ∷ []) h = refl
-one_byte (b ∷ c ∷ rest) h = absurd (omega arith)
+pub simple_alone : (b : ℕ) → is_simple b ≡ true → is_alone b ≡ true
+simple_alone b h = grind (arith, nat_tests)
 
-one_cell : (tab column b : ℕ) → is_simple b ≡ true → nat_eq b 9 ≡ false → cells_of tab column (b ∷ []) ≡ 1
-one_cell tab column b simple other =
-    let below = (simple_is_quiet b simple).early in
-    let printable : (is_in_range 0x20 0x7E b && true) ≡ true = grind (arith, nat_tests) in
-    ap (λ v. cond (v && true) (tab_cells_of tab column) (str_width false (chars (b ∷ [])))) other
-    ∙ ap (str_width false) (chars-ascii b [] below ∙ ap (λ t. b ∷ t) chars-nil)
-    ∙ str_width-printable false (b ∷ []) printable
+pub simple_below : (b : ℕ) → is_simple b ≡ true → b < 128
+simple_below b h = grind (arith, nat_tests)
 
-pub simple_element : (tab column : ℕ) (text : List ℕ) → length text ≡ 1 → is_simple (slice_index text 0) ≡ true → (slice_index text 0 ≡ 9 → ⊥) →
-    ◌≡◌ {A = Element} (record { text = text; cells = 1; tab = false }) (element_of tab column text)
-simple_element tab column text one simple differs =
-    let b = slice_index text 0 in
-    let other = ne_eqb b 9 differs in
-    let whole : text ≡ b ∷ [] = one_byte text one in
-    let E : List ℕ → ℕ → Bool → Element = λ t w v. record { text = t; cells = w; tab = v } in
-    ap (λ t. E t 1 false) whole
-    ∙ ap₂ (E (b ∷ [])) (sym (one_cell tab column b simple other)) (sym (ap (λ v. v && true) other))
-    ∙ ap (element_of tab column) (sym whole)
+-- no tab
+pub alone_quiet : (c : ℕ) → is_alone c ≡ true → (c ≡ 9 → ⊥) → nat_lt 0 (quiet_cells c) ≡ true
+alone_quiet c h differs = let other = ne_eqb c 9 differs in sym (ap (λ b. b || nat_lt 0 (quiet_cells c)) other) ∙ h
 
-and_true : (b : Bool) → (b && true) ≡ b
-and_true true = refl
-and_true false = refl
+tab_of : (c : ℕ) → is_tab (encode_utf8 c) ≡ nat_eq c 9
+tab_of c = char_byte c 9 (omega arith)
+
+alone_cells : (tab column c : ℕ) → is_alone c ≡ true → (c ≡ 9 → ⊥) → cells_of tab column (encode_utf8 c) ≡ quiet_cells c
+alone_cells tab column c h differs =
+    ap (λ v. cond v (tab_cells_of tab column) (str_width false (chars (encode_utf8 c)))) (tab_of c ∙ ne_eqb c 9 differs)
+    ∙ ap (str_width false) (chars-encode_utf8 c (IsUtf8-encode c (alone_is_quiet c h).scalar))
+    ∙ quiet_width c (alone_quiet c h differs)
+
+pub alone_element : (tab column c : ℕ) → is_alone c ≡ true → (c ≡ 9 → ⊥) →
+    ◌≡◌ {A = Element} (record { text = encode_utf8 c; cells = quiet_cells c; tab = false }) (element_of tab column (encode_utf8 c))
+alone_element tab column c h differs =
+    let E : ℕ → Bool → Element = λ w v. record { text = encode_utf8 c; cells = w; tab = v } in
+    ap₂ E (sym (alone_cells tab column c h differs)) (sym (tab_of c ∙ ne_eqb c 9 differs))
+
+pub tab_element : (tab column c : ℕ) → c ≡ 9 →
+    ◌≡◌ {A = Element} (record { text = encode_utf8 c; cells = tab_cells_of tab column; tab = true }) (element_of tab column (encode_utf8 c))
+tab_element tab column c is =
+    let E : Bool → Element = λ v. record {
+      text = encode_utf8 c;
+      cells = cond v (tab_cells_of tab column) (str_width false (chars (encode_utf8 c)));
+      tab = v;
+    } in
+    ap E (sym (tab_of c ∙ eq-eqb c 9 is))
+
+pub alone_mark : (tab column c : ℕ) → is_alone c ≡ true → (c ≡ 9 → ⊥) →
+    ◌≡◌ {A = Mark} (record { cells = quiet_cells c; blank = nat_eq c 32; wide = nat_le 2 (quiet_cells c) }) (mark_of (element_of tab column (encode_utf8 c)))
+alone_mark tab column c h differs =
+    let M : Bool → Mark = λ s. record { cells = quiet_cells c; blank = s; wide = nat_le 2 (quiet_cells c) } in
+    ap M (sym (char_byte c 32 (omega arith))) ∙ ap mark_of (alone_element tab column c h differs)
+
+pub tab_mark : (tab column c : ℕ) → c ≡ 9 →
+    ◌≡◌ {A = Mark} (record { cells = tab_cells_of tab column; blank = true; wide = false }) (mark_of (element_of tab column (encode_utf8 c)))
+tab_mark tab column c is = ap mark_of (tab_element tab column c is)
+
+-- the same of a byte
+simple_cells : (b : ℕ) → is_simple b ≡ true → (b ≡ 9 → ⊥) → quiet_cells b ≡ 1
+simple_cells b h differs = let other = ne_eqb b 9 differs in grind (arith, nat_tests)
+
+byte_mark : (tab column b : ℕ) → is_simple b ≡ true → mark_of (element_of tab column (encode_utf8 b)) ≡ mark_of (element_of tab column (b ∷ []))
+byte_mark tab column b h = ap (λ (t : List ℕ). mark_of (element_of tab column t)) (encode_ascii b (simple_below b h))
 
 pub simple_mark : (tab column b : ℕ) → is_simple b ≡ true → (b ≡ 9 → ⊥) →
     ◌≡◌ {A = Mark} (record { cells = 1; blank = nat_eq b 32; wide = false }) (mark_of (element_of tab column (b ∷ [])))
 simple_mark tab column b simple differs =
-    let other = ne_eqb b 9 differs in
-    let M : ℕ → Bool → Bool → Mark = λ w v s. record { cells = w; blank = (v && true) || s; wide = not (v && true) && nat_le 2 w } in
-    ap (M 1 false) (sym (and_true (nat_eq b 32)))
-    ∙ ap₂ (λ w v. M w v (nat_eq b 32 && true)) (sym (one_cell tab column b simple other)) (sym other)
+    let M : ℕ → Mark = λ n. record { cells = n; blank = nat_eq b 32; wide = nat_le 2 n } in
+    ap M (sym (simple_cells b simple differs)) ∙ alone_mark tab column b (simple_alone b simple) differs ∙ byte_mark tab column b simple
 
-pub tab_mark : (tab column b : ℕ) → b ≡ 9 → ◌≡◌ {A = Mark} (record { cells = tab_cells_of tab column; blank = true; wide = false }) (mark_of (element_of tab column (b ∷ [])))
-tab_mark tab column b is = ap (λ (n : ℕ). mark_of (element_of tab column (n ∷ []))) (sym is)
+pub tab_byte_mark : (tab column b : ℕ) → b ≡ 9 →
+    ◌≡◌ {A = Mark} (record { cells = tab_cells_of tab column; blank = true; wide = false }) (mark_of (element_of tab column (b ∷ [])))
+tab_byte_mark tab column b is = ap (λ (n : ℕ). mark_of (element_of tab column (n ∷ []))) (sym is)
 
 -- ---- pieces
 
@@ -92,13 +117,13 @@ next_in_part tab column part part' rest cluster is = ap (λ (p : List (List ℕ)
 
 -- the first cluster of the next part
 pub next_part : (tab column end : ℕ) (part rest more text' more' : List (List ℕ)) (text : List ℕ) → part ≡ [] → rest ++ more ≡ graphemes true text ++ more' →
-    IsUtf8 text → IsSeam text 0 end → (cluster : List ℕ) → graphemes true (slice_range text 0 end) ≡ cluster ∷ text' →
+    IsSeam text end → (cluster : List ℕ) → graphemes true (slice_range text 0 end) ≡ cluster ∷ text' →
     placed tab column (part ++ (rest ++ more))
     ≡ element_of tab column cluster ∷ placed tab (column + cells_of tab column cluster) (text' ++ (graphemes true (drop end text) ++ more'))
-next_part tab column end part rest more text' more' text none same utf8 seam cluster first =
+next_part tab column end part rest more text' more' text none same seam cluster first =
     ap (λ (p : List (List ℕ)). placed tab column (p ++ (rest ++ more))) none
     ∙ ap (placed tab column) same
-    ∙ ap (λ (g : List (List ℕ)). placed tab column (g ++ more')) (graphemes_at_seam text 0 end utf8 (IsCharBoundary-start text utf8) seam)
+    ∙ ap (λ (g : List (List ℕ)). placed tab column (g ++ more')) (graphemes_at_seam text end seam)
     ∙ ap (placed tab column) (append_assoc (graphemes true (slice_range text 0 end)) (graphemes true (drop end text)) more')
     ∙ next_in_part tab column (graphemes true (slice_range text 0 end)) text' (graphemes true (drop end text) ++ more') cluster first
 
@@ -111,11 +136,11 @@ some_clusters text utf8 some none =
 
 -- the walk up to the first cluster of the next part, as its fields are then
 pub walk_to : (tab column end cells : ℕ) (part rest more part' more' : List (List ℕ)) (text rest' cluster : List ℕ) (e : Element) →
-    part ≡ [] → rest ++ more ≡ graphemes true text ++ more' → IsUtf8 text → IsSeam text 0 end → graphemes true (slice_range text 0 end) ≡ cluster ∷ part' →
+    part ≡ [] → rest ++ more ≡ graphemes true text ++ more' → IsSeam text end → graphemes true (slice_range text 0 end) ≡ cluster ∷ part' →
     e ≡ element_of tab column cluster → cells ≡ e.cells → rest' ≡ drop end text →
     placed tab column (part ++ (rest ++ more)) ≡ e ∷ placed tab (column + cells) (part' ++ (graphemes true rest' ++ more'))
-walk_to tab column end cells part rest more part' more' text rest' cluster e none same utf8 seam first is size left =
-    next_part tab column end part rest more part' more' text none same utf8 seam cluster first
+walk_to tab column end cells part rest more part' more' text rest' cluster e none same seam first is size left =
+    next_part tab column end part rest more part' more' text none same seam cluster first
     ∙ ap₂ (λ (x : Element) (r : List ℕ). x ∷ placed tab (column + cells_of tab column cluster) (part' ++ (graphemes true r ++ more'))) (sym is) (sym left)
     ∙ ap (λ (n : ℕ). e ∷ placed tab (column + n) (part' ++ (graphemes true rest' ++ more'))) (sym (size ∙ ap (λ (x : Element). x.cells) is))
 
@@ -137,12 +162,17 @@ step_fits tab column cells inside all e left view fits size first =
     let f = cells_fit column inside e (placed tab (column + cells) left) first fits in
     record { first = sym view ∙ first; sum = omega (arith, f.1, size); rest = omega (arith, f.2, size) }
 
--- one simple byte is one cluster
-pub one_cluster : (text part : List ℕ) (end : ℕ) → part ≡ slice_range text 0 end → length part ≡ 1 → is_simple (slice_index part 0) ≡ true → graphemes true (slice_range text 0 end) ≡ part ∷ []
-one_cluster text part end is one simple =
-    ap (graphemes true) (sym is ∙ one_byte part one)
-    ∙ graphemes_one (slice_index part 0) (simple_is_quiet (slice_index part 0) simple).early
-    ∙ ap (λ (t : List ℕ). t ∷ []) (sym (one_byte part one))
+-- the walk over the character with which a text begins
+pub walk_alone : (tab column cells c : ℕ) (part rest more part' more' : List (List ℕ)) (text rest' : List ℕ) (e : Element) →
+    part ≡ [] → part' ≡ [] → rest ++ more ≡ graphemes true text ++ more' → StartsAlone text c rest' → e ≡ element_of tab column (encode_utf8 c) → cells ≡ e.cells →
+    placed tab column (part ++ (rest ++ more)) ≡ e ∷ placed tab (column + cells) (part' ++ (graphemes true rest' ++ more'))
+walk_alone tab column cells c part rest more part' more' text rest' e none none' same starts is size =
+    let cluster = encode_utf8 c in
+    ap (λ (p : List (List ℕ)). placed tab column (p ++ (rest ++ more))) none
+    ∙ ap (placed tab column) same
+    ∙ ap (λ (g : List (List ℕ)). placed tab column (g ++ more')) (graphemes_start text c rest' starts)
+    ∙ ap (λ (x : Element). x ∷ placed tab (column + cells_of tab column cluster) (graphemes true rest' ++ more')) (sym is)
+    ∙ ap₂ (λ (n : ℕ) (p : List (List ℕ)). e ∷ placed tab (column + n) (p ++ (graphemes true rest' ++ more'))) (sym (size ∙ ap (λ (x : Element). x.cells) is)) (sym none')
 
 -- no part is being cut
 pub part_absent : (part : Option Graphemes) (some : Bool) → some ≡ is_some part → some ≡ false → clusters_in part ≡ []
@@ -153,22 +183,44 @@ pub part_none : (part : Option Graphemes) (none : Bool) → is_some part ≡ not
 part_none None none h is = refl
 part_none (Some part) none h is = absurd (let d : true ≡ false = h ∙ ap not is in cc)
 
-first_byte : (text : List ℕ) → 0 < length text → slice_range text 0 1 ≡ slice_index text 0 ∷ []
-first_byte [] h = absurd (omega arith)
-first_byte (b ∷ rest) h = refl
+-- the walk over it where no part is being cut
+pub step_alone : (tab column cells c : ℕ) (part more : List (List ℕ)) (text rest : List ℕ) (all : List Element) → part ≡ [] → StartsAlone text c rest →
+    cells ≡ (element_of tab column (encode_utf8 c)).cells →
+    placed tab column (part ++ (graphemes true text ++ more)) ≡ all → column + total_cells (placed tab column (part ++ (graphemes true text ++ more))) < 2 ^ 32 →
+    IsStep tab column cells all (element_of tab column (encode_utf8 c)) (part ++ (graphemes true rest ++ more))
+step_alone tab column cells c part more text rest all none starts size view fits =
+    let e = element_of tab column (encode_utf8 c) in
+    step_fits tab column cells _ all e (part ++ (graphemes true rest ++ more)) view fits size
+    (walk_alone tab column cells c part (graphemes true text) more part more text rest e none none refl starts refl size)
 
--- the walk over a simple byte
+-- ---- simple bytes
+
+begins_simple : (text : List ℕ) → 0 < length text → is_simple (slice_index text 0) ≡ true → BeginsAlone text
+begins_simple [] some h = absurd (omega arith)
+begins_simple (b ∷ text) some h = (b, text, ap (λ (t : List ℕ). t ++ text) (sym (encode_ascii b (simple_below b h))), simple_alone b h)
+
+next_simple : (b : ℕ) (text : List ℕ) → (length (b ∷ text) ≡ 1) ⊎ ((1 < length (b ∷ text)) × (is_simple (slice_index (b ∷ text) 1) ≡ true)) →
+    (text ≡ []) ⊎ BeginsAlone text
+next_simple b text (inl one) = inl (nil_from_length text (omega (arith, one)))
+next_simple b text (inr next) = inr (begins_simple text (omega (arith, next.0)) next.1)
+
+pub simple_start : (text : List ℕ) → IsUtf8 text → StartsSimple text → StartsAlone text (slice_index text 0) (drop 1 text)
+simple_start [] utf8 s = absurd (let h = s.some in omega arith)
+simple_start (b ∷ text) utf8 s =
+    let is : b ∷ text ≡ encode_utf8 b ++ text = ap (λ (t : List ℕ). t ++ text) (sym (encode_ascii b (simple_below b s.first))) in
+    record { text_is = is; alone = simple_alone b s.first; next = next_simple b text s.next; utf8 = IsUtf8-past_char (b ∷ text) text b utf8 is }
+
+-- the walk over one
 pub step_simple : (tab column cells : ℕ) (part more : List (List ℕ)) (text rest : List ℕ) (all : List Element) → part ≡ [] → IsUtf8 text →
-    IsSeam text 0 1 → is_simple (slice_index text 0) ≡ true → rest ≡ drop 1 text → cells ≡ (element_of tab column (slice_index text 0 ∷ [])).cells →
+    StartsSimple text → rest ≡ drop 1 text → cells ≡ (element_of tab column (slice_index text 0 ∷ [])).cells →
     placed tab column (part ++ (graphemes true text ++ more)) ≡ all → column + total_cells (placed tab column (part ++ (graphemes true text ++ more))) < 2 ^ 32 →
     IsStep tab column cells all (element_of tab column (slice_index text 0 ∷ [])) (part ++ (graphemes true rest ++ more))
-step_simple tab column cells part more text rest all none utf8 seam simple left size view fits =
+step_simple tab column cells part more text rest all none utf8 starts left size view fits =
     let b = slice_index text 0 in
-    let some : 0 < length text = let w = seam.within in omega arith in
-    let first : graphemes true (slice_range text 0 1) ≡ (b ∷ []) ∷ part =
-    ap (graphemes true) (first_byte text some) ∙ graphemes_one b (simple_is_quiet b simple).early ∙ ap (λ (p : List (List ℕ)). (b ∷ []) ∷ p) (sym none) in
-    step_fits tab column cells _ all (element_of tab column (b ∷ [])) (part ++ (graphemes true rest ++ more)) view fits size
-    (walk_to tab column 1 cells part (graphemes true text) more part more text rest (b ∷ []) (element_of tab column (b ∷ [])) none refl utf8 seam first refl size left)
+    let one : b ∷ [] ≡ encode_utf8 b = sym (encode_ascii b (simple_below b starts.first)) in
+    let S : List ℕ → List ℕ → Type 0 = λ t r. IsStep tab column cells all (element_of tab column t) (part ++ (graphemes true r ++ more)) in
+    subst₂ S (sym one) (sym left)
+    (step_alone tab column cells b part more text (drop 1 text) all none (simple_start text utf8 starts) (size ∙ ap (λ (t : List ℕ). (element_of tab column t).cells) one) view fits)
 
 -- ---- letters
 
@@ -228,12 +280,12 @@ letters_tail b text n h i lt =
     let e : suc i + 1 ≡ suc (i + 1) = omega arith in
     (omega (arith, w.0), sym (ap (λ (k : ℕ). is_letter_before (slice_index text i) (slice_index (b ∷ text) k)) e) ∙ w.1)
 
-letter_seam : (text : List ℕ) (n : ℕ) → StartsWithLetters text (suc n) → IsSeam text 0 1
-letter_seam text n h =
+letter_start : (text : List ℕ) (n : ℕ) → StartsWithLetters text (suc n) → StartsSimple text
+letter_start text n h =
     let w = letter_at text (suc n) 0 h (omega arith) in record {
-      past = omega arith;
-      within = omega (arith, w.0);
-      apart = inr (omega (arith, w.0), letter_simple (slice_index text 0) w.1, w.2);
+      some = omega (arith, w.0);
+      first = letter_simple (slice_index text 0) w.1;
+      next = inr (omega (arith, w.0), w.2);
     }
 
 pub letters_boundary : (text : List ℕ) (n : ℕ) → IsUtf8 text → StartsWithLetters text n → IsCharBoundary text n
@@ -242,7 +294,7 @@ letters_boundary text (suc n) utf8 h =
     let w = letter_at text (suc n) n h (omega arith) in
     let e : n + 1 ≡ suc n = omega arith in
     let simple : is_simple (slice_index text (suc n)) ≡ true = sym (ap (λ (k : ℕ). is_simple (slice_index text k)) e) ∙ w.2 in
-    IsCharBoundary-before_ascii text (suc n) (omega (arith, w.0)) (simple_is_quiet (slice_index text (suc n)) simple).early
+    IsCharBoundary-before_ascii text (suc n) (omega (arith, w.0)) (simple_below (slice_index text (suc n)) simple)
 
 -- the walk over letters
 pub letters_walk : (tab column n : ℕ) (text : List ℕ) (more : List (List ℕ)) → IsUtf8 text → StartsWithLetters text n →
@@ -253,15 +305,15 @@ letters_walk tab column zero text more utf8 h =
 letters_walk tab column (suc n) [] more utf8 h = absurd (let w = (h 0 (omega arith)).0 in omega (arith, w))
 letters_walk tab column (suc n) (b ∷ text) more utf8 h =
     let is = (letter_at (b ∷ text) (suc n) 0 h (omega arith)).1 in
-    let seam = letter_seam (b ∷ text) n h in
+    let starts = simple_start (b ∷ text) utf8 (letter_start (b ∷ text) n h) in
     let e = element_of tab column (b ∷ []) in
     let mark = letter_mark tab column b is in
     let one : 1 ≡ e.cells = ap (λ (m : Mark). m.cells) mark in
+    let byte : e ≡ element_of tab column (encode_utf8 b) = ap (element_of tab column) (sym (encode_ascii b (simple_below b (letter_simple b is)))) in
     let step : placed tab column (graphemes true (b ∷ text) ++ more) ≡ e ∷ placed tab (column + 1) (graphemes true text ++ more) =
-    walk_to tab column 1 1 [] (graphemes true (b ∷ text)) more [] more (b ∷ text) text (b ∷ []) e refl refl utf8 seam
-    (graphemes_one b (simple_is_quiet b (letter_simple b is)).early) refl one refl in
+    walk_alone tab column 1 b [] (graphemes true (b ∷ text)) more [] more (b ∷ text) text e refl refl refl starts byte one in
     let to : column + 1 + n ≡ column + suc n = omega arith in
-    let rest = letters_walk tab (column + 1) n text more (IsUtf8-drop (b ∷ text) 1 utf8 (seam_boundary (b ∷ text) 0 1 utf8 seam)) (letters_tail b text n h) in (
+    let rest = letters_walk tab (column + 1) n text more starts.utf8 (letters_tail b text n h) in (
       e,
       placed tab (column + 1) (graphemes true text ++ more),
       step,

@@ -6,15 +6,16 @@
 //! of a list of such lines.
 #![tactic(auto)]
 
+mod characters;
 mod cutting;
-pub mod element;
+mod element;
 mod filling;
 pub mod laws;
-pub mod lines;
+mod lines;
 mod mark;
-pub mod texts;
+mod texts;
 mod walk;
-pub mod wrapping;
+mod wrapping;
 
 pub use element::{Element, elements};
 pub use laws::line_laws;

@@ -1,11 +1,13 @@
 //! The elements of a line one after another, and what wrapping asks of them.
-ghost use Rattle.std.specs.Prelude.{◌≡◌, ◌^◌, ◌<◌, ◌≤◌, ◌||◌, ℕ, List, [], ◌∷◌, length, true};
+ghost use Rattle.std.specs.Prelude.{◌≡◌, ◌^◌, ◌<◌, ◌≤◌, ◌||◌, ℕ, List, [], ◌∷◌, length, encode_utf8, true};
 ghost use Rattle.cell_line.specs.declared.element.Element.{Element};
 ghost use Rattle.cell_line.specs.Elements.{total_cells};
 ghost use Rattle.cell_line.specs.Wrapping.{indent_of};
+ghost use Rattle.cell_line.specs.inside.Quiet.{is_alone};
 ghost use Rattle.cell_line.specs.inside.Simple.{is_simple};
 ghost use Rattle.cell_line.specs.inside.Marks.{element_of, left_of, mark_of, AreLetters, IsLead, IsMarked, IsTaken};
 
+use crate::characters::quiet_cells;
 use crate::element::{Element, tab_cells};
 use crate::walk::{Lent, PieceWalk};
 
@@ -48,6 +50,28 @@ impl Mark {
             cells: 1,
             blank: byte == b' ',
             wide: false,
+        }
+    }
+
+    /// The mark of a quiet character or a tab that `column` cells of its line precede.
+    #[inline]
+    pub(crate) fn of_alone(c: char, tab: u32, column: u32) -> Mark
+        requires size { 0 < tab }
+        requires alone { is_alone c ≡ true }
+        ensures { result ≡ mark_of (element_of tab column (encode_utf8 c)) }
+    {
+        if c == '\t' {
+            return Mark {
+                cells: tab_cells(tab, column),
+                blank: true,
+                wide: false,
+            };
+        }
+        let cells = quiet_cells(c);
+        Mark {
+            cells,
+            blank: c == ' ',
+            wide: cells >= 2,
         }
     }
 

@@ -1,12 +1,14 @@
 //! The elements of pieces one after another, each with its text lent.
-ghost use Rattle.std.specs.Prelude.{◌≡◌, ◌+◌, ◌^◌, ◌<◌, ◌≤◌, ◌++◌, [], ◌∷◌, drop, length, slice_index, true, IfNone, IfSome};
+ghost use Rattle.std.specs.Prelude.{◌≡◌, ◌+◌, ◌^◌, ◌<◌, ◌≤◌, ◌++◌, [], ◌∷◌, drop, length, encode_utf8, true, IfNone, IfSome};
 ghost use Rattle.unicode_segmentation.specs.Grapheme.{graphemes};
 ghost use Rattle.cell_line.specs.Elements.{cells_of, clusters, elements_of, total_cells};
 ghost use Rattle.cell_line.specs.Wrapping.{is_blank, is_wide};
-ghost use Rattle.cell_line.specs.inside.Simple.{is_letter_before, is_simple, IsSeam, StartsWithLetters};
+ghost use Rattle.cell_line.specs.inside.Simple.{is_letter_before, StartsWithLetters};
+ghost use Rattle.cell_line.specs.inside.Quiet.{is_alone};
 ghost use Rattle.cell_line.specs.inside.Marks.{element_of, AreLetters, IsMarked, IsNextText, IsTaken};
 ghost use Rattle.cell_line.specs.inside.Parts.{clusters_in};
 
+use crate::characters::{is_simple, next_seam, quiet_cells, start_alone, starts_simple};
 use crate::element::{Element, cells, tab_cells};
 use crate::mark::Mark;
 use cell_units::Piece;
@@ -43,14 +45,14 @@ impl<'a> Lent<'a> {
         }
     }
 
-    /// A simple byte that `column` cells of its line precede.
-    fn of_simple(text: &'a str, tab: u32, column: u32) -> Lent<'a>
+    /// A quiet character or a tab that `column` cells of its line precede.
+    fn of_alone(text: &'a str, c: char, tab: u32, column: u32) -> Lent<'a>
         requires size { 0 < tab }
-        requires one { length text.now ≡ 1 }
-        requires simple { is_simple (slice_index text.now 0) ≡ true }
+        requires text { text.now ≡ encode_utf8 c }
+        requires alone { is_alone c ≡ true }
         ensures { result ≡ element_of tab column text.now }
     {
-        if text.as_bytes()[0] == b'\t' {
+        if c == '\t' {
             return Lent {
                 text,
                 cells: tab_cells(tab, column),
@@ -59,7 +61,7 @@ impl<'a> Lent<'a> {
         }
         Lent {
             text,
-            cells: 1,
+            cells: quiet_cells(c),
             tab: false,
         }
     }
@@ -114,39 +116,6 @@ impl<'a> Lent<'a> {
         ensures { result ≡ is_wide self.now }
     {
         !self.tab && self.cells >= 2
-    }
-}
-
-/// Whether the byte is printable ASCII or a tab.
-#[inline]
-fn is_simple(byte: u8) -> bool
-    ensures { result ≡ is_simple byte }
-{
-    byte == 9 || (32 <= byte && byte <= 126)
-}
-
-/// The first place where the clusters part: between two simple bytes, or the end.
-fn next_seam(bytes: &[u8]) -> usize
-    requires { 0 < length bytes.now }
-    ensures { IsSeam bytes.now 0 result }
-{
-    for at in 1..bytes.len() {
-        if is_simple(bytes[at - 1]) && is_simple(bytes[at]) {
-            return at;
-        }
-    }
-    bytes.len()
-}
-
-/// Whether the text begins with a simple byte that the clusters part from what follows it.
-#[inline]
-fn starts_simple(bytes: &[u8]) -> bool
-    ensures { result ≡ true → IsSeam bytes.now 0 1 × (is_simple (slice_index bytes.now 0) ≡ true) }
-{
-    match bytes {
-        [] => false,
-        [only] => is_simple(*only),
-        [first, second, ..] => is_simple(*first) && is_simple(*second),
     }
 }
 
@@ -266,15 +235,16 @@ impl<'a> PieceWalk<'a> {
             return Some(lent);
         }
         let (begun, text) = next_text(self.pieces, self.begun, self.rest)?;
-        let end = next_seam(text.as_bytes());
-        let part = &text[..end];
         self.begun = begun;
-        self.rest = &text[end..];
-        if end == 1 && is_simple(part.as_bytes()[0]) {
-            let lent = Lent::of_simple(part, self.tab, self.column);
+        if let Some((first, rest)) = start_alone(text) {
+            let lent = Lent::of_alone(&text[..first.len_utf8()], first, self.tab, self.column);
+            self.rest = rest;
             self.column += lent.cells();
             return Some(lent);
         }
+        let end = next_seam(text);
+        let part = &text[..end];
+        self.rest = &text[end..];
         self.part = Some(part.graphemes(true));
         let cluster = next_cluster(&mut self.part)?;
         let lent = Lent::of_cluster(cluster, self.tab, self.column);
@@ -293,7 +263,7 @@ impl<'a> PieceWalk<'a> {
             self.column += mark.cells;
             return Some(mark);
         }
-        self.next_seldom()
+        self.next_wide()
     }
 
     /// Passes over the letters that are next, each with a simple byte after it, up to so many, and returns how many.
@@ -311,7 +281,24 @@ impl<'a> PieceWalk<'a> {
         count as u32
     }
 
-    /// The same where the element is no simple byte beside another, or the first of its piece.
+    /// The same where the element is no simple byte beside another.
+    #[inline]
+    fn next_wide(&mut self) -> Option<Mark>
+        ensures { IsMarked self.old result self.new }
+    {
+        if self.part.is_some() {
+            return self.next_seldom();
+        }
+        let Some((first, rest)) = start_alone(self.rest) else {
+            return self.next_seldom();
+        };
+        let mark = Mark::of_alone(first, self.tab, self.column);
+        self.rest = rest;
+        self.column += mark.cells;
+        Some(mark)
+    }
+
+    /// The same where it is no quiet character beside another, or the first of its piece.
     #[inline(never)]
     fn next_seldom(&mut self) -> Option<Mark>
         ensures { IsMarked self.old result self.new }

@@ -1,5 +1,5 @@
 -- Bytes that are clusters by themselves beside their like.
-use Rattle.std.specs.Prelude.{◌≡◌, ◌⊎◌, ℕ, ◌+◌, ◌-◌, ◌<◌, ◌≤◌, Bool, true, ◌&&◌, ◌||◌, ◌==◌, List, length, slice_index}
+use Rattle.std.specs.Prelude.{◌≡◌, ◌⊎◌, ℕ, ◌+◌, ◌<◌, Bool, true, ◌&&◌, ◌||◌, ◌==◌, List, length, slice_index}
 use Rattle.std.specs.Int.{is_in_range}
 
 -- printable ASCII, or a tab
@@ -15,8 +15,8 @@ abbrev pub StartsWithLetters : List ℕ → ℕ → Type 0
 StartsWithLetters text count =
     (i : ℕ) → i < count → (i + 1 < length text) × (is_letter_before (slice_index text i) (slice_index text (i + 1)) ≡ true)
 
--- the place is the text's end or lies between two simple bytes
-pub record IsSeam (text : List ℕ) (from at : ℕ) : Type 0 where
-  pub past : from < at
-  pub within : at ≤ length text
-  pub apart : (at ≡ length text) ⊎ ((at < length text) × (is_simple (slice_index text (at - 1)) ≡ true) × (is_simple (slice_index text at) ≡ true))
+-- the text begins with a simple byte, which ends it or precedes another
+pub record StartsSimple (text : List ℕ) : Type 0 where
+  pub some : 0 < length text
+  pub first : is_simple (slice_index text 0) ≡ true
+  pub next : (length text ≡ 1) ⊎ ((1 < length text) × (is_simple (slice_index text 1) ≡ true))

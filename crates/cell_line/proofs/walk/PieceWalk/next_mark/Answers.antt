@@ -4,7 +4,7 @@ use Rattle.cell_line.specs.Elements.{clusters}
 use Rattle.cell_line.specs.declared.mark.Mark.{Mark}
 use Rattle.cell_line.specs.inside.Marks.{element_of, mark_of}
 use Rattle.cell_line.specs.inside.Parts.{clusters_in}
-use Rattle.cell_line.specs.inside.Simple.{is_simple, IsSeam}
+use Rattle.cell_line.specs.inside.Simple.{StartsSimple}
 use Rattle.cell_line.proofs.Walks.{part_none, step_simple, IsStep}
 use Rattle.cell_line.proofs.walk.PieceWalk.next_mark.Goals as goal
 use Rattle.cell_line.proofs.walk.PieceWalk.next_mark.Goals.{After-range_from-self-inside}
@@ -19,9 +19,9 @@ step : (c : After-range_from-self-inside) →
     (clusters_in c.self.inside.part ++ (graphemes true c.range_from-self-inside.result.now ++ clusters (drop c.self.inside.begun c.self.inside.pieces.now)))
 step c =
     let w = c.self.inside in
-    let starts : IsSeam w.rest.now 0 1 × (is_simple (slice_index w.rest.now 0) ≡ true) = rw c.as_bytes.ensures.value at (c.starts_simple.ensures c.if-starts_simple.true) in
+    let starts : StartsSimple w.rest.now = rw c.as_bytes.ensures.value at (c.starts_simple.ensures c.if-starts_simple.true) in
     step_simple w.tab w.column c.of_simple-mark.result.cells (clusters_in w.part) (clusters (drop w.begun w.pieces.now)) w.rest.now c.range_from-self-inside.result.now c.args.self.now
-    (part_none w.part c.is_none.result c.is_none.ensures c.if-is_none.true) c.self.invariant.2 starts.0 starts.1
+    (part_none w.part c.is_none.result c.is_none.ensures c.if-is_none.true) c.self.invariant.2 starts
     c.range_from-self-inside.ensures.value (ap (λ (m : Mark). m.cells) (mark c)) c.self.view_is c.self.invariant.3
 
 pub overflow_add-self : goal.overflow_add-self
