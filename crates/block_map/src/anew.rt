@@ -21,43 +21,53 @@ use mark_tree::MarkTree;
 use std::alloc::Global;
 use sum_core::NoLoad;
 
+/// How the text and the rows below blocks changed: the replacement of the text, if there was one, the old rows and the
+/// new ones, and the edits that lead from those to these.
+#[derive(Drop)]
+pub(crate) struct LowerChange<'a, R> {
+    pub(crate) shift: Option<Shift>,
+    pub(crate) old: &'a R,
+    pub(crate) rows: &'a R,
+    pub(crate) edits: &'a [Edit],
+}
+
 /// The places of the stops that are made anew, in order. They are those of marks that the replacement meets, and of
-/// blocks of which nothing was shown yet. And they are those at lines of which edits replace a row. `rows` are the old
-/// ones.
+/// blocks of which nothing was shown yet. And they are those at lines of which edits replace a row.
 pub(crate) fn places_anew<R: Rows>(
     alloc: Global,
     marks: &MarkTree<BlockLines>,
     stops: &Stops,
     anchors: &MarkTree<NoLoad>,
     side: Side,
-    shift: Option<Shift>,
-    rows: &R,
-    edits: &[Edit],
+    change: &LowerChange<R>,
     steps: &mut Steps,
 ) -> Result<Vec<u32>, NoMemory>
     // The marks, stops and anchors are those of one side, and the edits replace rows that are there.
     requires side { IsSide marks.now stops.now anchors.now }
-    requires edits { All (λ e. e.old_end ≤ length (all_rows (R.shown rows.now))) edits.now }
+    requires edits { let rows = all_rows (R.shown change.now.old.now) in
+        All (λ e. e.old_end ≤ length rows) change.now.edits.now }
 
     // Places of stops. Each stop that isn't at one of them may be carried, and none is there without a cause.
     ensures rising { IfOk result (λ places. IsRising 0 places.items) }
     ensures within { IfOk result (λ places. All (λ a. a < length stops.now) places.items) }
-    ensures others { IfOk result (λ places.
-        LeaveCarried shift edits.now (R.shown rows.now) side marks.now stops.now places.items) }
-    ensures only { IfOk result (λ places. (k : ℕ) → Contains places.items k →
-        IsAnewAt shift edits.now (R.shown rows.now) side marks.now stops.now anchors.now k) }
+    ensures others { let edits = change.now.edits.now in let lines = R.shown change.now.old.now in
+        IfOk result (λ places.
+        LeaveCarried change.now.shift edits lines side marks.now stops.now places.items) }
+    ensures only { let edits = change.now.edits.now in let lines = R.shown change.now.old.now in
+        IfOk result (λ places. (k : ℕ) → Contains places.items k →
+        IsAnewAt change.now.shift edits lines side marks.now stops.now anchors.now k) }
 
     // The work: a search for each anchor, for each edit and by the replacement.
     ensures counted { steps.old ≤ steps.new }
-    ensures steps { let cost = gathering (length anchors.now) (length edits.now) in
+    ensures steps { let cost = gathering (length anchors.now) (length change.now.edits.now) in
         TakesAtMost cost (length marks.now) steps.old steps.new }
 {
     // For the proof: marks are in order, no two with one id.
     let _count = marks.len();
     let mut places = Vec::new(alloc);
-    push_met(&mut places, marks, shift, steps)?;
+    push_met(&mut places, marks, change.shift, steps)?;
     push_anchored(&mut places, marks, anchors, steps)?;
-    push_edited(&mut places, stops, side, rows, edits, steps)?;
+    push_edited(&mut places, stops, side, change.old, change.edits, steps)?;
     put_in_order(&mut places);
     Ok(places)
 }

@@ -123,7 +123,7 @@ impl<R: Rows> BlockMap<R> {
         // Refusals are judged before any memory is taken.
         ensures refused { let source = P.source layer.now in
             IfErr result (IsOwed (add_refusal source self.old id offset lines.now)) }
-        ensures err { OnErr result (self.new ≡ self.old) }
+        ensures unchanged { OnErr result (self.new ≡ self.old) }
         ensures counted { steps.old ≤ steps.new }
         ensures steps { let count = length self.old.above + length self.old.below in
             TakesOneEach altering (count + 1) steps.old steps.new }
@@ -144,7 +144,7 @@ impl<R: Rows> BlockMap<R> {
 
         // The refusal is judged before any memory is taken.
         ensures refused { IfErr result (IsOwed (remove_refusal self.old id)) }
-        ensures err { OnErr result (self.new ≡ self.old) }
+        ensures unchanged { OnErr result (self.new ≡ self.old) }
         ensures counted { steps.old ≤ steps.new }
         ensures steps { let count = length self.old.above + length self.old.below in
             TakesOneEach altering count steps.old steps.new }
@@ -225,7 +225,7 @@ impl<R: Rows> BlockMap<R> {
 
         // The map with the block in its order, or as it was.
         ensures ok { OnOk result (self.new ≡ added side (fresh id offset lines) self.old) }
-        ensures err { OnErr result (self.new ≡ self.old) }
+        ensures unchanged { OnErr result (self.new ≡ self.old) }
 
         // The work: the blocks of that side may be looked at twice.
         ensures counted { steps.old ≤ steps.new }
@@ -251,7 +251,7 @@ impl<R: Rows> BlockMap<R> {
 
         // The map without it, or as it was.
         ensures ok { OnOk result (self.new ≡ removed id self.old) }
-        ensures err { OnErr result (self.new ≡ self.old) }
+        ensures unchanged { OnErr result (self.new ≡ self.old) }
 
         // The work: the blocks of that side may be looked at twice.
         ensures counted { steps.old ≤ steps.new }

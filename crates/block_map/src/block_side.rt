@@ -119,7 +119,7 @@ impl BlockSide {
 
         // The blocks with it, by offset and then id, or as they were.
         ensures ok { OnOk result (self.new ≡ insert_by kept_le (fresh id offset lines) self.old) }
-        ensures err { OnErr result (self.new ≡ self.old) }
+        ensures unchanged { OnErr result (self.new ≡ self.old) }
 
         // The work: every block may be looked at twice.
         ensures counted { steps.old ≤ steps.new }
@@ -148,7 +148,7 @@ impl BlockSide {
 
         // The blocks without it, or as they were.
         ensures ok { OnOk result (self.new ≡ without id self.old) }
-        ensures err { OnErr result (self.new ≡ self.old) }
+        ensures unchanged { OnErr result (self.new ≡ self.old) }
 
         // The work: every block may be looked at twice.
         ensures counted { steps.old ≤ steps.new }

@@ -47,7 +47,7 @@ impl<R: Rows> BlockMap<R> {
             IfOk result (IsShown source shift (R.shown rows) self.old) }
         ensures ok { let source = P.source layer.now in
             OnOk result (self.new ≡ synced source shift (R.shown rows) self.old) }
-        ensures err { OnErr result (self.new ≡ self.old) }
+        ensures unchanged { OnErr result (self.new ≡ self.old) }
 
         // The work.
         ensures counted { steps.old ≤ steps.new }

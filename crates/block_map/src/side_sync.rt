@@ -11,7 +11,7 @@ ghost use Rattle.block_map.specs.inside.RowMoves.{MayBeMoved, carried};
 ghost use Rattle.block_map.specs.inside.SideMoves.{IsSideFollowed, MayBeRemade, MayFollow, bias_of, marks_after, met_count, stops_of_marks};
 ghost use Rattle.block_map.specs.inside.Sides.{IsSide, kept_of};
 
-use crate::anew::places_anew;
+use crate::anew::{LowerChange, places_anew};
 use crate::block_lines::BlockLines;
 use crate::block_marks::BlockMarks;
 use crate::block_side::BlockSide;
@@ -96,33 +96,33 @@ fn some_anew<P: Layer, R: Rows>(
     places: &[u32],
     side: Side,
     layer: &P,
-    shift: Option<Shift>,
-    rows: &R,
-    edits: &[Edit],
+    change: &LowerChange<R>,
     steps: &mut Steps,
 ) -> Result<BlockSide, NoMemory>
     // Offsets stay u32, and the edits take each stop of another place to the line of its moved mark.
-    requires offsets { All (λ m. m.offset < 2 ^ 32) (marks_after shift marks) }
-    requires patch { IsPatch edits.now }
-    requires remade { let source = P.source layer.now in let lines = R.shown rows.now in
-        MayBeRemade source shift edits.now lines side places.now marks stops.now }
+    requires offsets { All (λ m. m.offset < 2 ^ 32) (marks_after change.now.shift marks) }
+    requires patch { IsPatch change.now.edits.now }
+    requires remade { let source = P.source layer.now in let lines = R.shown change.now.rows.now in
+        let edits = change.now.edits.now in
+        MayBeRemade source change.now.shift edits lines side places.now marks stops.now }
 
     // Each mark moved, with its stop at its line.
-    ensures ok { let source = P.source layer.now in let after = marks_after shift marks in
-        let stops = stops_of_marks source (R.shown rows.now) side after in
+    ensures ok { let source = P.source layer.now in let lines = R.shown change.now.rows.now in
+        let after = marks_after change.now.shift marks in
+        let stops = stops_of_marks source lines side after in
         IfOk result (λ s. s ≡ kept_of after stops) }
 
     // The work: for the marks that the replacement meets, for the stops that are made anew, and for the edits.
     ensures counted { steps.old ≤ steps.new }
-    ensures steps { let met = met_count shift marks in
-        let cost = remaking met (length places.now) (length edits.now) in
+    ensures steps { let met = met_count change.now.shift marks in
+        let cost = remaking met (length places.now) (length change.now.edits.now) in
         TakesAtMost cost (length marks) steps.old steps.new }
 {
-    let marks = moved(alloc, marks, shift, steps)?;
+    let marks = moved(alloc, marks, change.shift, steps)?;
     let mut stops = stops.share()?;
     stops.take_out(alloc, places, steps)?;
-    stops.carry(alloc, bias_of(side), edits, steps)?;
-    stops.put_in(alloc, places, &marks, layer, rows, side, steps)?;
+    stops.carry(alloc, bias_of(side), change.edits, steps)?;
+    stops.put_in(alloc, places, &marks, layer, change.rows, side, steps)?;
     Ok(BlockSide {
         marks: BlockMarks::of(marks),
         stops,
@@ -170,15 +170,19 @@ impl BlockSide {
         // For the proof: rows of stops don't fall.
         let _rising = self.stops.len();
         let edits = edits.edits();
+        let change = LowerChange {
+            shift,
+            old,
+            rows,
+            edits,
+        };
         let places = places_anew(
             alloc,
             &marks,
             &self.stops,
             &self.added,
             side,
-            shift,
-            old,
-            edits,
+            &change,
             steps,
         )?;
         let places = places.as_slice();
@@ -192,9 +196,7 @@ impl BlockSide {
             places,
             side,
             layer,
-            shift,
-            rows,
-            edits,
+            &change,
             steps,
         )
     }

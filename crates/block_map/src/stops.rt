@@ -169,7 +169,7 @@ impl Stops {
 
         // The stops with it, or as they were.
         ensures ok { OnOk result (self.new ≡ with_stop at (stop_with row lines) self.old) }
-        ensures err { OnErr result (self.new ≡ self.old) }
+        ensures unchanged { OnErr result (self.new ≡ self.old) }
 
         // The work: its neighbours are looked up, and one replacement is made.
         ensures counted { steps.old ≤ steps.new }
@@ -251,7 +251,7 @@ impl Stops {
 
         // The stops without it, or as they were.
         ensures ok { OnOk result (self.new ≡ without_stop at self.old) }
-        ensures err { OnErr result (self.new ≡ self.old) }
+        ensures unchanged { OnErr result (self.new ≡ self.old) }
 
         // The work: its neighbours are looked up, and one replacement is made.
         ensures counted { steps.old ≤ steps.new }
@@ -360,7 +360,7 @@ impl Stops {
         // The stops before the end stay where they are. Where there is no memory, all do.
         ensures ok { OnOk result
             (self.new ≡ map (moved_stop bias rows.start rows.end rows.count) self.old) }
-        ensures err { OnErr result (self.new ≡ self.old) }
+        ensures unchanged { OnErr result (self.new ≡ self.old) }
 
         // The work: the first stop that moves is found, and its gap is changed.
         ensures counted { steps.old ≤ steps.new }

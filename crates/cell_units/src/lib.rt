@@ -7,16 +7,16 @@
 //! `docs/DEFINITIONS.md`.
 #![tactic(auto)]
 
-pub mod cleaning;
-pub mod fault;
-pub mod laws;
-pub mod layer;
+mod cleaning;
+mod fault;
+mod laws;
+mod layer;
 pub mod limits;
-pub mod piece;
-pub mod place;
-pub mod rows;
-pub mod steps;
-pub mod text;
+mod piece;
+mod place;
+mod rows;
+mod steps;
+mod text;
 pub mod worked;
 
 pub use cleaning::{cleaned, push_clean};

@@ -111,6 +111,13 @@ impl<S: Sheet> DisplayOn<S> {
         Ok(begun(alloc, opening)?)
     }
 
+    /// The record as it is now, of which a crate above may read more than a display gives.
+    pub fn sheet(&self) -> &S
+        ensures { S.kept result.now ≡ unstamped (present_of self.now) }
+    {
+        &self.sheet
+    }
+
     /// How many events the journal may still take, of 4,294,967,295 in all.
     pub fn room(&self) -> u32
         ensures { result + length self.now.events ≡ event_limit }

@@ -4,16 +4,16 @@
 //! they show is what the plain functions give for the record that the history replays to.
 #![tactic(auto)]
 
-pub mod display;
-pub mod event;
+mod display;
+mod event;
 mod held;
-pub mod journal;
-pub mod laws;
+mod journal;
+mod laws;
 mod outs;
-pub mod prepared;
+mod prepared;
 mod splicing;
-pub mod version;
-pub mod view;
+mod version;
+mod view;
 mod work;
 
 pub use display::{Display, DisplayOn};

@@ -59,6 +59,13 @@ impl<S: Sheet> Model for ViewOn<S> {
 }
 
 impl<S: Sheet> ViewOn<S> {
+    /// The record that is shown, of which a crate above may read more than a view gives.
+    pub fn sheet(&self) -> &S
+        ensures { S.kept result.now ≡ unstamped (present_of self.now) }
+    {
+        &self.sheet
+    }
+
     /// How many rows there are, those of blocks too (*Rows*).
     pub fn row_count(&self) -> u32
         ensures { result ≡ length (rows_of (present_of self.now)) }

@@ -8,23 +8,23 @@
 
 mod anchor;
 mod blocks;
-pub mod buffer;
+mod buffer;
 pub mod change;
 mod counting;
 mod folds;
-pub mod held;
+mod held;
 mod inlays;
 mod landing;
-pub mod laws;
+mod laws;
 mod marking;
 pub mod operate;
 mod piece_line;
 mod points;
 mod reading;
-pub mod sheet;
+mod sheet;
 mod spots;
 mod window;
-pub mod wraps;
+mod wraps;
 
 pub use buffer::Buffer;
 pub use cell_line::MarkRun;

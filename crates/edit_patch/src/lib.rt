@@ -13,10 +13,10 @@
 #![tactic(auto)]
 
 mod cover;
-pub mod edit;
+mod edit;
 pub mod laws;
 mod merge;
-pub mod patch;
+mod patch;
 
 pub use cover::{covering, with_pending};
 pub use edit::Edit;

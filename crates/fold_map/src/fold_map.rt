@@ -117,7 +117,7 @@ impl<L: Layer> FoldMap<L> {
 
         // Refusals are judged before any memory is taken.
         ensures refused { IfErr result (IsOwed (fold_refusal self.old.current id start end)) }
-        ensures err { OnErr result (self.new ≡ self.old) }
+        ensures unchanged { OnErr result (self.new ≡ self.old) }
         ensures counted { steps.old ≤ steps.new }
         ensures steps { let after = (with_fold (fold_with id start end) self.old.current).folds in
             let cost = folding (count_met start end after) in
@@ -146,7 +146,7 @@ impl<L: Layer> FoldMap<L> {
 
         // The refusal is judged before any memory is taken.
         ensures refused { IfErr result (IsOwed (unfold_refusal self.old.current id)) }
-        ensures err { OnErr result (self.new ≡ self.old) }
+        ensures unchanged { OnErr result (self.new ≡ self.old) }
         ensures counted { steps.old ≤ steps.new }
         ensures steps { (f : Fold) → Contains self.old.current.folds f → f.id ≡ id →
             let cost = folding (count_met f.start f.end (without id self.old.current).folds) in
@@ -189,7 +189,7 @@ impl<L: Layer> FoldMap<L> {
             OnOk result (self.new ≡ synced (L.source layer) replaced self.old) }
 
         // What stays, and the work.
-        ensures err { OnErr result (self.new ≡ self.old) }
+        ensures unchanged { OnErr result (self.new ≡ self.old) }
         ensures counted { steps.old ≤ steps.new }
         ensures steps { let current = self.old.current in
             let k = folds_met (option_map reach_of shift) (option_map reach_of below) current in

@@ -96,11 +96,7 @@ impl<L: Layer> Layer for FoldSnapshot<L> {
         let start = start_of(&self.splices, line, &mut steps);
         let first = self.layer.pieces(alloc, start.below)?;
         let begin = self.layer.line_start(start.below);
-        let mut below = LineBelow {
-            number: start.below,
-            start: begin,
-            pieces: first,
-        };
+        let mut below = LineBelow::of(start.below, begin, first);
         let mut place = begin;
         let mut pieces = Vec::new(alloc);
         let count = self.splices.len();
@@ -127,11 +123,7 @@ impl<L: Layer> Layer for FoldSnapshot<L> {
                 let number = here + old.feeds;
                 let next = self.layer.pieces(alloc, number)?;
                 let from = self.layer.line_start(number);
-                below = LineBelow {
-                    number,
-                    start: from,
-                    pieces: next,
-                };
+                below = LineBelow::of(number, from, next);
             }
         }
         below.copied_behind(alloc, place, length, pieces)

@@ -18,6 +18,19 @@ pub(crate) struct LineBelow {
 }
 
 impl LineBelow {
+    /// The line of this number, which starts at this place and has these pieces.
+    pub(crate) fn of(number: u32, start: u32, pieces: Vec<Piece>) -> LineBelow
+        ensures number { result.number ≡ number }
+        ensures start { result.start ≡ start }
+        ensures pieces { result.pieces ≡ pieces }
+    {
+        LineBelow {
+            number,
+            start,
+            pieces,
+        }
+    }
+
     /// Copies what is on the line from one place to another.
     pub(crate) fn copy(
         &self,

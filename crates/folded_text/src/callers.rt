@@ -32,7 +32,7 @@ pub fn show(
         IsShown rope replaced inlays.old folds.old made.0 (option_map reach_of made.1)) }
 
     // What stays, and the work.
-    ensures err { OnErr result (folds.new ≡ folds.old) }
+    ensures unchanged { OnErr result (folds.new ≡ folds.old) }
     ensures counted { steps.old ≤ steps.new }
 {
     // For the proof: the text is within its limit, and the inlays and the folds fit it.

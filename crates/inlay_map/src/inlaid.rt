@@ -398,7 +398,7 @@ impl Inlaid {
             OnOk result (self.new ≡ inlay_source self.old.text inlays) }
         ensures offset { IfOk result (λ offset. (i : Inlay) →
             slice_get self.old.inlays at ≡ Some i → i.offset ≡ offset) }
-        ensures err { OnErr result (self.new ≡ self.old) }
+        ensures unchanged { OnErr result (self.new ≡ self.old) }
 
         // The work.
         ensures counted { steps.old ≤ steps.new }
@@ -492,7 +492,7 @@ impl Inlaid {
         ensures ok { let inlays = insert_by inlay_le (inlay_of mark) self.old.inlays in
             OnOk result (self.new ≡ inlay_source self.old.text inlays) }
         ensures put { IfOk result (λ at. IsPut (inlay_of mark) self.old.inlays self.new.inlays at) }
-        ensures err { OnErr result (self.new ≡ self.old) }
+        ensures unchanged { OnErr result (self.new ≡ self.old) }
 
         // The work.
         ensures counted { steps.old ≤ steps.new }

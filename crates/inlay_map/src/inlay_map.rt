@@ -113,7 +113,7 @@ impl InlayMap {
 
         // Refusals are judged before any memory is taken.
         ensures refused { IfErr result (IsOwed (add_refusal self.old.current id offset text.now)) }
-        ensures err { OnErr result (self.new ≡ self.old) }
+        ensures unchanged { OnErr result (self.new ≡ self.old) }
         ensures counted { steps.old ≤ steps.new }
         ensures steps { let s = self.old.current in
             SearchesOnce changing s.text (length s.inlays + 1) steps.old steps.new }
@@ -144,7 +144,7 @@ impl InlayMap {
 
         // The refusal is judged before any memory is taken.
         ensures refused { IfErr result (IsOwed (remove_refusal self.old.current id)) }
-        ensures err { OnErr result (self.new ≡ self.old) }
+        ensures unchanged { OnErr result (self.new ≡ self.old) }
         ensures counted { steps.old ≤ steps.new }
         ensures steps { let s = self.old.current in
             SearchesOnce changing s.text (length s.inlays) steps.old steps.new }
@@ -179,7 +179,7 @@ impl InlayMap {
         ensures synced { let replaced = option_map reach_of shift in
             IfOk result (λ r. IsSynced rope replaced self.old r.0 (option_map reach_of r.1)) }
         ensures ok { OnOk result (self.new ≡ synced rope (option_map reach_of shift) self.old) }
-        ensures err { OnErr result (self.new ≡ self.old) }
+        ensures unchanged { OnErr result (self.new ≡ self.old) }
 
         // The work.
         ensures counted { steps.old ≤ steps.new }

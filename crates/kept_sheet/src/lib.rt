@@ -5,8 +5,8 @@
 //! keeps plain lists, and is the first of them.
 #![tactic(auto)]
 
-pub mod plain;
-pub mod sheet;
+mod plain;
+mod sheet;
 
 pub use plain::PlainSheet;
 pub use sheet::{JobSheet, Sheet};

@@ -1,3 +1,4 @@
+-- What the crate promises
 pub mod Kept
 pub mod Changes
 pub mod Listed

@@ -71,6 +71,7 @@ impl MapSheet {
             IsTurned operation self.now turned.text turned.shown shift →
             RelaysAtMost operation self.now steps.old steps.new }
     {
+        // For the proof: the record is lawful.
         self.lawful();
         let layer = Layer::share(turned.text.layer())?;
         let made = self.wrapped().after(alloc, layer, turned.shown, steps)?;
@@ -96,6 +97,8 @@ impl MapSheet {
             IsRelaid operation self.now (arc_value text) made.lines made.run made.rows shift →
             ShowsAtMost (touched_blocks operation self.now) 1 self.now steps.old steps.new }
     {
+        // For the proof: the record is lawful, the blocks at their lines show the rows of the record, and the
+        // blocks may be given this change.
         self.lawful();
         blocked_laws();
         followed_laws();
@@ -178,6 +181,7 @@ impl MapSheet {
         ensures steps { let operation = AddInlay (inlay_of id offset bias text.now) in
             WorksAtMost operation self.now steps.old steps.new }
     {
+        // For the proof: the record is lawful.
         self.lawful();
         let made = self
             .text()
@@ -195,6 +199,7 @@ impl MapSheet {
         ensures counted { steps.old ≤ steps.new }
         ensures steps { WorksAtMost (RemoveInlay id) self.now steps.old steps.new }
     {
+        // For the proof: the record is lawful.
         self.lawful();
         let made = self.text().without_inlay(alloc, id, steps)?;
         Ok(self.relaid(alloc, made, None, steps)?)
@@ -212,6 +217,7 @@ impl MapSheet {
         ensures counted { steps.old ≤ steps.new }
         ensures steps { WorksAtMost (AddFold (fold_of id start end)) self.now steps.old steps.new }
     {
+        // For the proof: the record is lawful.
         self.lawful();
         let made = self.text().with_fold(alloc, id, start, end, steps)?;
         Ok(self.relaid(alloc, made, None, steps)?)
@@ -227,6 +233,7 @@ impl MapSheet {
         ensures counted { steps.old ≤ steps.new }
         ensures steps { WorksAtMost (RemoveFold id) self.now steps.old steps.new }
     {
+        // For the proof: the record is lawful.
         self.lawful();
         let made = self.text().without_fold(alloc, id, steps)?;
         Ok(self.relaid(alloc, made, None, steps)?)
@@ -242,6 +249,7 @@ impl MapSheet {
         ensures counted { steps.old ≤ steps.new }
         ensures steps { WorksAtMost (SetTab size) self.now steps.old steps.new }
     {
+        // For the proof: the record is lawful.
         self.lawful();
         let made = self.wrapped().with_tab(alloc, size, steps)?;
         let text = self.text_share()?;
@@ -252,6 +260,7 @@ impl MapSheet {
     fn with_width(&self, alloc: Global, cells: u32) -> Result<(MapSheet, LineSplice), Fault>
         ensures { IsMade (SetWidth cells) self.now result }
     {
+        // For the proof: the record is lawful.
         self.lawful();
         let lines = self.wrapped().with_width(cells)?;
         let sheet = self.relined(alloc, lines)?;
@@ -286,6 +295,7 @@ impl MapSheet {
         ensures counted { steps.old ≤ steps.new }
         ensures steps { WorksAtMost (AddBlock row id side lines.now) self.now steps.old steps.new }
     {
+        // For the proof: the record is lawful, and the blocks at their lines show the rows of the record.
         self.lawful();
         blocked_laws();
         are_texts(lines);
@@ -306,6 +316,7 @@ impl MapSheet {
         ensures counted { steps.old ≤ steps.new }
         ensures steps { WorksAtMost (RemoveBlock id) self.now steps.old steps.new }
     {
+        // For the proof: the record is lawful, and the blocks at their lines show the rows of the record.
         self.lawful();
         blocked_laws();
         let blocks = self
@@ -320,6 +331,7 @@ impl MapSheet {
         ensures { (operation : Operation) → IsReblocked operation self.now blocks →
             IfOk result (λ made. IsOperated operation self.now made.0 made.1) }
     {
+        // For the proof: the record is lawful.
         self.lawful();
         let lines = self.lines_share()?;
         let text = self.text_share()?;

@@ -20,6 +20,7 @@ impl Sheet for MapSheet {
     }
 
     fn lines(&self) -> u32 {
+        // For the proof: the record is lawful.
         self.lawful();
         let lines = self.wrapped().lines();
         lines.lines()
@@ -34,6 +35,7 @@ impl Sheet for MapSheet {
     }
 
     fn is_boundary(&self, offset: u32, steps: &mut Steps) -> bool {
+        // For the proof: the record is lawful, and characters of a text begin at its boundaries.
         self.lawful();
         text_laws();
         self.text().rope().is_boundary(offset, steps)

@@ -58,6 +58,8 @@ impl MapSheet {
         ensures steps { let anew = blocks_at_lines (placed_lines places.now self.now) self.now in
             ShowsAtMost anew (length places.now) self.now steps.old steps.new }
     {
+        // For the proof: the record is lawful, the blocks at their lines show the rows of the record, and the
+        // blocks may be given this change.
         self.lawful();
         blocked_laws();
         followed_laws();

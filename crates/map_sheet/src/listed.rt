@@ -26,6 +26,7 @@ impl MapSheet {
         ensures same { IfOk result (λ plain. record_of plain ≡ self.now) }
         ensures counted { steps.old ≤ steps.new }
     {
+        // For the proof: the record is lawful.
         self.lawful();
         let text = self.all_text(alloc, steps)?;
         let inlays = self.inlays(alloc, steps)?;
@@ -48,6 +49,7 @@ impl MapSheet {
         ensures text { IfOk result (λ text. text ≡ self.now.text) }
         ensures counted { steps.old ≤ steps.new }
     {
+        // For the proof: the record is lawful.
         self.lawful();
         let rope = self.text().rope();
         rope.slice(alloc, 0, rope.len(), steps)
@@ -137,6 +139,7 @@ impl MapSheet {
         ensures next { IsNextSide self.now above below result }
         ensures counted { steps.old ≤ steps.new }
     {
+        // For the proof: the blocks at their lines show the rows of the record.
         blocked_laws();
         let x = self.key(Side::Above, above, steps);
         let y = self.key(Side::Below, below, steps);
@@ -164,9 +167,10 @@ impl MapSheet {
         ensures above { IfOk result (λ next. next.1 ≤ above + below + 1) }
         ensures counted { steps.old ≤ steps.new }
     {
+        // For the proof: the record is lawful, and the blocks at their lines show the rows of the record.
         self.lawful();
         blocked_laws();
-        // All blocks are as many as a u32 counts.
+        // For the proof: all blocks are as many as a u32 counts.
         let _count = self.blocked().len();
         match self.next_side(above, below, steps) {
             Side::Above => {
@@ -185,6 +189,7 @@ impl MapSheet {
         ensures blocks { IfOk result (λ blocks. map block_of blocks.items ≡ self.now.blocks) }
         ensures counted { steps.old ≤ steps.new }
     {
+        // For the proof: the record is lawful, and the blocks at their lines show the rows of the record.
         self.lawful();
         blocked_laws();
         let mut blocks = Vec::new(alloc);
@@ -202,6 +207,7 @@ impl MapSheet {
         ensures widths { IfOk result (λ widths. widths.items ≡ widths_of self.now) }
         ensures counted { steps.old ≤ steps.new }
     {
+        // For the proof: the record is lawful.
         self.lawful();
         let count = self.wrapped().lines().lines();
         let mut widths = Vec::with_capacity(alloc, count as usize)?;

@@ -53,8 +53,9 @@ fn of_text(
     ensures made { IfOk result (λ sheet. sheet ≡ unstamped (opened text.text)) }
     ensures counted { steps.old ≤ steps.new }
 {
+    // For the proof: what an operation leaves is lawful.
     operation_laws();
-    // The text is one, and within its limit.
+    // For the proof: the text is one, and within its limit.
     let _len = text.rope().len();
     let _layer_len = layer.buffer_len();
     let lines = WrappedLines::new(alloc, layer, steps)?;
@@ -73,6 +74,7 @@ fn of_lines(
     ensures made { IfOk result (λ sheet. sheet ≡ unstamped (opened text.text)) }
     ensures counted { steps.old ≤ steps.new }
 {
+    // For the proof: what an operation leaves is lawful, and the text is within its limit.
     operation_laws();
     let _len = text.rope().len();
     let _layer_len = text.layer().buffer_len();

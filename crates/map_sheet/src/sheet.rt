@@ -30,7 +30,7 @@ pub type Layered = FoldSnapshot<InlaySnapshot>;
 pub type Held = TabSnapshot<Layered>;
 
 /// The rows of display lines, with blocks between them.
-pub(crate) type Blocked = BlockedRows<WrapSnapshot<Held>>;
+pub type Blocked = BlockedRows<WrapSnapshot<Held>>;
 
 /// The record of a display over the five maps. It is seen as the record, in which the stamps count the lines.
 pub struct MapSheet {
@@ -142,7 +142,7 @@ impl MapSheet {
     }
 
     /// The record is lawful, its text at most twice as long as a text may be, and its stamps count its lines. It does nothing.
-    pub(crate) fn lawful(&self)
+    pub fn lawful(&self)
         ensures lawful { IsLawful self.now }
         ensures short { length self.now.text ≤ LAID_LIMIT }
         ensures plain { unstamped self.now ≡ self.now }
@@ -151,7 +151,7 @@ impl MapSheet {
     }
 
     /// The text with its inlays and folds.
-    pub(crate) fn text(&self) -> &LayeredText
+    pub fn text(&self) -> &LayeredText
         ensures { result.now ≡ source_of self.now }
     {
         &self.text
@@ -165,7 +165,7 @@ impl MapSheet {
     }
 
     /// The lines as they are wrapped.
-    pub(crate) fn wrapped(&self) -> &WrappedLines<Layered>
+    pub fn wrapped(&self) -> &WrappedLines<Layered>
         ensures { result.now ≡ lines_in self.now }
     {
         &self.lines
@@ -179,17 +179,18 @@ impl MapSheet {
     }
 
     /// The blocks between the rows of the lines.
-    pub(crate) fn blocked(&self) -> &Blocked
+    pub fn blocked(&self) -> &Blocked
         ensures { result.now ≡ kept_blocks self.now (row_texts self.now) }
     {
         &self.blocks
     }
 
     /// All that is shown.
-    pub(crate) fn shown(&self) -> &BlockSnapshot<WrapSnapshot<Held>>
+    pub fn shown(&self) -> &BlockSnapshot<WrapSnapshot<Held>>
         ensures shown { result.now ≡ shown_of self.now }
         ensures rows { rows_between result.now ≡ rows_of self.now }
     {
+        // For the proof: the blocks at their lines show the rows of the record, and the record is lawful.
         blocked_laws();
         self.lawful();
         self.blocked().shown()

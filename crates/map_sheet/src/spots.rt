@@ -10,17 +10,20 @@ impl SpotRows for MapSheet {
     ghost kept = { λ s. s };
 
     fn text_len(&self) -> u32 {
+        // For the proof: the record is lawful.
         self.lawful();
         self.text().rope().len()
     }
 
     fn is_boundary(&self, offset: u32, steps: &mut Steps) -> bool {
+        // For the proof: the record is lawful, and characters of a text begin at its boundaries.
         self.lawful();
         text_laws();
         self.text().rope().is_boundary(offset, steps)
     }
 
     fn place(&self, offset: u32, bias: Bias, _steps: &mut Steps) -> (u32, u32) {
+        // For the proof: the record is lawful, and places in a layer do not fall.
         self.lawful();
         layer_laws();
         let layer = self.text().layer();
@@ -32,6 +35,8 @@ impl SpotRows for MapSheet {
     /// Inside a fold the last offset at the left place and the first at the right place are the fold's ends. At any other offset
     /// the first of these isn't before it, or the second isn't after it.
     fn fold_around(&self, offset: u32, _steps: &mut Steps) -> Option<Joined> {
+        // For the proof: the record is lawful, places in a layer do not fall, and folds keep the places between
+        // them.
         self.lawful();
         layer_laws();
         folding_laws();
@@ -52,6 +57,7 @@ impl SpotRows for MapSheet {
     }
 
     fn row_line(&self, alloc: Global, line: u32, steps: &mut Steps) -> Result<RowLine, NoMemory> {
+        // For the proof: the record is lawful.
         self.lawful();
         let elements = self.wrapped().lines().elements(alloc, line)?;
         let width = self.wrapped().rows().mark(line, steps);
@@ -59,12 +65,14 @@ impl SpotRows for MapSheet {
     }
 
     fn first_row(&self, line: u32, steps: &mut Steps) -> u32 {
+        // For the proof: the record is lawful, and the blocks at their lines show the rows of the record.
         self.lawful();
         blocked_laws();
         self.shown().row_of(line, 0, steps)
     }
 
     fn line_of_row(&self, row: u32, steps: &mut Steps) -> u32 {
+        // For the proof: the record is lawful, and the blocks at their lines show the rows of the record.
         self.lawful();
         blocked_laws();
         let shown = self.shown();

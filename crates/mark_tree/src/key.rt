@@ -50,7 +50,7 @@ impl<P> Placed<P> {
 pub(crate) fn sort_placed<P: Load>(things: &mut Vec<Placed<P>>) -> Result<(), NoMemory>
     requires { (id : ℕ) → count_by (has_placed_id id) things.old.items ≤ 1 }
     ensures ok { OnOk result (things.new.items ≡ sort_by placed_le things.old.items) }
-    ensures err { OnErr result (things.new.items ≡ things.old.items) }
+    ensures unchanged { OnErr result (things.new.items ≡ things.old.items) }
 {
     things.sort_by_key(|thing| thing.key())?;
     Ok(())

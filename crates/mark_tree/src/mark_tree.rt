@@ -154,7 +154,7 @@ impl<P: Load> MarkTree<P> {
         // The refusal is judged before any memory is taken.
         ensures refused { let is_there = list_any (has_id mark.id) self.old in
             IfErr result (IsRefusedFor Refusal.IdInUse is_there) }
-        ensures err { OnErr result (self.new ≡ self.old) }
+        ensures unchanged { OnErr result (self.new ≡ self.old) }
         ensures counted { steps.old ≤ steps.new }
         ensures steps { SearchesAndTakes changing (length self.old + 1) steps.old steps.new }
     {
@@ -179,7 +179,7 @@ impl<P: Load> MarkTree<P> {
         ensures within { IfOk result (λ at. at ≤ length self.old) }
 
         // What stays, and the work.
-        ensures err { OnErr result (self.new ≡ self.old) }
+        ensures unchanged { OnErr result (self.new ≡ self.old) }
         ensures counted { steps.old ≤ steps.new }
         ensures steps { TakesAtMost adding (length self.old + 1) steps.old steps.new }
     {
@@ -211,7 +211,7 @@ impl<P: Load> MarkTree<P> {
         // The refusal is judged before any memory is taken.
         ensures refused { let is_there = list_any (has_id id) self.old in
             IfErr result (IsRefusedFor Refusal.UnknownId (not is_there)) }
-        ensures err { OnErr result (self.new ≡ self.old) }
+        ensures unchanged { OnErr result (self.new ≡ self.old) }
         ensures counted { steps.old ≤ steps.new }
         ensures steps { SearchesAndTakes changing (length self.old) steps.old steps.new }
     {
@@ -238,7 +238,7 @@ impl<P: Load> MarkTree<P> {
         ensures mark { IfOk result (λ m. slice_get self.old at ≡ Some m) }
 
         // What stays, and the work.
-        ensures err { OnErr result (self.new ≡ self.old) }
+        ensures unchanged { OnErr result (self.new ≡ self.old) }
         ensures counted { steps.old ≤ steps.new }
         ensures steps { TakesAtMost taking (length self.old) steps.old steps.new }
     {
@@ -260,7 +260,7 @@ impl<P: Load> MarkTree<P> {
 
         // What is there after it.
         ensures ok { OnOk result (self.new ≡ moved_marks shift self.old) }
-        ensures err { OnErr result (self.new ≡ self.old) }
+        ensures unchanged { OnErr result (self.new ≡ self.old) }
 
         // The work, by the number of marks that the replacement meets.
         ensures counted { steps.old ≤ steps.new }

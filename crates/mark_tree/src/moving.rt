@@ -89,7 +89,7 @@ impl<P: Load> Spaced<P> {
 
         // What is there after it. Either way the list is in order.
         ensures ok { OnOk result (self.new ≡ moved_placed shift.now self.old) }
-        ensures err { OnErr result (self.new ≡ self.old) }
+        ensures unchanged { OnErr result (self.new ≡ self.old) }
         ensures ordered { IsOrdered self.new }
 
         // The work, by the number of things that the replacement meets.

@@ -96,7 +96,7 @@ impl<P: Load> Spaced<P> {
         // Why it is refused, and what stays then. Either way the list is in order.
         ensures refused { let is_there = list_any (has_placed_id fresh.id) self.old in
             IfErr result (IsRefusedFor Refusal.IdInUse is_there) }
-        ensures err { OnErr result (self.new ≡ self.old) }
+        ensures unchanged { OnErr result (self.new ≡ self.old) }
         ensures ordered { IsOrdered self.new }
 
         // The work.
@@ -129,7 +129,7 @@ impl<P: Load> Spaced<P> {
         ensures within { IfOk result (λ at. at ≤ length self.old) }
 
         // The list stays where there is no memory. Either way it is in order.
-        ensures err { OnErr result (self.new ≡ self.old) }
+        ensures unchanged { OnErr result (self.new ≡ self.old) }
         ensures ordered { IsOrdered self.new }
 
         // The work.
@@ -164,7 +164,7 @@ impl<P: Load> Spaced<P> {
         // Why it is refused, and what stays then. Either way the list is in order.
         ensures refused { let is_there = list_any (has_placed_id id) self.old in
             IfErr result (IsRefusedFor Refusal.UnknownId (not is_there)) }
-        ensures err { OnErr result (self.new ≡ self.old) }
+        ensures unchanged { OnErr result (self.new ≡ self.old) }
         ensures ordered { IsOrdered self.new }
 
         // The work.
@@ -194,7 +194,7 @@ impl<P: Load> Spaced<P> {
         ensures thing { IfOk result (λ p. slice_get self.old at ≡ Some p) }
 
         // The list stays where there is no memory. Either way it is in order.
-        ensures err { OnErr result (self.new ≡ self.old) }
+        ensures unchanged { OnErr result (self.new ≡ self.old) }
         ensures ordered { IsOrdered self.new }
 
         // The work.

@@ -110,7 +110,7 @@ impl RangeTree {
         // The refusal is judged before any memory is taken.
         ensures refused { let is_there = list_any (has_range_id range.id) self.old in
             IfErr result (IsRefusedFor Refusal.IdInUse is_there) }
-        ensures err { OnErr result (self.new ≡ self.old) }
+        ensures unchanged { OnErr result (self.new ≡ self.old) }
         ensures counted { steps.old ≤ steps.new }
         ensures steps { SearchesAndTakes changing (length self.old + 1) steps.old steps.new }
     {
@@ -137,7 +137,7 @@ impl RangeTree {
         // The refusal is judged before any memory is taken.
         ensures refused { let is_there = list_any (has_range_id id) self.old in
             IfErr result (IsRefusedFor Refusal.UnknownId (not is_there)) }
-        ensures err { OnErr result (self.new ≡ self.old) }
+        ensures unchanged { OnErr result (self.new ≡ self.old) }
         ensures counted { steps.old ≤ steps.new }
         ensures steps { SearchesAndTakes changing (length self.old) steps.old steps.new }
     {
@@ -170,7 +170,7 @@ impl RangeTree {
         ensures dropped { IfOk result (λ ids. ids.items ≡ dropped_ids shift self.old) }
 
         // What stays, and the work.
-        ensures err { OnErr result (self.new ≡ self.old) }
+        ensures unchanged { OnErr result (self.new ≡ self.old) }
         ensures counted { steps.old ≤ steps.new }
         ensures steps { let met = count_by (is_range_met shift) self.old in
             TakesAtMost (shrinking met) (length self.old) steps.old steps.new }

@@ -88,7 +88,7 @@ impl<P: Load> Spaced<P> {
         ensures dropped { IfOk result (λ ids. ids.items ≡ emptied_ids shift.now self.old) }
 
         // The list stays where there is no memory. Either way its ranges are in order, none empty.
-        ensures err { OnErr result (self.new ≡ self.old) }
+        ensures unchanged { OnErr result (self.new ≡ self.old) }
         ensures ranges { AreRanges self.new }
 
         // The work, by the number of ranges that the replacement meets.

@@ -279,7 +279,7 @@ impl<P: Load> Spaced<P> {
 
         // What is there after it.
         ensures ok { OnOk result (self.new ≡ spliced from to fresh.items shift.now self.old) }
-        ensures err { OnErr result (self.new ≡ self.old) }
+        ensures unchanged { OnErr result (self.new ≡ self.old) }
 
         // The work, by the number of things put in.
         ensures counted { steps.old ≤ steps.new }

@@ -18,6 +18,7 @@ use Rattle.cell_line.specs.Wrapping.{cuts_of}
 use Rattle.cell_line.proofs.CellBounds.{length-elements_of, total_cells-le}
 use Rattle.plain_rows.specs.Rows.{blocks_at, line_elements, line_rows, rows_by_line}
 use Rattle.plain_rows.specs.Spots.{elements_at, mark_at, rows_before}
+use Rattle.plain_rows.specs.inside.SpotRows.{cells_limit}
 use Rattle.plain_rows.proofs.LawfulSources.{lawful_source}
 use Rattle.plain_rows.proofs.ShownSizes.{folded-size, size, size-append}
 use Rattle.plain_rows.proofs.LineSizes.{bytes-in, front-size}
@@ -117,7 +118,7 @@ module _ (r : Record) (lawful : IsLawful r) (short : length r.text ≤ 67108864)
   pub elements-count : (line : ℕ) → line < length r.marks → length (elements_at r line) ≤ 134348801
   elements-count line lt = omega (arith, elements-few line lt, line-size line lt)
 
-  pub cells-few : (line : ℕ) → line < length r.marks → total_cells (elements_at r line) ≤ 2149580816
+  pub cells-few : (line : ℕ) → line < length r.marks → total_cells (elements_at r line) ≤ cells_limit
   cells-few line lt =
       omega (arith, ap total_cells (elements-is line lt), total_cells-le (get_or (folded_lines r.text r.inlays r.folds) line []) r.tab lawful.entries.tab.1, line-bytes line lt, line-size line lt)
 

@@ -7,13 +7,13 @@
 #![tactic(auto)]
 
 mod block_lines;
-pub mod folded_lines;
+mod folded_lines;
 mod joining;
 pub mod laws;
 mod laying;
-pub mod plain;
-pub mod rows;
-pub mod shown;
+mod plain;
+mod rows;
+mod shown;
 pub mod spots;
 pub mod worked;
 

@@ -216,7 +216,7 @@ impl<S: Summary, P: Load> SpliceTree<S, P> {
 
         // What is there after it.
         ensures ok { OnOk result (self.new ≡ replaced from to fresh.items gap self.old) }
-        ensures err { OnErr result (self.new ≡ self.old) }
+        ensures unchanged { OnErr result (self.new ≡ self.old) }
 
         // The work.
         ensures counted { steps.old ≤ steps.new }

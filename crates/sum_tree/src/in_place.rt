@@ -269,7 +269,7 @@ fn replace_by_two<T: Item>(
     requires { index < length children.old.items }
     ensures ok { OnOk result
         (children.new.items ≡ set (insert children.old.items (index + 1) right) index left) }
-    ensures err { OnErr result (children.new.items ≡ children.old.items) }
+    ensures unchanged { OnErr result (children.new.items ≡ children.old.items) }
 {
     children.insert(index + 1, right)?;
     children[index] = left;
@@ -329,7 +329,7 @@ fn write_over<T: Item>(leaf: &mut Vec<T>, span: Span, items: &mut Vec<T>) -> Res
     requires order { span.from ≤ span.to }
     requires within { span.to ≤ length leaf.old.items }
     ensures ok { OnOk result (leaf.new.items ≡ refilled leaf.old.items span items.old.items) }
-    ensures err { OnErr result (leaf.new.items ≡ leaf.old.items) }
+    ensures unchanged { OnErr result (leaf.new.items ≡ leaf.old.items) }
 {
     leaf.reserve(items.len().saturating_sub(span.to - span.from))?;
     write_reserved(leaf, span, items);

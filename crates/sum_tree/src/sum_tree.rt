@@ -196,7 +196,7 @@ impl<T: Item> SumTree<T> {
 
         // What is there after it.
         ensures ok { OnOk result (self.new ≡ self.old ++ item ∷ []) }
-        ensures err { OnErr result (self.new ≡ self.old) }
+        ensures unchanged { OnErr result (self.new ≡ self.old) }
 
         // The work.
         ensures counted { steps.old ≤ steps.new }
@@ -229,7 +229,7 @@ impl<T: Item> SumTree<T> {
 
         // What is there after it.
         ensures ok { OnOk result (self.new ≡ self.old ++ other) }
-        ensures err { OnErr result (self.new ≡ self.old) }
+        ensures unchanged { OnErr result (self.new ≡ self.old) }
 
         // The work.
         ensures counted { steps.old ≤ steps.new }
@@ -262,7 +262,7 @@ impl<T: Item> SumTree<T> {
         // What stays, and what is returned.
         ensures ok { OnOk result (self.new ≡ take at self.old) }
         ensures tail { IfOk result (λ t. t ≡ drop at self.old) }
-        ensures err { OnErr result (self.new ≡ self.old) }
+        ensures unchanged { OnErr result (self.new ≡ self.old) }
 
         // The work.
         ensures counted { steps.old ≤ steps.new }
@@ -299,7 +299,7 @@ impl<T: Item> SumTree<T> {
         // What is there after it.
         ensures ok { OnOk result
             (self.new ≡ take from self.old ++ items.items ++ drop to self.old) }
-        ensures err { OnErr result (self.new ≡ self.old) }
+        ensures unchanged { OnErr result (self.new ≡ self.old) }
 
         // The work.
         ensures counted { steps.old ≤ steps.new }
@@ -374,7 +374,7 @@ impl<T: Item> SumTree<T> {
 
         // What is there after it.
         ensures ok { OnOk result (self.new ≡ take from self.old ++ middle ++ drop to self.old) }
-        ensures err { OnErr result (self.new ≡ self.old) }
+        ensures unchanged { OnErr result (self.new ≡ self.old) }
 
         // The work.
         ensures counted { steps.old ≤ steps.new }

@@ -104,7 +104,7 @@ impl Rope {
         ensures cases { let put = clean text.now in
             MatchResult result (IsReplaced self.old start end put self.new)
             (IsReplaceFault self.old start end put) }
-        ensures err { OnErr result (self.new ≡ self.old) }
+        ensures unchanged { OnErr result (self.new ≡ self.old) }
         ensures counted { steps.old ≤ steps.new }
         ensures steps { let put = clean text.now in
             let made = replaced_text self.old start end put in

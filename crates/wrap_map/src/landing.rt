@@ -261,37 +261,49 @@ fn put_group(
     })
 }
 
-/// The lines of a run that are still there, put at a mark with the cuts that the run's lines have there. Returns all
+/// A run of old lines with the cuts that they have at a mark. `since` leads from the old lines to the present ones.
+#[derive(Drop)]
+pub struct LateRun<'a, N> {
+    pub old: &'a N,
+    pub since: &'a Patch,
+    pub run: Run,
+    pub mark: u32,
+    pub wraps: &'a [Cuts],
+}
+
+/// The lines of a run that are still there, put at the mark with the cuts that the run's lines have there. Returns all
 /// lines as they are wrapped then, and the patch that replaces the rows of those.
 fn put_run<N: Lines>(
     alloc: Global,
     lines: &N,
     from: &Stretches,
-    old: &N,
-    since: &Patch,
-    run: Run,
-    mark: u32,
-    wraps: &[Cuts],
+    late: &LateRun<N>,
     steps: &mut Steps,
 ) -> Result<(Stretches, Patch), NoMemory>
-    requires late { let lines = N.elements_by_line lines.now in
-        let old = N.elements_by_line old.now in
-        IsLate lines old from.now since.now run mark (map (λ cuts. cuts.items) wraps.now) }
+    requires late { let lines = N.elements_by_line lines.now in let late = late.now in
+        let old = N.elements_by_line late.old.now in
+        let wraps = map (λ cuts. cuts.items) late.wraps.now in
+        IsLate lines old from.now late.since.now late.run late.mark wraps }
     // All lists between have u32 rows.
     requires fits { let standing = standing_of (N.elements_by_line lines.now) from.now in
-        FitBetween from.now (stood_of (standing_landed since.now run mark standing)) }
+        let late = late.now in
+        let landed = standing_landed late.since.now late.run late.mark standing in
+        FitBetween from.now (stood_of landed) }
     ensures put { let standing = standing_of (N.elements_by_line lines.now) from.now in
-        IfOk result (λ made. IsPut standing since.now run mark made.0 made.1) }
+        let late = late.now in
+        IfOk result (λ made. IsPut standing late.since.now late.run late.mark made.0 made.1) }
     ensures counted { steps.old ≤ steps.new }
-    ensures steps { TakesAtMost (putting_run run.count) (length from.now) steps.old steps.new }
+    ensures steps { let count = late.now.run.count in
+        TakesAtMost (putting_run count) (length from.now) steps.old steps.new }
 {
     // For the proof: the lines of the run are u32, and `since` is a patch.
-    let _lines = old.lines();
-    let _edits = since.edits();
+    let _lines = late.old.lines();
+    let _edits = late.since.edits();
+    let wraps = late.wraps;
     let mut landing = Landing::new(alloc, from.share()?);
     for (place, cuts) in wraps.iter().enumerate() {
-        let line = run.first + place as u32;
-        landing.carry(alloc, from, since, line, mark, cuts, steps)?;
+        let line = late.run.first + place as u32;
+        landing.carry(alloc, from, late.since, line, late.mark, cuts, steps)?;
     }
     landing.finish(alloc, from, steps)
 }
@@ -302,41 +314,39 @@ fn put_twice<N: Lines>(
     alloc: Global,
     lines: &N,
     from: &Stretches,
-    old: &N,
-    since: &Patch,
-    run: Run,
-    mark: u32,
-    wraps: &[Cuts],
+    late: &LateRun<N>,
     steps: &mut Steps,
 ) -> Result<(Stretches, Patch), NoMemory>
     // The run had these cuts at the mark, and `since` leads from then to now. All rows at the end are u32.
-    requires late { let lines = N.elements_by_line lines.now in
-        let old = N.elements_by_line old.now in
-        IsLate lines old from.now since.now run mark (map (λ cuts. cuts.items) wraps.now) }
+    requires late { let lines = N.elements_by_line lines.now in let late = late.now in
+        let old = N.elements_by_line late.old.now in
+        let wraps = map (λ cuts. cuts.items) late.wraps.now in
+        IsLate lines old from.now late.since.now late.run late.mark wraps }
     requires rows_fit { let standing = standing_of (N.elements_by_line lines.now) from.now in
-        length (all_rows (shown_rows (standing_landed since.now run mark standing))) < 2 ^ 32 }
+        let late = late.now in
+        let landed = standing_landed late.since.now late.run late.mark standing in
+        length (all_rows (shown_rows landed)) < 2 ^ 32 }
 
     // The lines that are still there have the mark, and the patch replaces exactly their rows.
     ensures put { let standing = standing_of (N.elements_by_line lines.now) from.now in
-        IfOk result (λ made. IsPut standing since.now run mark made.0 made.1) }
+        let late = late.now in
+        IfOk result (λ made. IsPut standing late.since.now late.run late.mark made.0 made.1) }
 
     // The work: the lines are put in one row each, and then in place, at most one by one.
     ensures counted { steps.old ≤ steps.new }
-    ensures steps { TakesAtMost (landing run.count) (length from.now) steps.old steps.new }
+    ensures steps { let count = late.now.run.count in
+        TakesAtMost (landing count) (length from.now) steps.old steps.new }
 {
-    let none = no_cuts(alloc, run.count)?;
-    let (cleared, falls) = put_run(
-        alloc,
-        lines,
-        from,
-        old,
-        since,
-        run,
-        0,
-        none.as_slice(),
-        steps,
-    )?;
-    let (landed, rises) = put_run(alloc, lines, &cleared, old, since, run, mark, wraps, steps)?;
+    let none = no_cuts(alloc, late.run.count)?;
+    let uncut = LateRun {
+        old: late.old,
+        since: late.since,
+        run: late.run,
+        mark: 0,
+        wraps: none.as_slice(),
+    };
+    let (cleared, falls) = put_run(alloc, lines, from, &uncut, steps)?;
+    let (landed, rises) = put_run(alloc, lines, &cleared, late, steps)?;
     let patch = falls.compose(alloc, &rises)?;
     Ok((landed, patch))
 }
@@ -359,34 +369,35 @@ pub fn put_landed<N: Lines>(
     alloc: Global,
     lines: &N,
     from: &Stretches,
-    old: &N,
-    since: &Patch,
-    run: Run,
-    mark: u32,
-    wraps: &[Cuts],
+    late: &LateRun<N>,
     steps: &mut Steps,
 ) -> Result<(Stretches, Patch), NoMemory>
     // The run had these cuts at the mark, and `since` leads from then to now. All rows at the end are u32.
-    requires late { let lines = N.elements_by_line lines.now in
-        let old = N.elements_by_line old.now in
-        IsLate lines old from.now since.now run mark (map (λ cuts. cuts.items) wraps.now) }
+    requires late { let lines = N.elements_by_line lines.now in let late = late.now in
+        let old = N.elements_by_line late.old.now in
+        let wraps = map (λ cuts. cuts.items) late.wraps.now in
+        IsLate lines old from.now late.since.now late.run late.mark wraps }
     requires rows_fit { let standing = standing_of (N.elements_by_line lines.now) from.now in
-        length (all_rows (shown_rows (standing_landed since.now run mark standing))) < 2 ^ 32 }
+        let late = late.now in
+        let landed = standing_landed late.since.now late.run late.mark standing in
+        length (all_rows (shown_rows landed)) < 2 ^ 32 }
 
     // Other lines are wrapped as before, and the patch replaces exactly the rows of those that landed.
     ensures put { let standing = standing_of (N.elements_by_line lines.now) from.now in
-        IfOk result (λ made. IsPut standing since.now run mark made.0 made.1) }
+        let late = late.now in
+        IfOk result (λ made. IsPut standing late.since.now late.run late.mark made.0 made.1) }
 
     // The work: each line of the run is put twice at most.
     ensures counted { steps.old ≤ steps.new }
-    ensures steps { TakesAtMost (landing run.count) (length from.now) steps.old steps.new }
+    ensures steps { let count = late.now.run.count in
+        TakesAtMost (landing count) (length from.now) steps.old steps.new }
 {
     // For the proof: `since` is a patch.
-    let _edits = since.edits();
-    if may_rise(from, wraps) {
-        put_run(alloc, lines, from, old, since, run, mark, wraps, steps)
+    let _edits = late.since.edits();
+    if may_rise(from, late.wraps) {
+        put_run(alloc, lines, from, late, steps)
     } else {
-        put_twice(alloc, lines, from, old, since, run, mark, wraps, steps)
+        put_twice(alloc, lines, from, late, steps)
     }
 }
 

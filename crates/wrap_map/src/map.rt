@@ -13,7 +13,7 @@ ghost use Rattle.wrap_map.specs.Landing.{IsLanded, cuts_of_run, standing_landed}
 ghost use Rattle.wrap_map.specs.Standing.{HasRoom, IsSynced, all_at, shown_rows, standing_after};
 ghost use Rattle.cell_line.specs.Waiting.{AreApart, IsNextIfAny};
 
-use crate::landing::put_landed;
+use crate::landing::{LateRun, put_landed};
 use crate::replacing::replaced_if_any;
 use crate::snapshot::WrapSnapshot;
 use crate::stretches::Stretches;
@@ -193,17 +193,14 @@ impl<N: Lines> WrapMap<N> {
         }
         // For the proof: `since` is a patch.
         let _edits = since.edits();
-        let (stretches, patch) = put_landed(
-            alloc,
-            &self.lines,
-            &self.stretches,
+        let late = LateRun {
             old,
             since,
             run,
-            width,
+            mark: width,
             wraps,
-            steps,
-        )?;
+        };
+        let (stretches, patch) = put_landed(alloc, &self.lines, &self.stretches, &late, steps)?;
         self.stretches = stretches;
         Ok(patch)
     }

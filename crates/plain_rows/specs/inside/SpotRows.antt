@@ -1,5 +1,5 @@
 -- Rows counted line by line, and a record laid out in display lines.
-use Rattle.std.specs.Prelude.{ℕ, ◌≡◌, ◌≤◌, ◌<◌, List, length, slice_index_or}
+use Rattle.std.specs.Prelude.{ℕ, ◌≡◌, ◌*◌, ◌≤◌, ◌<◌, List, length, slice_index_or}
 use Rattle.cell_units.specs.declared.place.Side.{Side}
 use Rattle.cell_units.specs.Lawful.{IsLawful, source_of}
 use Rattle.cell_units.specs.Record.{Record}
@@ -7,10 +7,11 @@ use Rattle.cell_units.specs.declared.limits.TheConstants.{LAID_LIMIT}
 use Rattle.plain_rows.specs.FoldedLines.{AreLinesOf, LaidOut}
 use Rattle.plain_rows.specs.Rows.{blocks_at}
 use Rattle.plain_rows.specs.Spots.{rows_before}
+use Rattle.plain_rows.specs.inside.BuiltRows.{shown_limit}
 
--- the most cells of a line: sixteen for each byte that a text within its limit shows with its inlays and folds
+-- the most cells of a line: sixteen for each byte that a text which is laid out shows with its inlays and folds
 abbrev pub cells_limit : ℕ
-cells_limit = 2149580816
+cells_limit = 16 * shown_limit
 
 -- of each display line, how many rows are before its text rows
 pub record HasFirstRows (r : Record) (rows : List ℕ) : Type 0 where

@@ -15,4 +15,4 @@ returns-in-Err-Refused-clause-ok g c =
     let a = c.in-Err-Refused in
     let there : Bool = list_any (has_id c.args.id) c.in_ok-next.next in
     let lacked = subst (λ (f : Fault). IsRefusedFor UnknownId (not there) f) a.field-0-is a.ensures.refused in
-    a.ensures.err ∙ sym (none-lacked c.args.id c.in_ok-next.next (not-there there lacked.1)) ∙ ap (filter (lacks_id c.args.id)) c.in_ok-next.ensures
+    a.ensures.unchanged ∙ sym (none-lacked c.args.id c.in_ok-next.next (not-there there lacked.1)) ∙ ap (filter (lacks_id c.args.id)) c.in_ok-next.ensures

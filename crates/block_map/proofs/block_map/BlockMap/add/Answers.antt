@@ -24,9 +24,9 @@ add-requires-in-Below-clause-unused g c = ap (λ (s : BlockState). is_kept c.arg
 pub invariant_of-self : goal.invariant_of-self
 invariant_of-self g c =
     let i = c.self.inside in
-    kept-above_added (g.R.Rows.shown i.rows) i.above i.below c.args.self.now c.self.invariant c.self.view_is c.add.result c.add.new.self (fresh c.args.id c.args.offset c.args.lines) refl c.requires.unused c.requires.room c.add.ensures.ok c.add.ensures.err
+    kept-above_added (g.R.Rows.shown i.rows) i.above i.below c.args.self.now c.self.invariant c.self.view_is c.add.result c.add.new.self (fresh c.args.id c.args.offset c.args.lines) refl c.requires.unused c.requires.room c.add.ensures.ok c.add.ensures.unchanged
 
 pub invariant_of-self-in-Below : goal.invariant_of-self-in-Below
 invariant_of-self-in-Below g c =
     let i = c.self.inside in
-    kept-below_added (g.R.Rows.shown i.rows) i.above i.below c.args.self.now c.self.invariant c.self.view_is c.add-in-Below.result c.add-in-Below.new.self (fresh c.args.id c.args.offset c.args.lines) refl c.requires.unused c.requires.room c.add-in-Below.ensures.ok c.add-in-Below.ensures.err
+    kept-below_added (g.R.Rows.shown i.rows) i.above i.below c.args.self.now c.self.invariant c.self.view_is c.add-in-Below.result c.add-in-Below.new.self (fresh c.args.id c.args.offset c.args.lines) refl c.requires.unused c.requires.room c.add-in-Below.ensures.ok c.add-in-Below.ensures.unchanged

@@ -70,7 +70,7 @@ invariant_of-self c =
     are-after ps c.args.self.now c.self.invariant c.self.view_is c.args.at c.args.row c.requires.place c.requires.fit
     c.find_at-found.result.before.lower.rows c.find_at-found.result.index c.find_at-found.result.splice start c.find_at-found.ensures.index c.find_at-found.ensures.splice
     c.gap_behind-gap.result c.gap_behind-gap.ensures c.args.lines c.push.new.self.items c.in_ok-fresh.fresh.items c.splice_of.result c.in_ok-fresh.ensures.items c.in_ok-push.ensures.items c.splice_of.ensures in
-    either c.replace.result c.replace.new.self (replaced c.args.at c.args.at c.push.new.self.items c.gap_behind-gap.result ps) ps c.replace.ensures.ok c.replace.ensures.err c.self.invariant are
+    either c.replace.result c.replace.new.self (replaced c.args.at c.args.at c.push.new.self.items c.gap_behind-gap.result ps) ps c.replace.ensures.ok c.replace.ensures.unchanged c.self.invariant are
 
 pub returns-clause-ok : goal.returns-clause-ok
 returns-clause-ok c =

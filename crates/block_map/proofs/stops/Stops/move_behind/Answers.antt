@@ -64,7 +64,7 @@ invariant_of-self c =
     let wide : gap.rows ≡ p.gap.rows - (c.args.rows.end - c.args.rows.start) + c.args.rows.count = ap (λ (g : RowCount). g.rows - (c.args.rows.end - c.args.rows.start) + c.args.rows.count) c.gap.ensures in
     let same : replaced c.find_lower-found.result.index c.find_lower-found.result.index [] gap c.self.inside.splices ≡ replaced c.find_lower-found.result.index c.find_lower-found.result.index c.new.result.items gap c.self.inside.splices =
     ap (λ (l : List StopPiece). replaced c.find_lower-found.result.index c.find_lower-found.result.index l gap c.self.inside.splices) (sym c.new.ensures.items) in
-    either c.replace.result c.replace.new.self (replaced c.find_lower-found.result.index c.find_lower-found.result.index c.new.result.items gap c.self.inside.splices) c.self.inside.splices c.replace.ensures.ok c.replace.ensures.err c.self.invariant
+    either c.replace.result c.replace.new.self (replaced c.find_lower-found.result.index c.find_lower-found.result.index c.new.result.items gap c.self.inside.splices) c.self.inside.splices c.replace.ensures.ok c.replace.ensures.unchanged c.self.invariant
     (subst AreStopPieces same (are-moved c.self.inside.splices c.args.self.now c.self.invariant c.self.view_is c.args.bias c.args.rows.start c.args.rows.end c.args.rows.count c.find_lower-found.result.index c.args.rows.ordered c.find_lower-found.ensures.first c.requires.clear p there gap wide))
 
 pub returns-in-None-clause-ok : goal.returns-in-None-clause-ok

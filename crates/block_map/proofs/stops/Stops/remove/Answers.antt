@@ -56,7 +56,7 @@ invariant_of-self c =
     let next : c.args.at + 1 ≤ length ps = within ps c.args.self.now c.self.view_is (c.args.at + 1) (omega (arith, c.requires.within)) in
     let start = start-is ps c.self.invariant c.args.at c.find_at-row.result.index c.find_at-row.result.before (omega (arith, next)) c.find_at-row.ensures.index c.find_at-row.ensures.before in
     let before = start-is ps c.self.invariant (c.args.at + 1) c.find_at-found.result.index c.find_at-found.result.before next c.find_at-found.ensures.index c.find_at-found.ensures.before in
-    either c.replace.result c.replace.new.self (replaced c.args.at (c.args.at + 1) c.new.result.items c.gap_behind-gap.result ps) ps c.replace.ensures.ok c.replace.ensures.err c.self.invariant
+    either c.replace.result c.replace.new.self (replaced c.args.at (c.args.at + 1) c.new.result.items c.gap_behind-gap.result ps) ps c.replace.ensures.ok c.replace.ensures.unchanged c.self.invariant
     (are-removed ps c.args.self.now c.self.invariant c.self.view_is c.args.at c.requires.within c.requires.fit
     c.find_at-row.result.before.lower.rows c.find_at-found.result.before.lower.rows c.find_at-found.result.index c.find_at-found.result.splice start before c.find_at-found.ensures.index c.find_at-found.ensures.splice
     c.gap_behind-gap.result c.gap_behind-gap.ensures c.new.result.items c.new.ensures.items)

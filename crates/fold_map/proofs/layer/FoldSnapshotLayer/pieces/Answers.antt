@@ -25,6 +25,10 @@ use Rattle.fold_map.proofs.SpotsLayer.{over}
 use Rattle.fold_map.proofs.layer.FoldSnapshotLayer.pieces.Goals as goal
 use Rattle.fold_map.proofs.layer.FoldSnapshotLayer.pieces.Goals.{then-old-ne0+in_ok-next, else-old-ne0}
 
+made-line : (s : Source) (number : ℕ) (line : LineBelow) → line.number ≡ number → line.start ≡ line_start (shown_text s) number
+    → slice_get (shown_lines s) number ≡ Some line.pieces.items → IsLineOf s line.number line
+made-line s number line is start pieces = subst (λ (n : ℕ). IsLineOf s n line) (sym is) (record { number_is = is; start = start; pieces = pieces })
+
 pub start_of-start-requires : goal.start_of-start-requires
 start_of-start-requires g c =
     let v = c.args.self.now in
@@ -59,10 +63,12 @@ loop-index-init g c =
     let first = subst (λ (u : Source). slice_get (shown_lines u) at.below ≡ Some c.in_ok-first.first.items) o.below c.in_ok-first.ensures in
     record {
       walk = λ qs are.
-          subst (λ (rs : List (Piece Amount NoLoad)). IsWalk v rs c.args.line at.index c.line_start-begin.result at.below c.new-pieces.result.items) (same-splices v ps qs o.are are)
+          subst (λ (n : ℕ). IsWalk v qs c.args.line at.index c.line_start-begin.result n c.new-pieces.result.items) (sym c.of-below.ensures.number)
+          (subst (λ (rs : List (Piece Amount NoLoad)). IsWalk v rs c.args.line at.index c.line_start-begin.result at.below c.new-pieces.result.items) (same-splices v ps qs o.are are)
           (subst (λ (k : ℕ). IsWalk v ps c.args.line at.index k at.below c.new-pieces.result.items) (sym begin)
-          (subst (IsWalk v ps c.args.line at.index (line_start (shown_text (unfolded v)) at.below) at.below) (sym c.new-pieces.ensures.items) (walk-start v ps o.are c.args.line at start (line-lt v ps o.are c.args.line at start c.requires))));
-      below = record { number_is = λ i. at.below; start = begin; pieces = first };
+          (subst (IsWalk v ps c.args.line at.index (line_start (shown_text (unfolded v)) at.below) at.below) (sym c.new-pieces.ensures.items) (walk-start v ps o.are c.args.line at start (line-lt v ps o.are c.args.line at start c.requires)))));
+      below = made-line (unfolded v) at.below c.of-below.result c.of-below.ensures.number (c.of-below.ensures.start ∙ begin)
+          (subst (λ ps. slice_get (shown_lines (unfolded v)) at.below ≡ Some ps.items) (sym c.of-below.ensures.pieces) first);
     }
 
 pub overflow_add-here : goal.overflow_add-here
@@ -459,7 +465,7 @@ loop-index-preserved g c =
     let old = c.old-old.ensures in
     let number : l.below.number + p.old.feeds ≡ c.if-old-ne0.below.number =
     elim c.if-old-ne0.branch [
-      | then-old-ne0+in_ok-next w ↦ (λ i. sym here i + (sym old i).feeds) ∙ ap (λ (b : LineBelow). b.number) (sym w.below-is)
+      | then-old-ne0+in_ok-next w ↦ (λ i. sym here i + (sym old i).feeds) ∙ sym w.of-below-then-old-ne0.ensures.number ∙ ap (λ (b : LineBelow). b.number) (sym w.below-is)
       | else-old-ne0 w ↦ omega (arith, w.if-old-ne0.false, ap (λ (a : Amount). a.feeds) old, ap (λ (b : LineBelow). b.number) w.below-is)
     ] in
     let place : (sums (take l.index ps)).lower.bytes + p.gap.bytes + p.old.bytes ≡ f.result.before.lower.bytes + c.gap-gap.result.bytes + c.old-old.result.bytes =
@@ -482,12 +488,11 @@ loop-index-preserved g c =
           elim c.if-old-ne0.branch [
             | then-old-ne0+in_ok-next w ↦
                 let number = f.result.before.lower.feeds + c.gap-gap.result.feeds + c.old-old.result.feeds in
-                let there : LineBelow = record { number = number; start = w.line_start-from.result; pieces = w.in_ok-next.next } in
-                let is-line : IsLineOf (unfolded v) number there = record {
-                  number_is = λ i. number;
-                  start = w.line_start-from.ensures ∙ ap (λ (u : Source). line_start (shown_text u) number) o.below;
-                  pieces = subst (λ (u : Source). slice_get (shown_lines u) number ≡ Some w.in_ok-next.next.items) o.below w.in_ok-next.ensures;
-                } in
+                let made = w.of-below-then-old-ne0 in
+                let start = made.ensures.start ∙ w.line_start-from.ensures ∙ ap (λ (u : Source). line_start (shown_text u) number) o.below in
+                let next = subst (λ (u : Source). slice_get (shown_lines u) number ≡ Some w.in_ok-next.next.items) o.below w.in_ok-next.ensures in
+                let pieces = subst (λ ps. slice_get (shown_lines (unfolded v)) number ≡ Some ps.items) (sym made.ensures.pieces) next in
+                let is-line = made-line (unfolded v) number made.result made.ensures.number start pieces in
                 subst (λ (b : LineBelow). IsLineOf (unfolded v) b.number b) (sym w.below-is) is-line
             | else-old-ne0 w ↦ subst (λ (b : LineBelow). IsLineOf (unfolded v) b.number b) (sym w.below-is) is
           ];

@@ -6,5 +6,5 @@ invariant_of-self c =
     let m = c.args.self.now in
     let e = c.remove.ensures in
     record {
-      belong = belong-after_remove m.rope m.inlays m.folds c.args.id c.remove.new.self c.remove.result m.belong c.len-inlays.ensures.lawful e.ok e.accepted e.err;
+      belong = belong-after_remove m.rope m.inlays m.folds c.args.id c.remove.new.self c.remove.result m.belong c.len-inlays.ensures.lawful e.ok e.accepted e.unchanged;
     }

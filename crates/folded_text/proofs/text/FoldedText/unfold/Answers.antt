@@ -24,4 +24,4 @@ pub invariant_of-self : goal.invariant_of-self
 invariant_of-self c =
     let m = c.args.self.now in
     let e = c.unfold.ensures in
-    record { belong = belong-after_unfold m.rope m.inlays m.folds c.args.id c.unfold.new.self c.unfold.result m.belong e.ok e.accepted e.err }
+    record { belong = belong-after_unfold m.rope m.inlays m.folds c.args.id c.unfold.new.self c.unfold.result m.belong e.ok e.accepted e.unchanged }

@@ -23,7 +23,7 @@ invariant_of-self c =
     let ms = c.self.inside.marks in
     let rope = c.self.inside.rope in
     let v = c.self.view_is in
-    either (λ l. AreInlays rope (map inlay_of l)) c.put.result c.put.new.self (insert_by mark_le c.args.mark ms) ms c.put.ensures.ok c.put.ensures.err
+    either (λ l. AreInlays rope (map inlay_of l)) c.put.result c.put.new.self (insert_by mark_le c.args.mark ms) ms c.put.ensures.ok c.put.ensures.unchanged
     (added-are rope c.args.mark ms c.self.invariant (subst (λ (s : Source). IsInlayOf s.text (inlay_of c.args.mark)) (sym v) c.requires.fits) (subst (λ (s : Source). HasRoom (λ i. i.id) c.args.mark.id s.inlays) (sym v) c.requires.room)) c.self.invariant
 
 pub returns-clause-ok : goal.returns-clause-ok

@@ -25,7 +25,7 @@ invariant_of-self c =
     let at = c.args.at in
     let rest = take at ms ++ drop (at + 1) ms in
     let lt = subst (λ (s : Source). at < length s.inlays) (sym c.self.view_is) c.requires in
-    either (λ l. AreInlays rope (map inlay_of l)) c.take.result c.take.new.self rest ms c.take.ensures.ok c.take.ensures.err
+    either (λ l. AreInlays rope (map inlay_of l)) c.take.result c.take.new.self rest ms c.take.ensures.ok c.take.ensures.unchanged
     (subst (AreInlays rope) (sym (taken-at ms rest at refl)) (taken-are rope at (map inlay_of ms) lt c.self.invariant)) c.self.invariant
 
 pub returns-clause-ok : goal.returns-clause-ok

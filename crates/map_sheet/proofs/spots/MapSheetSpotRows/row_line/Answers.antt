@@ -3,6 +3,7 @@ use Rattle.std.specs.Result.{IfOk}
 use Rattle.cell_units.specs.Lawful.{IsWidth}
 use Rattle.cell_line.specs.declared.element.Element.{Element}
 use Rattle.cell_line.specs.Elements.{total_cells}
+use Rattle.plain_rows.specs.inside.SpotRows.{cells_limit}
 use Rattle.plain_rows.proofs.SpotSizes.{cells-few, elements-count}
 use Rattle.map_sheet.proofs.Readings.{line-elements, line-there, line-width, width-is}
 use Rattle.map_sheet.proofs.Sent.{sheet_sent}
@@ -21,7 +22,7 @@ mark-width-requires-after_bounds c κs =
 pub new-requires-clause-few : goal.new-requires-clause-few
 new-requires-clause-few c =
     let is = line-elements c.args.self.now c.wrapped.result.now c.wrapped.ensures c.lines.result.now c.lines.ensures c.args.line c.in_ok-elements.elements.items c.in_ok-elements.ensures in
-    subst (λ (es : List Element). total_cells es ≤ 2149580816) (sym is) (cells-few c.args.self.now c.lawful.ensures.lawful c.lawful.ensures.short c.args.line c.requires)
+    subst (λ (es : List Element). total_cells es ≤ cells_limit) (sym is) (cells-few c.args.self.now c.lawful.ensures.lawful c.lawful.ensures.short c.args.line c.requires)
 
 pub new-requires-clause-count : goal.new-requires-clause-count
 new-requires-clause-count c =

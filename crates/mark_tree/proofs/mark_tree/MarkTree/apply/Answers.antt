@@ -19,7 +19,7 @@ pub invariant_of-self : goal.invariant_of-self
 invariant_of-self g c =
     let ps = c.self.inside.marks in
     record {
-      flat = either (All IsFlat) c.move_marks.result c.move_marks.new.self (moved_placed c.args.shift ps) ps c.move_marks.ensures.ok c.move_marks.ensures.err (flat-moved_all c.args.shift ps c.self.invariant.flat) c.self.invariant.flat;
+      flat = either (All IsFlat) c.move_marks.result c.move_marks.new.self (moved_placed c.args.shift ps) ps c.move_marks.ensures.ok c.move_marks.ensures.unchanged (flat-moved_all c.args.shift ps c.self.invariant.flat) c.self.invariant.flat;
       ordered = c.move_marks.ensures.ordered;
     }
 
@@ -29,8 +29,8 @@ returns-clause-ok g c =
     map-at_ok (map mark_of) c.move_marks.result c.move_marks.new.self (moved_placed c.args.shift ps) (moved_marks c.args.shift c.args.self.now) c.move_marks.ensures.ok
     (moved-of c.args.shift ps c.self.invariant.flat ∙ ap (moved_marks c.args.shift) c.self.view_is)
 
-pub returns-clause-err : goal.returns-clause-err
-returns-clause-err g c = map-at_err (map mark_of) c.move_marks.result c.move_marks.new.self c.self.inside.marks c.args.self.now c.move_marks.ensures.err c.self.view_is
+pub returns-clause-unchanged : goal.returns-clause-unchanged
+returns-clause-unchanged g c = map-at_err (map mark_of) c.move_marks.result c.move_marks.new.self c.self.inside.marks c.args.self.now c.move_marks.ensures.unchanged c.self.view_is
 
 pub returns-clause-steps : goal.returns-clause-steps
 returns-clause-steps g c h few =

@@ -20,7 +20,7 @@ invariant_of-self g c =
     let ps = c.self.inside.marks in
     let p : Placed g.row.P.Denot = record { offset = c.args.mark.offset; bias = c.args.mark.bias; length = 0; id = c.args.mark.id; load = c.args.mark.load } in
     record {
-      flat = either (All IsFlat) c.add.result c.add.new.self (insert_by placed_le p ps) ps c.add.ensures.ok c.add.ensures.err (flat-added p ps (λ i. 0) c.self.invariant.flat) c.self.invariant.flat;
+      flat = either (All IsFlat) c.add.result c.add.new.self (insert_by placed_le p ps) ps c.add.ensures.ok c.add.ensures.unchanged (flat-added p ps (λ i. 0) c.self.invariant.flat) c.self.invariant.flat;
       ordered = c.add.ensures.ordered;
     }
 
@@ -46,8 +46,8 @@ pub returns-clause-refused : goal.returns-clause-refused
 returns-clause-refused g c =
     subst (λ b. IfErr c.add.result (IsRefusedFor IdInUse b)) (any-of c.args.mark.id c.self.inside.marks ∙ ap (list_any (has_id c.args.mark.id)) c.self.view_is) c.add.ensures.refused
 
-pub returns-clause-err : goal.returns-clause-err
-returns-clause-err g c = map-at_err (map mark_of) c.add.result c.add.new.self c.self.inside.marks c.args.self.now c.add.ensures.err c.self.view_is
+pub returns-clause-unchanged : goal.returns-clause-unchanged
+returns-clause-unchanged g c = map-at_err (map mark_of) c.add.result c.add.new.self c.self.inside.marks c.args.self.now c.add.ensures.unchanged c.self.view_is
 
 pub returns-clause-steps : goal.returns-clause-steps
 returns-clause-steps g c h few =

@@ -22,7 +22,7 @@ invariant_of-self g c =
     let ps = c.self.inside.marks in
     let p : Placed g.row.P.Denot = record { offset = c.args.mark.offset; bias = c.args.mark.bias; length = 0; id = c.args.mark.id; load = c.args.mark.load } in
     record {
-      flat = either (All IsFlat) c.put.result c.put.new.self (insert_by placed_le p ps) ps c.put.ensures.ok c.put.ensures.err (flat-added p ps (λ i. 0) c.self.invariant.flat) c.self.invariant.flat;
+      flat = either (All IsFlat) c.put.result c.put.new.self (insert_by placed_le p ps) ps c.put.ensures.ok c.put.ensures.unchanged (flat-added p ps (λ i. 0) c.self.invariant.flat) c.self.invariant.flat;
       ordered = c.put.ensures.ordered;
     }
 
@@ -44,8 +44,8 @@ returns-clause-within g c =
     let same : length c.self.inside.marks ≡ length c.args.self.now = sym (length-map mark_of c.self.inside.marks) ∙ ap length c.self.view_is in
     subst (λ n. IfOk c.put.result (λ at. at ≤ n)) same c.put.ensures.within
 
-pub returns-clause-err : goal.returns-clause-err
-returns-clause-err g c = map-at_err (map mark_of) c.put.result c.put.new.self c.self.inside.marks c.args.self.now c.put.ensures.err c.self.view_is
+pub returns-clause-unchanged : goal.returns-clause-unchanged
+returns-clause-unchanged g c = map-at_err (map mark_of) c.put.result c.put.new.self c.self.inside.marks c.args.self.now c.put.ensures.unchanged c.self.view_is
 
 pub returns-clause-steps : goal.returns-clause-steps
 returns-clause-steps g c h few =

@@ -17,7 +17,7 @@ pub invariant_of-self : goal.invariant_of-self
 invariant_of-self g c =
     let ps = c.self.inside.marks in
     record {
-      flat = either (All IsFlat) c.take_id.result c.take_id.new.self (filter (lacks_placed_id c.args.id) ps) ps c.take_id.ensures.ok c.take_id.ensures.err (All-filter (lacks_placed_id c.args.id) IsFlat ps c.self.invariant.flat) c.self.invariant.flat;
+      flat = either (All IsFlat) c.take_id.result c.take_id.new.self (filter (lacks_placed_id c.args.id) ps) ps c.take_id.ensures.ok c.take_id.ensures.unchanged (All-filter (lacks_placed_id c.args.id) IsFlat ps c.self.invariant.flat) c.self.invariant.flat;
       ordered = c.take_id.ensures.ordered;
     }
 

@@ -21,7 +21,7 @@ invariant_of-self g c =
     let flat = c.self.invariant.flat in
     let rest = All-append IsFlat (take at ps) (drop (at + 1) ps) (All-take IsFlat at ps flat) (All-drop IsFlat (at + 1) ps flat) in
     record {
-      flat = either (All IsFlat) c.take_at.result c.take_at.new.self (take at ps ++ drop (at + 1) ps) ps c.take_at.ensures.ok c.take_at.ensures.err rest flat;
+      flat = either (All IsFlat) c.take_at.result c.take_at.new.self (take at ps ++ drop (at + 1) ps) ps c.take_at.ensures.ok c.take_at.ensures.unchanged rest flat;
       ordered = c.take_at.ensures.ordered;
     }
 

@@ -32,8 +32,8 @@ returns-clause-dropped c =
     let ps = c.self.inside.ranges in
     subst (λ l. IfOk c.move_ranges.result (λ ids. ids.items ≡ l)) (gone-of c.args.shift ps ∙ ap (dropped_ids c.args.shift) c.self.view_is) c.move_ranges.ensures.dropped
 
-pub returns-clause-err : goal.returns-clause-err
-returns-clause-err c = map-at_err (map range_of) c.move_ranges.result c.move_ranges.new.self c.self.inside.ranges c.args.self.now c.move_ranges.ensures.err c.self.view_is
+pub returns-clause-unchanged : goal.returns-clause-unchanged
+returns-clause-unchanged c = map-at_err (map range_of) c.move_ranges.result c.move_ranges.new.self c.self.inside.ranges c.args.self.now c.move_ranges.ensures.unchanged c.self.view_is
 
 pub returns-clause-steps : goal.returns-clause-steps
 returns-clause-steps c h few =

@@ -24,7 +24,7 @@ invariant_of-self c =
     let p : Placed NoLoad = record { offset = c.args.range.start; bias = Right; length = c.args.range.end - c.args.range.start; id = c.args.range.id; load = record {} } in
     let some : IsRange p = record { right = refl; some = omega arith } in
     record {
-      each = either (All IsRange) c.add.result c.add.new.self (insert_by placed_le p ps) ps c.add.ensures.ok c.add.ensures.err (ranges-added p ps some c.self.invariant.each) c.self.invariant.each;
+      each = either (All IsRange) c.add.result c.add.new.self (insert_by placed_le p ps) ps c.add.ensures.ok c.add.ensures.unchanged (ranges-added p ps some c.self.invariant.each) c.self.invariant.each;
       ordered = c.add.ensures.ordered;
     }
 
@@ -62,12 +62,12 @@ returns-clause-refused c =
           (subst (λ b. IsRefusedFor IdInUse b w.in-Err.fault) cause w.in-Err.ensures.refused)
     ]
 
-pub returns-clause-err : goal.returns-clause-err
-returns-clause-err c =
+pub returns-clause-unchanged : goal.returns-clause-unchanged
+returns-clause-unchanged c =
     let X : Type 0 = map range_of c.add.new.self ≡ c.args.self.now in
     elim c.match-add.branch [
       | in-Ok w ↦ subst (λ r. OnErr r X) (sym w.result-is) tt
-      | in-Err w ↦ subst (λ r. OnErr r X) (sym w.result-is) (ap (map range_of) w.in-Err.ensures.err ∙ c.self.view_is)
+      | in-Err w ↦ subst (λ r. OnErr r X) (sym w.result-is) (ap (map range_of) w.in-Err.ensures.unchanged ∙ c.self.view_is)
     ]
 
 pub returns-clause-steps : goal.returns-clause-steps

@@ -25,7 +25,7 @@ pub invariant_of-self : goal.invariant_of-self
 invariant_of-self c =
     let ps = c.self.inside.ranges in
     record {
-      each = either (All IsRange) c.take_id.result c.take_id.new.self (filter (lacks_placed_id c.args.id) ps) ps c.take_id.ensures.ok c.take_id.ensures.err (All-filter (lacks_placed_id c.args.id) IsRange ps c.self.invariant.each) c.self.invariant.each;
+      each = either (All IsRange) c.take_id.result c.take_id.new.self (filter (lacks_placed_id c.args.id) ps) ps c.take_id.ensures.ok c.take_id.ensures.unchanged (All-filter (lacks_placed_id c.args.id) IsRange ps c.self.invariant.each) c.self.invariant.each;
       ordered = c.take_id.ensures.ordered;
     }
 

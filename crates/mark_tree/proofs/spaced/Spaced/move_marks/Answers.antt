@@ -79,7 +79,7 @@ returns-clause-ordered g c =
     let all : spliced first last c.sort_placed.new.things.items s old ≡ moved_placed s old =
     ap (λ l. spliced first last l s old) sorted
     ∙ moved-spliced s old first last c.args.shift.now.ordered c.requires.ordered le c.places_met-met.ensures.before c.places_met-met.ensures.from c.places_met-met.ensures.upto c.places_met-met.ensures.behind in
-    either IsOrdered c.splice.result c.splice.new.self (spliced first last c.sort_placed.new.things.items s old) old c.splice.ensures.ok c.splice.ensures.err
+    either IsOrdered c.splice.result c.splice.new.self (spliced first last c.sort_placed.new.things.items s old) old c.splice.ensures.ok c.splice.ensures.unchanged
     (subst IsOrdered (sym all) (ordered-moved s old c.requires.ordered)) c.requires.ordered
 
 pub returns-clause-steps : goal.returns-clause-steps

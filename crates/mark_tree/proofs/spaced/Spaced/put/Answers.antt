@@ -51,7 +51,7 @@ returns-in_err-single-clause-steps g c h few =
     omega (arith, one)
 
 pub returns-in_err-splice-clause-ordered : goal.returns-in_err-splice-clause-ordered
-returns-in_err-splice-clause-ordered g c = subst IsOrdered (sym c.in_err-splice.ensures.err) c.requires.ordered
+returns-in_err-splice-clause-ordered g c = subst IsOrdered (sym c.in_err-splice.ensures.unchanged) c.requires.ordered
 
 pub returns-in_err-splice-clause-counted : goal.returns-in_err-splice-clause-counted
 returns-in_err-splice-clause-counted g c = le_trans c.place_for-at.ensures.counted c.in_err-splice.ensures.counted

@@ -46,7 +46,7 @@ invariant_of-self g c =
     let all = spliced c.args.from c.args.to c.args.fresh.items c.args.shift.now c.args.self.now in
     let stands : placed_from 0 made ≡ all = splice-stands es c.args.self.now c.args.from c.args.to c.args.fresh.items c.args.shift.now c.in_ok-refill.refill.placed.items c.in_ok-refill.refill.end c.base_of-base.result
     c.self.view_is c.base_of-base.ensures.offset c.args.shift.now.ordered c.in_ok-refill.ensures.refill c.requires.codable.spaced c.in_ok-entries.entries.items c.in_ok-entries.ensures in
-    either (λ l. end_of (extent_over l) < 2 ^ 32) c.replace.result c.replace.new.self made es c.replace.ensures.ok c.replace.ensures.err (kept-fits made all stands c.requires.codable) c.self.invariant
+    either (λ l. end_of (extent_over l) < 2 ^ 32) c.replace.result c.replace.new.self made es c.replace.ensures.ok c.replace.ensures.unchanged (kept-fits made all stands c.requires.codable) c.self.invariant
 
 pub returns-clause-ok : goal.returns-clause-ok
 returns-clause-ok g c =

@@ -48,8 +48,8 @@ returns-clause-ok g c =
     ∙ ap (λ l. take c.args.from c.args.self.now ++ l) c.in_ok-refill.ensures.refill.same in
     subst (λ l. OnOk c.replace.result (c.replace.new.self ≡ l)) same c.replace.ensures.ok
 
-pub returns-clause-err : goal.returns-clause-err
-returns-clause-err g c = subst (λ l. OnErr c.replace.result (c.replace.new.self ≡ l)) c.self.view_is c.replace.ensures.err
+pub returns-clause-unchanged : goal.returns-clause-unchanged
+returns-clause-unchanged g c = subst (λ l. OnErr c.replace.result (c.replace.new.self ≡ l)) c.self.view_is c.replace.ensures.unchanged
 
 pub returns-clause-counted : goal.returns-clause-counted
 returns-clause-counted g c = le_trans c.in_ok-refill.ensures.counted c.replace.ensures.counted

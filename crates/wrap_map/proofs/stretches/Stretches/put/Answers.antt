@@ -71,7 +71,7 @@ replace-requires-clause-small c = (made (goal.at.replace-requires-clause-small c
 pub invariant_of-self : goal.invariant_of-self
 invariant_of-self c =
     let m = made (goal.at.invariant_of-self c).In_ok-gather-2 in (
-      either c.replace.result _ _ (AreStretches c.replace.new.self) c.replace.ensures.ok c.replace.ensures.err
+      either c.replace.result _ _ (AreStretches c.replace.new.self) c.replace.ensures.ok c.replace.ensures.unchanged
           (λ e. subst (λ (l : List Stretched). AreStretches l) (sym e) m.are)
           (λ e. subst (λ (l : List Stretched). AreStretches l) (sym e) c.self.invariant.0),
       c.self.invariant.1,
