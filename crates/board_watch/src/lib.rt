@@ -13,7 +13,7 @@
 #![tactic(auto)]
 
 mod seen;
-pub mod watcher;
+mod watcher;
 
 pub use seen::{Seen, Watched};
 pub use watcher::{Watcher, end_all, give_up_all, watch_all, watchers};

@@ -1,3 +1,4 @@
+-- What the crate promises
 pub mod Beside
 pub mod Owned
 pub mod Stepping

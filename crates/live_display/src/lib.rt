@@ -11,7 +11,7 @@
 
 mod halt;
 mod opening;
-pub mod owner;
+mod owner;
 
 pub use halt::Halt;
 pub use opening::{Opened, open};

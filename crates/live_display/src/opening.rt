@@ -41,7 +41,7 @@ pub fn open<R: Wait>(
     let Ok((crew, team)) = crew(alloc, workers) else {
         return Err(display);
     };
-    match show(rt, alloc, &mut display, readers) {
+    match publish_first(rt, alloc, &mut display, readers) {
         Ok((writer, readers)) => Ok(Opened {
             owner: Owner {
                 alloc,
@@ -58,7 +58,7 @@ pub fn open<R: Wait>(
 }
 
 /// Publishes version 0, and makes a board that shows it, where there are readers.
-fn show<R: Wait>(
+fn publish_first<R: Wait>(
     rt: &R,
     alloc: Global,
     display: &mut Display,

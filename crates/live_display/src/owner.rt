@@ -40,7 +40,7 @@ pub struct Owner {
 }
 
 /// Shows a version on the board, if there is one. It may wait for readers.
-fn show<R: Wait>(
+fn publish_on<R: Wait>(
     rt: &R,
     alloc: Global,
     writer: &mut Option<Writer>,
@@ -72,6 +72,7 @@ impl Owner {
         ensures owned { IsOwned self.new }
         ensures team { IsSameTeam self.old self.new }
     {
+        // For the proof: a job that was sent is out until it lands.
         job_laws();
         self.display.note_line(self.alloc, number)
     }
@@ -94,6 +95,7 @@ impl Owner {
         ensures owned { IsOwned self.new }
         ensures team { IsSameTeam self.old self.new }
     {
+        // For the proof: a job that was sent is out until it lands.
         job_laws();
         self.display.apply(self.alloc, change, &mut self.steps)
     }
@@ -119,10 +121,11 @@ impl Owner {
         ensures crew { self.new.crew ≡ self.old.crew }
         ensures team { IsSameTeam self.old self.new }
     {
+        // For the proof: a job that was sent is out until it lands, and the rows are those of the lines.
         job_laws();
         row_laws();
         let version = self.display.publish(self.alloc, last)?;
-        show(rt, self.alloc, &mut self.writer, version)
+        publish_on(rt, self.alloc, &mut self.writer, version)
     }
 
     /// Lands the results that are there.
@@ -305,6 +308,7 @@ impl Owner {
             (IsHalted self.old.crew.workers self.old.display self.new.display) }
         ensures team { IsSameTeam self.old self.new }
     {
+        // For the proof: a job that was sent is out until it lands.
         job_laws();
         self.check_room()?;
         if self.crew.is_full() {
@@ -432,6 +436,7 @@ impl Owner {
             (IsHalted self.old.crew.workers self.old.display self.new.display) }
         ensures team { IsSameTeam self.old self.new }
     {
+        // For the proof: a job that was sent is out until it lands.
         job_laws();
         match self.take_in(finished) {
             Ok(()) => {}

@@ -13,13 +13,13 @@
 #![tactic(auto)]
 
 mod kept;
-pub mod laws;
+mod laws;
 mod make;
-pub mod reader;
+mod reader;
 mod row;
 mod seats;
 mod shown;
-pub mod writer;
+mod writer;
 
 pub use laws::{one_row, one_row_of_readers, row_laws};
 pub use make::board;

@@ -5,7 +5,7 @@ ghost use Rattle.version_board.specs.inside.Ties.{IsTied, known_at};
 
 use crate::kept::{Kept, open};
 use crate::reader::Reader;
-use crate::seats::{Desk, enroll, show_first};
+use crate::seats::{Desk, enroll, publish_first};
 use crate::shown::Shown;
 use crate::writer::Writer;
 use cell_units::NoMemory;
@@ -73,7 +73,7 @@ pub fn board<R: Wait>(
     let (one, other) = both(&newest)?;
     let again = newest.share()?;
     let desk = Desk::new(alloc, one, other, readers.max(1) as usize)?;
-    let (mut desk, done) = show_first(rt, desk, again);
+    let (mut desk, done) = publish_first(rt, desk, again);
     let Ok(()) = done else {
         let _shown = desk.take(rt);
         return Err(NoMemory);

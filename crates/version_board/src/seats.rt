@@ -93,12 +93,12 @@ pub fn enter(seat: Seat, number: u64) -> (Seat, Option<Kept>)
     }
 }
 
-/// Shows a version of the same row.
+/// Publishes a version of the same row.
 ///
 /// Once a first version was shown, the list of operations has room for the two that it holds at most. And the version
 /// has two owners when it gets a third. So `Err`, which the types allow, has no cause.
 #[tactic(auto, using(crate::proofs::Tying::last_wins))]
-pub fn show<R: Wait>(rt: &R, desk: Desk, kept: Kept) -> (Desk, Result<(), AllocError>)
+pub fn publish<R: Wait>(rt: &R, desk: Desk, kept: Kept) -> (Desk, Result<(), AllocError>)
     requires { kept.board ≡ desk.desk.shown.value.kept.board }
     ensures shown { OnOk result.1 (result.0.desk.shown.value.kept ≡ kept) }
     ensures unchanged { OnErr result.1 (result.0.desk.shown.value ≡ desk.desk.shown.value) }
@@ -110,10 +110,10 @@ pub fn show<R: Wait>(rt: &R, desk: Desk, kept: Kept) -> (Desk, Result<(), AllocE
     desk.publish_as::<See, R>(rt)
 }
 
-/// Shows once more what is shown, so that the desk's seat knows the row, and its list of operations has room. `Err`
+/// Publishes once more what is shown, so that the desk's seat knows the row, and its list of operations has room. `Err`
 /// means out of memory.
 #[tactic(auto, using(crate::proofs::Tying::last_wins))]
-pub fn show_first<R: Wait>(rt: &R, desk: Desk, kept: Kept) -> (Desk, Result<(), AllocError>)
+pub fn publish_first<R: Wait>(rt: &R, desk: Desk, kept: Kept) -> (Desk, Result<(), AllocError>)
     requires same { kept ≡ desk.desk.shown.value.kept }
     requires fresh { drop desk.behind desk.log.items ≡ [] }
     ensures shown { OnOk result.1 (result.0.desk.shown.value.kept ≡ kept) }

@@ -5,7 +5,7 @@ ghost use Rattle.version_board.specs.Rows.{Follows, IsRowTo};
 
 use crate::kept::{Kept, add};
 use crate::row::Head;
-use crate::seats::{Desk, show};
+use crate::seats::{Desk, publish};
 use cell_units::NoMemory;
 use core::mem::replace_with;
 use display_map::Version;
@@ -80,7 +80,7 @@ impl Writer {
                 ensures shown { OnOk result.1 (result.0.desk.shown.value.kept ≡ shared) }
                 ensures unchanged { OnErr result.1
                     (result.0.desk.shown.value ≡ desk.desk.shown.value) }
-            { show(rt, desk, shared) },
+            { publish(rt, desk, shared) },
         )?;
         self.newest = kept;
         Ok(())

@@ -2,5 +2,5 @@ pub mod Runs
 pub mod Weights
 pub mod Owing
 pub mod Posting
-pub mod Crews
+pub mod JobsOut
 pub mod RightsApart

@@ -12,23 +12,23 @@
 //! Nothing is promised of when a result comes, of which thread did a job, or that a call that waits returns.
 #![tactic(auto)]
 
-pub mod gate;
-pub mod job;
-pub mod laws;
+mod crews;
+mod gate;
+mod job;
+mod laws;
 mod make;
 mod names;
-pub mod owner;
 mod results;
 mod results_end;
 mod tasks;
 mod tasks_end;
-pub mod worker;
-pub mod wrap;
+mod worker;
+mod wrap;
 
+pub use crews::Crew;
 pub use gate::{FreeGate, Gate};
 pub use job::{Done, Finished, Job};
 pub use laws::queue_laws;
 pub use make::crew;
-pub use owner::Crew;
 pub use worker::Worker;
 pub use wrap::do_job;

@@ -2,7 +2,7 @@
 ghost use Rattle.std.specs.Prelude.{◌≡◌, ◌*◌, ◌≤◌, [], IfOk, vec_len};
 ghost use Rattle.wrap_workers.specs.inside.Ends.{IsHomeAt};
 
-use crate::owner::Crew;
+use crate::crews::Crew;
 use crate::results_end::ResultsEnd;
 use crate::tasks_end::TasksEnd;
 use crate::worker::Worker;

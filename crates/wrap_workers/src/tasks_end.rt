@@ -93,7 +93,7 @@ impl<N: Lines> TasksEnd<N> {
     }
 
     /// Puts a task. It comes back where the queue reports that no worker is left.
-    #[tactic(auto, using(crate::proofs::Crews::put_crew, crate::proofs::Crews::put_home))]
+    #[tactic(auto, using(crate::proofs::JobsOut::put_crew, crate::proofs::JobsOut::put_home))]
     fn put<R: Wait>(&mut self, rt: &R, task: Task<N>) -> Option<Task<N>>
         requires home { IsTaskAt self.old.post.home task }
         requires next { IsNext self.old.post.next task }

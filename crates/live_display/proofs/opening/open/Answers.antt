@@ -3,16 +3,16 @@ use Rattle.live_display.proofs.Begun.{team-opened}
 use Rattle.display_map.proofs.Sent.{display_sent}
 use Rattle.live_display.proofs.opening.open.Goals as goal
 
-pub returns-in-Ok-show-clause-opened : goal.returns-in-Ok-show-clause-opened
-returns-in-Ok-show-clause-opened g c =
+pub returns-in-Ok-publish_first-clause-opened : goal.returns-in-Ok-publish_first-clause-opened
+returns-in-Ok-publish_first-clause-opened g c =
     record {
-      display = c.in-Ok-show.ensures.published;
+      display = c.in-Ok-publish_first.ensures.published;
       team = c.in-Ok.ensures.out.2;
-      owned = team-opened c.args.display c.show.new.display c.args.workers c.in-Ok.crew.workers c.in-Ok.crew.out c.in-Ok-show.writer c.requires.events c.requires.workers.0
-          c.in-Ok-show.ensures.published c.in-Ok.ensures.out.0 c.in-Ok.ensures.out.2 c.in-Ok-show.ensures.newest;
-      board = c.in-Ok-show.ensures.board;
-      known = c.in-Ok-show.ensures.readers;
-      none = c.in-Ok-show.ensures.none;
+      owned = team-opened c.args.display c.publish_first.new.display c.args.workers c.in-Ok.crew.workers c.in-Ok.crew.out c.in-Ok-publish_first.writer c.requires.events c.requires.workers.0
+          c.in-Ok-publish_first.ensures.published c.in-Ok.ensures.out.0 c.in-Ok.ensures.out.2 c.in-Ok-publish_first.ensures.newest;
+      board = c.in-Ok-publish_first.ensures.board;
+      known = c.in-Ok-publish_first.ensures.readers;
+      none = c.in-Ok-publish_first.ensures.none;
     }
 
 pub crew-requires-send-N : goal.crew-requires-send-N

@@ -4,5 +4,5 @@ use Rattle.live_display.proofs.owner.Owner.publish.Goals as goal
 
 pub returns-clause-owned : goal.returns-clause-owned
 returns-clause-owned g c =
-    shown c.job_laws.ensures.stays c.args.self.now c.args.last c.publish.new.self c.in_ok-version.version c.show.new.writer c.show.result
-    c.in_ok-version.ensures.published c.in_ok-version.ensures.version c.show.ensures.shown c.requires.owned
+    shown c.job_laws.ensures.stays c.args.self.now c.args.last c.publish.new.self c.in_ok-version.version c.publish_on.new.writer c.publish_on.result
+    c.in_ok-version.ensures.published c.in_ok-version.ensures.version c.publish_on.ensures.shown c.requires.owned

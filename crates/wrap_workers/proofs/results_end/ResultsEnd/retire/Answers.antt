@@ -3,7 +3,7 @@ use Rattle.crossbeam_channel.specs.Claims.{view}
 use Rattle.wrap_workers.specs.Jobs.{front, last, without_each}
 use Rattle.wrap_workers.specs.Owed.{after_retired, crew_hand}
 use Rattle.wrap_workers.specs.inside.Ends.{IsLast}
-use Rattle.wrap_workers.proofs.Crews.{knows}
+use Rattle.wrap_workers.proofs.JobsOut.{knows}
 use Rattle.wrap_workers.proofs.Owing.{counts, last_is, last_out, retires_last}
 use Rattle.wrap_workers.proofs.results_end.ResultsEnd.retire.Goals as goal
 use Rattle.std.specs.Prelude.{Contains}

@@ -3,7 +3,7 @@ use Rattle.std.proofs.Common.{false, sym, subst, ap, ◌∙◌}
 use Rattle.display_map.specs.Replay.{versions_of}
 use Rattle.version_board.specs.Rows.{IsFirst}
 use Rattle.version_board.proofs.RowLemmas.{may_open}
-use Rattle.live_display.proofs.opening.show.Goals as goal
+use Rattle.live_display.proofs.opening.publish_first.Goals as goal
 
 pub board-requires-clause-first : goal.board-requires-clause-first
 board-requires-clause-first g c =

@@ -1,7 +1,7 @@
 use Rattle.std.proofs.Common.{[], ◌∷◌, ◌++◌, ap, append-nil, ◌∙◌, refl, sym}
 use Rattle.std.specs.Vec.{vec_capacity}
-use Rattle.wrap_workers.proofs.Crews.{crew_put_back, crew_retired, crew_returned, crew_taken_off}
-use Rattle.wrap_workers.proofs.owner.Crew.help.Goals as goal
+use Rattle.wrap_workers.proofs.JobsOut.{crew_put_back, crew_retired, crew_returned, crew_taken_off}
+use Rattle.wrap_workers.proofs.crews.Crew.help.Goals as goal
 
 pub invariant_of-self : goal.invariant_of-self
 invariant_of-self g c =

@@ -3,8 +3,8 @@ use Rattle.std.specs.Vec.{vec_capacity}
 use Rattle.crossbeam_channel.specs.Fifo.{Held}
 use Rattle.wrap_workers.specs.Finishes.{job_of}
 use Rattle.wrap_workers.specs.Owed.{WereOwed}
-use Rattle.wrap_workers.proofs.Crews.{crew_taken, crew_taken_off}
-use Rattle.wrap_workers.proofs.owner.Crew.collect.Goals as goal
+use Rattle.wrap_workers.proofs.JobsOut.{crew_taken, crew_taken_off}
+use Rattle.wrap_workers.proofs.crews.Crew.collect.Goals as goal
 
 pub invariant_of-self-in-Some : goal.invariant_of-self-in-Some
 invariant_of-self-in-Some g c =

@@ -1,6 +1,6 @@
 use Rattle.std.proofs.Common.{◌≡◌, List, ◌++◌}
 use Rattle.wrap_workers.specs.Jobs.{JobParts}
-use Rattle.wrap_workers.proofs.owner.Crew.put_kept.Given as goal
+use Rattle.wrap_workers.proofs.crews.Crew.put_kept.Given as goal
 
 abbrev pub invariant-loop : goal.invariant-loop
 invariant-loop g l =

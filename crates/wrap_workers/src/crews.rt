@@ -73,7 +73,7 @@ impl<N: Lines> Crew<N> {
 
     /// Hands out a job, whose number no job that is out has. `Err` hands it back, exactly where two jobs for each
     /// worker are out.
-    #[tactic(auto, using(crate::proofs::Crews::at_home, crate::proofs::Crews::home_at, crate::proofs::Crews::crew_put_back))]
+    #[tactic(auto, using(crate::proofs::JobsOut::at_home, crate::proofs::JobsOut::home_at, crate::proofs::JobsOut::crew_put_back))]
     pub fn hand_out<R: Wait>(&mut self, rt: &R, job: Job<N>) -> Result<(), Job<N>>
         requires { IsFree job.number self.old.out }
 
@@ -118,7 +118,7 @@ impl<N: Lines> Crew<N> {
 
     /// Does one waiting job here, and passes the gate: one of the crew's own place, or else one of the queue of tasks.
     /// None comes only where the crew's own place is empty, and the queue of tasks was at a moment of the call.
-    #[tactic(auto, using(crate::proofs::Crews::at_home, crate::proofs::Crews::home_at, crate::proofs::Crews::crew_put_back))]
+    #[tactic(auto, using(crate::proofs::JobsOut::at_home, crate::proofs::JobsOut::home_at, crate::proofs::JobsOut::crew_put_back))]
     pub fn help<R: Wait, G: Gate>(&mut self, rt: &R, alloc: Global, gate: &G) -> Option<Finished<N>>
         // The job that was done is taken off: the last of the crew's own place, and another only where that was empty.
         ensures some { IfSome result (λ finished.
@@ -150,7 +150,7 @@ impl<N: Lines> Crew<N> {
     }
 
     /// Puts the last job of the crew's own place into the queue of tasks again, and returns whether it was taken.
-    #[tactic(auto, using(crate::proofs::Crews::at_home, crate::proofs::Crews::home_at, crate::proofs::Crews::crew_put_back))]
+    #[tactic(auto, using(crate::proofs::JobsOut::at_home, crate::proofs::JobsOut::home_at, crate::proofs::JobsOut::crew_put_back))]
     fn put_last<R: Wait>(&mut self, rt: &R) -> bool
         ensures out { self.new.out ≡ self.old.out }
         ensures kept { (put : List (JobParts N)) × (self.old.kept ≡ self.new.kept ++ put) }

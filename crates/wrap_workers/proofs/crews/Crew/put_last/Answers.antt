@@ -1,7 +1,7 @@
 use Rattle.std.proofs.Common.{[], ◌∷◌, ◌++◌, ap, append-nil, ◌∙◌, sym, arith}
 use Rattle.std.specs.Vec.{vec_capacity}
-use Rattle.wrap_workers.proofs.Crews.{crew_lent, crew_put, crew_put_back, crew_returned}
-use Rattle.wrap_workers.proofs.owner.Crew.put_last.Goals as goal
+use Rattle.wrap_workers.proofs.JobsOut.{crew_lent, crew_put, crew_put_back, crew_returned}
+use Rattle.wrap_workers.proofs.crews.Crew.put_last.Goals as goal
 
 pub invariant_of-self-in-None : goal.invariant_of-self-in-None
 invariant_of-self-in-None g c =

@@ -1,9 +1,9 @@
 use Rattle.std.proofs.Common.{◌+◌, [], ◌∷◌, ◌++◌, ap, ◌∙◌, sym, subst, arith}
 use Rattle.std.specs.Vec.{vec_capacity}
 use Rattle.wrap_workers.specs.Jobs.{IsFree}
-use Rattle.wrap_workers.proofs.Crews.{crew_hired, crew_put, crew_put_back, crew_returned}
+use Rattle.wrap_workers.proofs.JobsOut.{crew_hired, crew_put, crew_put_back, crew_returned}
 use Rattle.wrap_workers.proofs.Weights.{free-times}
-use Rattle.wrap_workers.proofs.owner.Crew.hand_out.Goals as goal
+use Rattle.wrap_workers.proofs.crews.Crew.hand_out.Goals as goal
 
 pub hire-errand-requires-clause-new : goal.hire-errand-requires-clause-new
 hire-errand-requires-clause-new g c = λ _ _.

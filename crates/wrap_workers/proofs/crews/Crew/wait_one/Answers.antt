@@ -1,8 +1,8 @@
 use Rattle.std.proofs.Common.{ap, ◌∙◌, refl}
 use Rattle.std.specs.Vec.{vec_capacity}
 use Rattle.wrap_workers.specs.Finishes.{job_of}
-use Rattle.wrap_workers.proofs.Crews.{crew_taken, crew_taken_off}
-use Rattle.wrap_workers.proofs.owner.Crew.wait_one.Goals as goal
+use Rattle.wrap_workers.proofs.JobsOut.{crew_taken, crew_taken_off}
+use Rattle.wrap_workers.proofs.crews.Crew.wait_one.Goals as goal
 
 pub invariant_of-self : goal.invariant_of-self
 invariant_of-self g c =
