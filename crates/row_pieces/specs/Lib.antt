@@ -1,3 +1,4 @@
+-- What the crate promises
 pub mod Pieces
 pub mod Changed
 pub mod Laws

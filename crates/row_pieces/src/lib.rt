@@ -7,18 +7,18 @@
 #![tactic(auto)]
 
 mod bits;
-pub mod changed;
+mod changed;
 mod joining;
 pub mod laws;
-pub mod line_rows;
-pub mod row_change;
-pub mod row_piece;
-pub mod rows;
+mod line_rows;
+mod row_change;
+mod row_piece;
+mod rows;
 pub mod worked;
 pub mod worked_changes;
 
 pub use changed::changed_rows;
-pub use line_rows::pieces_of_line;
+pub use line_rows::{pieces_of_line, pieces_of_line_row};
 pub use row_change::RowChange;
 pub use row_piece::{RowPiece, RowPieceKind};
-pub use rows::{pieces_in_rows, pieces_of_row};
+pub use rows::{block_line_piece, pieces_in_rows, pieces_of_row};

@@ -1,10 +1,10 @@
 //! The pieces of the rows of one line.
-ghost use Rattle.std.specs.Prelude.{◌≡◌, ◌^◌, ◌<◌, ◌≤◌, ◌==◌, ◌+◌, ℕ, All, length, slice_index_or, if◌then◌else◌, IfOk};
+ghost use Rattle.std.specs.Prelude.{◌≡◌, ◌^◌, ◌<◌, ◌≤◌, ◌==◌, ◌+◌, ℕ, All, length, slice_get, slice_index_or, if◌then◌else◌, IfOk};
 ghost use Rattle.cell_units.specs.Lawful.{IsTab, IsWidth};
 ghost use Rattle.cell_line.specs.Elements.{bytes_in};
 ghost use Rattle.plain_rows.specs.inside.BuiltRows.{shown_limit};
 ghost use Rattle.row_pieces.specs.Pieces.{cells_in, head_and_later, indent_before, indent_piece, parts, pieces_by_row, start_of};
-ghost use Rattle.row_pieces.specs.Listed.{lists_of};
+ghost use Rattle.row_pieces.specs.Listed.{listed, lists_of};
 ghost use Rattle.row_pieces.specs.inside.Lines.{HasOffsets, LiesWithin, begin_of, row_of};
 
 use crate::bits::{bits, spaces};
@@ -132,10 +132,44 @@ pub fn pieces_of_line(
 
     ensures { IfOk result (λ rows. lists_of rows.items ≡ pieces_by_row pieces.now tab width) }
 {
+    // For the proof: the cells of a line are within their bound.
     line_laws();
     let elements = elements(alloc, pieces, tab)?;
     let cuts = cuts(alloc, elements.as_slice(), width)?;
     let indent = indent(elements.as_slice(), width);
     let bits = bits(alloc, pieces, elements.as_slice())?;
     rows_of_bits(alloc, bits.as_slice(), cuts.as_slice(), indent)
+}
+
+/// The pieces of the row of this number of that line, counted from 0; `None` past its last row. It walks the line a fixed
+/// number of times, and joins the pieces of that row alone.
+pub fn pieces_of_line_row(
+    alloc: Global,
+    pieces: &[Piece],
+    tab: u32,
+    width: u32,
+    row: u32,
+) -> Result<Option<Vec<RowPiece>>, NoMemory>
+    // A tab size and a width that a record may have.
+    requires tab { IsTab tab }
+    requires width { IsWidth width }
+
+    // A line no longer than those of a record, whose offsets are u32.
+    requires size { bytes_in pieces.now ≤ shown_limit }
+    requires offsets { All HasOffsets pieces.now }
+
+    ensures { IfOk result (λ found.
+        listed found ≡ slice_get (pieces_by_row pieces.now tab width) row) }
+{
+    line_laws();
+    let elements = elements(alloc, pieces, tab)?;
+    let cuts = cuts(alloc, elements.as_slice(), width)?;
+    let row = row as usize;
+    if row > cuts.as_slice().len() {
+        return Ok(None);
+    }
+    let indent = indent(elements.as_slice(), width);
+    let bits = bits(alloc, pieces, elements.as_slice())?;
+    let found = joined_row(alloc, bits.as_slice(), cuts.as_slice(), indent, row)?;
+    Ok(Some(found))
 }

@@ -2,6 +2,7 @@
 ghost use Rattle.std.specs.Prelude.{◌≡◌, ◌^◌, ◌≤◌, ◌<◌, ◌+◌, ◌∷◌, ◌++◌, [], All, length, slice_get, if◌then◌else◌, IfOk, OnOk};
 ghost use Rattle.cell_units.specs.Lawful.{IsLawful, IsTab, IsWidth};
 ghost use Rattle.cell_units.specs.declared.limits.TheConstants.{BLOCK_LINE_LIMIT};
+ghost use Rattle.cell_units.specs.Record.{Block};
 ghost use Rattle.cell_line.specs.Elements.{bytes_in, elements_of, total_cells};
 ghost use Rattle.plain_rows.specs.FoldedLines.{seen};
 ghost use Rattle.plain_rows.specs.Plain.{block_of, listed_source, record_of};
@@ -34,6 +35,7 @@ fn cells_alone(alloc: Global, text: &str, tab: u32) -> Result<u32, NoMemory>
     requires short { length text.now ≤ BLOCK_LINE_LIMIT }
     ensures { IfOk result (λ cells. cells ≡ total_cells (elements_of (alone text.now ∷ []) tab)) }
 {
+    // For the proof: the cells of a line are within their bound.
     line_laws();
     let mut pieces = Vec::new(alloc);
     pieces.push(Piece {
@@ -44,6 +46,28 @@ fn cells_alone(alloc: Global, text: &str, tab: u32) -> Result<u32, NoMemory>
     })?;
     let elements = elements(alloc, pieces.as_slice(), tab)?;
     Ok(total_cells(elements.as_slice()))
+}
+
+/// The piece of a line of the block of this id and this offset in bytes, at a tab size of 1 to 16 cells.
+pub fn block_line_piece(
+    alloc: Global,
+    id: u32,
+    offset: u32,
+    line: &str,
+    tab: u32,
+) -> Result<RowPiece, NoMemory>
+    requires tab { IsTab tab }
+    requires short { length line.now ≤ BLOCK_LINE_LIMIT }
+    ensures { (b : Block) → b.id ≡ id → b.offset ≡ offset →
+        IfOk result (λ piece. piece ≡ block_piece tab b line.now) }
+{
+    Ok(RowPiece {
+        kind: RowPieceKind::Block(id),
+        text: Text::from_str(alloc, line)?,
+        cells: cells_alone(alloc, line, tab)?,
+        start: offset,
+        end: offset,
+    })
 }
 
 /// The piece of a line of a block.
@@ -57,13 +81,7 @@ fn block_piece(
     requires short { length line.now ≤ BLOCK_LINE_LIMIT }
     ensures { IfOk result (λ piece. piece ≡ block_piece tab (block_of block.now) line.now) }
 {
-    Ok(RowPiece {
-        kind: RowPieceKind::Block(block.id),
-        text: Text::from_str(alloc, line)?,
-        cells: cells_alone(alloc, line, tab)?,
-        start: block.offset,
-        end: block.offset,
-    })
+    block_line_piece(alloc, block.id, block.offset, line, tab)
 }
 
 /// Appends the piece of each row of a block.
