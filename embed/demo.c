@@ -1,4 +1,4 @@
-/* Opens a text, adds an inlay, a block and a fold, edits, and prints rows. */
+/* Opens a text, adds an inlay, a block, a fold and a mark, edits, and prints rows. */
 #include "displaymap.h"
 #include <stdio.h>
 #include <stdlib.h>
@@ -41,7 +41,10 @@ int main(void) {
     must(displaymap_show(&d, 25, false, &place), "show");
     printf("byte 25 is shown in row %u, column %u\n", place.row, place.column);
     ask(&d, "{\"fold\":[1,11,67]}");
+    must(displaymap_add_mark(&d, 1, 25, false), "add_mark");
     must(displaymap_edit(&d, 3, 7, (const uint8_t *)"run", 3), "edit");
+    must(displaymap_mark(&d, 1, &offset), "mark");
+    printf("the mark at byte 25 is now at byte %u\n", offset);
     must(displaymap_wrap(&d, UINT32_MAX, &waits), "wrap");
     must(displaymap_row_count(&d, &count), "row_count");
     for (uint32_t row = 0; row < count; row++) {

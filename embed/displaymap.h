@@ -43,7 +43,7 @@ enum displaymap_status {
     DISPLAYMAP_NOT_COMMAND = 1, /* the line isn't one JSON object with one key that is known and a value of its form */
     DISPLAYMAP_BAD_RANGE = 2,   /* an offset is past the end or inside a character, ranges aren't in order, a fold is empty,
                                  * or a block's row is past the last */
-    DISPLAYMAP_ID_IN_USE = 3,   /* an inlay, a fold or a block has the id of one of its kind */
+    DISPLAYMAP_ID_IN_USE = 3,   /* an inlay, a fold, a block or a mark has the id of one of its kind */
     DISPLAYMAP_UNKNOWN_ID = 4,  /* none of that kind has the id */
     DISPLAYMAP_TOO_LONG = 5,    /* a text over 33,554,432 bytes, a line over 1,048,576, an inlay's text or a block's line
                                  * over 1,024, or there are 65,536 of that kind */
@@ -82,6 +82,17 @@ uint32_t displaymap_edit(displaymap *d, uint32_t start, uint32_t end, const uint
  * They fail with NO_MEMORY, and `slice` with BAD_RANGE. */
 uint32_t displaymap_text_len(displaymap *d, uint32_t *bytes);
 uint32_t displaymap_slice(displaymap *d, uint32_t start, uint32_t end);
+
+/* Marks of the caller's own, as carets, selections and faults. A mark is at an offset of the text, and has an id that the
+ * caller chose. Each edit moves it, by `edit` or by a line, and nothing else does. It stays between the bytes around it. At
+ * the start of bytes that are replaced, or where others are put in, it is before the new ones for left and after them for
+ * right. Between bytes that are replaced, or at their end, it is after the new ones.
+ * `add_mark` adds one, `remove_mark` takes it away, and `mark` gives its offset. The last answer is kept.
+ * `add_mark` fails with ID_IN_USE, BAD_RANGE, TOO_LONG and NO_MEMORY, `remove_mark` with UNKNOWN_ID and NO_MEMORY, and
+ * `mark` with UNKNOWN_ID. */
+uint32_t displaymap_add_mark(displaymap *d, uint32_t id, uint32_t offset, bool right);
+uint32_t displaymap_remove_mark(displaymap *d, uint32_t id);
+uint32_t displaymap_mark(displaymap *d, uint32_t id, uint32_t *offset);
 
 /* Wraps lines. A line that a change touched is one row until it is wrapped; so is every line after a change of the width.
  * Wraps up to `runs` runs of such lines, of 128 lines at most each. `*waits` is false where no line waits any more.

@@ -1,7 +1,7 @@
 /* Makes calls at random, valid and not, and looks at what each returns and writes: random CALLS [SEED [FOLDER]].
  *
  * Into FOLDER it writes a text, the script whose lines ask what the calls asked, and the output that the program has to
- * print for them. What no line asks it compares with a text of its own. */
+ * print for them. What no line asks it compares with a text and marks of its own. */
 #include "displaymap.h"
 #include <stdarg.h>
 #include <stdio.h>
@@ -17,6 +17,13 @@ static FILE *script, *output; /* NULL without a folder */
 
 static char text[8192]; /* what the display has to have */
 static uint32_t length;
+
+#define MARKS 12
+
+static struct mark {
+    bool there, right;
+    uint32_t offset;
+} marks[MARKS]; /* those that the display has to have */
 
 static uint8_t too_many[33554432 + 1];
 
@@ -63,6 +70,11 @@ static uint32_t draw_near(uint32_t offset) {
 
 static uint32_t draw_row(void) {
     return draw(32) ? draw(60) : UINT32_MAX - draw(2);
+}
+
+/* The ids of marks, of which the last is never used, go up to the greatest numbers. */
+static uint32_t id_of(uint32_t mark) {
+    return mark == MARKS ? UINT32_MAX : mark * 390451572u;
 }
 
 /* ---- the answer */
@@ -146,6 +158,20 @@ static void put_in(uint32_t start, uint32_t end, const char *clean) {
     memmove(text + start + size, text + end, length - end);
     memcpy(text + start, clean, size);
     length = length - (end - start) + size;
+    for (struct mark *it = marks; it < marks + MARKS; it++) {
+        if (it->offset < start || (it->offset == start && !it->right)) continue;
+        it->offset = it->offset <= end ? start + size : it->offset + size - (end - start);
+    }
+}
+
+/* Every mark is where this program has it, and no other is known. */
+static void marks_agree(void) {
+    for (uint32_t i = 0; i <= MARKS; i++) {
+        bool there = i < MARKS && marks[i].there;
+        uint32_t at = UNTOUCHED, status = displaymap_mark(&d, id_of(i), &at);
+        must(status == (there ? DISPLAYMAP_OK : DISPLAYMAP_UNKNOWN_ID), "the status of mark");
+        must(at == (there ? marks[i].offset : UNTOUCHED), "the offset of a mark");
+    }
 }
 
 /* An edit, by a call or by its line. */
@@ -164,6 +190,21 @@ static void edit(void) {
     }
     must(status == (holds ? DISPLAYMAP_OK : DISPLAYMAP_BAD_RANGE), "the status of an edit");
     if (holds) put_in(start, end, inserts[which].clean);
+    if (draw(4) == 0) marks_agree();
+}
+
+/* An edit of two ranges, which are of the text as it is before both. */
+static void edit_twice(void) {
+    uint32_t at[4], which[2] = {draw(sizeof inserts / sizeof *inserts), draw(sizeof inserts / sizeof *inserts)};
+    bool holds = true;
+    at[0] = draw_offset();
+    for (int i = 1; i < 4; i++) at[i] = draw_near(at[i - 1]);
+    for (int i = 0; i < 4; i++) holds = holds && is_boundary(at[i]) && (i == 0 || at[i - 1] <= at[i]);
+    uint32_t status = ask("{\"edit\":[[%u,%u,\"%s\"],[%u,%u,\"%s\"]]}", at[0], at[1], inserts[which[0]].quoted, at[2], at[3],
+        inserts[which[1]].quoted);
+    must(status == (holds ? DISPLAYMAP_OK : DISPLAYMAP_BAD_RANGE), "the status of an edit of two ranges");
+    if (holds) put_in(at[2], at[3], inserts[which[1]].clean), put_in(at[0], at[1], inserts[which[0]].clean);
+    marks_agree();
 }
 
 /* A fold, an inlay, a block or a setting, with ids and values that may be wrong. */
@@ -281,6 +322,24 @@ static void slice(void) {
     refused += status != 0;
 }
 
+/* Marks, which no line knows: they too are compared with this program's own. */
+static void mark(void) {
+    uint32_t i = draw(MARKS), offset = draw_offset(), status;
+    bool right = draw(2), there = marks[i].there;
+    if (draw(3)) {
+        status = displaymap_add_mark(&d, id_of(i), offset, right);
+        must(status == (there ? DISPLAYMAP_ID_IN_USE : is_boundary(offset) ? DISPLAYMAP_OK : DISPLAYMAP_BAD_RANGE), "add_mark");
+        if (!status) marks[i] = (struct mark){true, right, offset};
+    } else {
+        status = displaymap_remove_mark(&d, id_of(i));
+        must(status == (there ? DISPLAYMAP_OK : DISPLAYMAP_UNKNOWN_ID), "remove_mark");
+        marks[i].there = false;
+    }
+    marks_agree();
+    answer_stays();
+    refused += status != 0;
+}
+
 /* Some runs, or none. A question that isn't a line's meets lines that wait. */
 static void wrap_some(void) {
     bool waits;
@@ -310,6 +369,9 @@ static void closed_handle(void) {
     must(displaymap_row_count(&closed, &number) == DISPLAYMAP_CLOSED, "row_count of a closed handle");
     must(displaymap_text_len(&closed, &number) == DISPLAYMAP_CLOSED, "text_len of a closed handle");
     must(displaymap_slice(&closed, 0, 0) == DISPLAYMAP_CLOSED, "slice of a closed handle");
+    must(displaymap_add_mark(&closed, 0, 0, true) == DISPLAYMAP_CLOSED, "add_mark of a closed handle");
+    must(displaymap_remove_mark(&closed, 0) == DISPLAYMAP_CLOSED, "remove_mark of a closed handle");
+    must(displaymap_mark(&closed, 0, &number) == DISPLAYMAP_CLOSED, "mark of a closed handle");
     must(displaymap_row(&closed, 0, &number) == DISPLAYMAP_CLOSED, "row of a closed handle");
     must(displaymap_rows(&closed, 0, 1) == DISPLAYMAP_CLOSED, "rows of a closed handle");
     must(displaymap_answer(&closed, 0, &byte, 1) == 0 && byte == 0xa5, "answer of a closed handle");
@@ -336,11 +398,13 @@ static void other_handle(void) {
 
 static void call(void) {
     uint32_t it = draw(32);
-    if (it < 8) edit();
+    if (it < 7) edit();
+    else if (it < 8) edit_twice();
     else if (it < 13) change();
     else if (it < 14) bad_line();
     else if (it < 15) bad_bytes();
-    else if (it < 17) slice();
+    else if (it < 16) slice();
+    else if (it < 17) mark();
     else if (it < 18) wrap_some();
     else if (it < 19) other_handle();
     else if (it < 20) draw(8) ? caret() : closed_handle();
@@ -373,6 +437,19 @@ static void long_line(void) {
     free(line);
 }
 
+/* As many marks as there may be, and one more. */
+static void most_marks(void) {
+    uint32_t at;
+    must(!displaymap_open(&other, (const uint8_t *)text, length), "open");
+    for (uint32_t id = 0; id < 65536; id++) must(!displaymap_add_mark(&other, id, 0, true), "add_mark of many");
+    must(displaymap_add_mark(&other, 65536, 0, true) == DISPLAYMAP_TOO_LONG, "a mark too many");
+    must(displaymap_add_mark(&other, 65536, length + 1, true) == DISPLAYMAP_BAD_RANGE, "a mark too many, past the end");
+    must(!displaymap_edit(&other, 0, 0, (const uint8_t *)"ab", 2), "an edit that moves many marks");
+    must(!displaymap_mark(&other, 65535, &at) && at == 2, "the last of many marks");
+    must(!displaymap_remove_mark(&other, 7) && !displaymap_add_mark(&other, 65536, 0, true), "a mark for another");
+    displaymap_close(&other);
+}
+
 int main(int count, char **words) {
     static const char start[] = "fn main() {\n\tlet total = items.iter().sum();\n\t// \xe6\xbc\xa2\xe5\xad\x97 e\xcc\x81\n}\n";
     uint32_t calls = count > 1 ? (uint32_t)strtoul(words[1], NULL, 10) : 1000;
@@ -388,6 +465,7 @@ int main(int count, char **words) {
     must(!displaymap_open(&d, (const uint8_t *)text, length), "open");
     print_to(script, "{\"script\":2}\n");
     long_line();
+    if (!script) most_marks(); /* a run that writes a script may be under valgrind, where this takes long */
     for (uint32_t i = 0; i < calls; i++) call();
     displaymap_close(&d);
     displaymap_close(&other);

@@ -1,5 +1,6 @@
 /* Has each allocation of some calls fail in turn, or each STEP-th, and repeats the call that says so: starve [STEP]. The rows
- * at the end have to be those of a run in which none fails. It is linked with --wrap=malloc and --wrap=realloc. */
+ * at the end, and the offset of a mark, have to be those of a run in which none fails. It is linked with --wrap=malloc and
+ * --wrap=realloc. */
 #include "displaymap.h"
 #include <stdio.h>
 #include <stdlib.h>
@@ -35,9 +36,12 @@ static uint32_t call(int number) {
     case 0: return displaymap_open(&d, (const uint8_t *)text, sizeof text - 1);
     case 1: case 2: case 3: return displaymap_line(&d, (const uint8_t *)lines[number - 1], strlen(lines[number - 1]));
     case 4: return displaymap_wrap(&d, UINT32_MAX, &waits);
-    case 5: return displaymap_edit(&d, 3, 7, (const uint8_t *)"run", 3);
-    case 6: return displaymap_slice(&d, 3, 44);
-    default: return displaymap_line(&d, (const uint8_t *)lines[number - 4], strlen(lines[number - 4]));
+    case 5: return displaymap_add_mark(&d, 1, 44, true);
+    case 6: return displaymap_add_mark(&d, 2, 5, true);
+    case 7: return displaymap_edit(&d, 3, 7, (const uint8_t *)"run", 3);
+    case 8: return displaymap_remove_mark(&d, 2);
+    case 9: return displaymap_slice(&d, 3, 43);
+    default: return displaymap_line(&d, (const uint8_t *)lines[number - 7], strlen(lines[number - 7]));
     }
 }
 
@@ -45,7 +49,7 @@ static uint32_t call(int number) {
 static bool played(long number) {
     left = number;
     failed = 0;
-    for (int i = 0; i < 10; i++) {
+    for (int i = 0; i < 13; i++) {
         uint32_t status = call(i);
         if (status == DISPLAYMAP_NO_MEMORY && failed == 1) status = call(i);
         if (status) {
@@ -53,8 +57,13 @@ static bool played(long number) {
             exit(1);
         }
     }
+    uint32_t offset = 0;
     size_t length = displaymap_answer(&d, 0, (uint8_t *)rows, sizeof rows - 1);
     rows[length] = 0;
+    if (displaymap_mark(&d, 1, &offset) || offset != 43) {
+        fprintf(stderr, "starve: allocation %ld: the mark is at %u\n", number, offset);
+        exit(1);
+    }
     displaymap_close(&d);
     return failed == 1;
 }

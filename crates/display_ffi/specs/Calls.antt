@@ -10,7 +10,7 @@ Both P None None = Unit {0}
 Both P (Some a) (Some b) = P a b
 Both P _ _ = ⊥
 
--- a handle holds a session with the text as it is opened
+-- a handle holds a session with the text as it is opened, and no marks
 abbrev pub IsOpened : List ℕ → Option Session → Type 0
 IsOpened text None = ⊥
-IsOpened text (Some s) = s.display ≡ record { opening = clean text; events = Published false ∷ [] }
+IsOpened text (Some s) = (s.display ≡ record { opening = clean text; events = Published false ∷ [] }) × (s.marks ≡ [])

@@ -1,3 +1,4 @@
+-- What the crate promises
 pub mod Biases
 pub mod Calls
 pub mod Handles

@@ -7,6 +7,7 @@ ghost use Rattle.display_sheet.specs.Changes.{batch, edit_refusal, splice_of};
 ghost use Rattle.display_map.specs.Events.{Did};
 ghost use Rattle.display_map.specs.Replay.{appended, is_settled, present_of};
 ghost use Rattle.display_session.specs.Answers.{filled_with};
+ghost use Rattle.display_session.specs.HostMarks.{marks_at, marks_moved};
 ghost use Rattle.display_session.specs.Lines.{HasDoneAt, verdict_on};
 ghost use Rattle.display_session.specs.Wrapping.{IsWrapped};
 ghost use Rattle.display_ffi.specs.declared.status.TheConstants.{CLOSED, NOT_UTF8, OK};
@@ -74,11 +75,14 @@ pub extern "C" fn displaymap_line(alloc: Global, handle: &mut Handle, line: &[u8
     ensures done { result ≡ OK → Both
         (λ a b. HasDoneAt (verdict_on a.display line.now) a.display b.display (string_bytes b.answer))
         handle.old.kept.session handle.new.kept.session }
+    ensures moved { result ≡ OK → Both
+        (λ a b. b.marks ≡ marks_at (verdict_on a.display line.now) a.marks)
+        handle.old.kept.session handle.new.kept.session }
     ensures refused { 1 ≤ result → result ≤ 8 → Both
         (λ a b. (result ≡ verdict_status (verdict_on a.display line.now)) × (b.display ≡ a.display))
         handle.old.kept.session handle.new.kept.session }
     ensures failed { 1 ≤ result → Both
-        (λ a b. IsWrapped a.display b.display × (b.answer ≡ a.answer))
+        (λ a b. IsWrapped a.display b.display × (b.answer ≡ a.answer) × (b.marks ≡ a.marks))
         handle.old.kept.session handle.new.kept.session }
     ensures closed { handle.old.kept.session ≡ None → result ≡ CLOSED }
 {
@@ -106,7 +110,9 @@ pub extern "C" fn displaymap_edit(
     ensures handle { IsHandle handle.new }
     ensures done { result ≡ OK → Both
         (λ a b. (edit_refusal (present_of a.display) (splice_of start end text.now ∷ []) ≡ None)
-        × (b.display ≡ appended a.display (map Did (batch (splice_of start end text.now ∷ [])))))
+        × (b.display ≡ appended a.display (map Did (batch (splice_of start end text.now ∷ []))))
+        × (b.marks ≡ marks_moved (batch (splice_of start end text.now ∷ [])) a.marks)
+        × (b.answer ≡ a.answer))
         handle.old.kept.session handle.new.kept.session }
     ensures refused { 1 ≤ result → result ≤ 8 → Both
         (λ a b. option_map number_of
@@ -136,7 +142,8 @@ pub extern "C" fn displaymap_wrap(
 ) -> u32
     requires { IsHandle handle.old }
     ensures handle { IsHandle handle.new }
-    ensures wrapped { Both (λ a b. IsWrapped a.display b.display × (b.answer ≡ a.answer))
+    ensures wrapped { Both
+        (λ a b. IsWrapped a.display b.display × (b.answer ≡ a.answer) × (b.marks ≡ a.marks))
         handle.old.kept.session handle.new.kept.session }
     ensures settled { result ≡ OK → waits.new ≡ false → Both
         (λ a b. is_settled (present_of b.display) ≡ true)

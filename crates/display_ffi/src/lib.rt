@@ -8,6 +8,7 @@
 pub mod changing;
 pub mod handle;
 pub mod kept;
+pub mod marking;
 pub mod reading;
 pub mod status;
 #[cfg(test)]

@@ -27,7 +27,8 @@ pub struct Place {
     pub column: u32,
 }
 
-fn bias(right: bool) -> Bias
+/// The bias that C means by a flag.
+pub(crate) fn bias(right: bool) -> Bias
     ensures { result ≡ bias_of right }
 {
     if right { Bias::Right } else { Bias::Left }
@@ -65,7 +66,7 @@ pub extern "C" fn displaymap_slice(alloc: Global, handle: &mut Handle, start: u3
     requires { IsHandle handle.old }
     ensures handle { IsHandle handle.new }
     ensures sliced { result ≡ OK → Both
-        (λ a b. (b.display ≡ a.display)
+        (λ a b. (b.display ≡ a.display) × (b.marks ≡ a.marks)
         × (slice_refusal (present_of a.display).text start end ≡ None)
         × (string_bytes b.answer ≡ slice_range (present_of a.display).text start end))
         handle.old.kept.session handle.new.kept.session }
@@ -124,7 +125,8 @@ pub extern "C" fn displaymap_row(
     requires { IsHandle handle.old }
     ensures handle { IsHandle handle.new }
     ensures row { result ≡ OK → Both
-        (λ a b. (b.display ≡ a.display) × (slice_get (rows_of (present_of a.display)) row
+        (λ a b. (b.display ≡ a.display) × (b.marks ≡ a.marks)
+        × (slice_get (rows_of (present_of a.display)) row
         ≡ Some (record { kind = kind.new; text = string_bytes b.answer })))
         handle.old.kept.session handle.new.kept.session }
     ensures past { result ≡ NO_ROW → Both
@@ -155,7 +157,7 @@ pub extern "C" fn displaymap_rows(alloc: Global, handle: &mut Handle, first: u32
     requires { IsHandle handle.old }
     ensures handle { IsHandle handle.new }
     ensures rows { result ≡ OK → Both
-        (λ a b. (b.display ≡ a.display)
+        (λ a b. (b.display ≡ a.display) × (b.marks ≡ a.marks)
         × (string_bytes b.answer ≡ printed (lines_of a.display (Rows first count))))
         handle.old.kept.session handle.new.kept.session }
     ensures failed { 1 ≤ result → handle.new.kept.session ≡ handle.old.kept.session }

@@ -4,6 +4,7 @@ use crate::changing::{
     displaymap_version, displaymap_wrap,
 };
 use crate::handle::Handle;
+use crate::marking::{displaymap_add_mark, displaymap_mark, displaymap_remove_mark};
 use crate::reading::{
     Place, displaymap_back, displaymap_clip, displaymap_row, displaymap_row_count, displaymap_rows,
     displaymap_show, displaymap_slice, displaymap_text_len,
@@ -97,6 +98,24 @@ fn a_handle_gives_parts_of_its_text(rt: HostRuntime) -> Result<(), Fail> {
     assert_eq!(rt; out.as_slice(), b"let t".as_slice());
     assert_eq!(rt; displaymap_slice(alloc, &mut handle, 18, 13), 2);
     assert_eq!(rt; displaymap_slice(alloc, &mut handle, 0, 31), 2);
+    displaymap_close(alloc, &mut handle);
+    Ok(())
+}
+
+#[test]
+fn a_mark_goes_along_with_what_is_put_in_before_it(rt: HostRuntime) -> Result<(), Fail> {
+    let alloc = rt.alloc();
+    let mut handle = Handle::closed();
+    let mut offset = 7;
+    assert_eq!(rt; displaymap_open(alloc, &mut handle, TEXT), OK);
+    assert_eq!(rt; displaymap_mark(alloc, &mut handle, 5, &mut offset), 4);
+    assert_eq!(rt; offset, 7);
+    assert_eq!(rt; displaymap_add_mark(alloc, &mut handle, 5, 13, true), OK);
+    assert_eq!(rt; displaymap_edit(alloc, &mut handle, 13, 13, b"ab"), OK);
+    assert_eq!(rt; displaymap_mark(alloc, &mut handle, 5, &mut offset), OK);
+    assert_eq!(rt; offset, 15);
+    assert_eq!(rt; displaymap_remove_mark(alloc, &mut handle, 5), OK);
+    assert_eq!(rt; displaymap_remove_mark(alloc, &mut handle, 5), 4);
     displaymap_close(alloc, &mut handle);
     Ok(())
 }

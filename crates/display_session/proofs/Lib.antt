@@ -1,5 +1,9 @@
+pub mod FoundMarks
 pub mod Lines
 pub mod LoneDisplays
+pub mod MovedMarks
+pub mod PlacedMarks
+pub mod SameSessions
 pub mod Settled
 pub mod Slices
 pub mod Wrapping

@@ -1,5 +1,7 @@
+-- What the crate promises
 pub mod Answers
 pub mod CaretLines
+pub mod HostMarks
 pub mod Lines
 pub mod LoneDisplays
 pub mod Slices

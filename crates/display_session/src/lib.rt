@@ -7,10 +7,12 @@
 
 mod answering;
 mod caret_lines;
+mod host_marks;
 mod lone;
-pub mod session;
+mod marking;
+mod session;
 mod text_parts;
-pub mod trouble;
+mod trouble;
 
 pub use session::Session;
 pub use trouble::Trouble;

@@ -1,9 +1,10 @@
 //! A display that wraps its own lines.
-ghost use Rattle.std.specs.Prelude.{◌≡◌, ◌+◌, ◌<◌, ◌≤◌, true, false, [], ◌∷◌, Some, None, length, map, option_map, IfErr, IfNone, IfOk, IfSome, MatchResult, OnErr, OnOk, OnSome};
+ghost use Rattle.std.specs.Prelude.{◌≡◌, ◌+◌, ◌<◌, ◌≤◌, true, false, [], ◌∷◌, Some, None, length, map, option_map, IfErr, IfNone, IfOk, MatchResult, OnErr, OnOk, OnSome};
 ghost use Rattle.cell_units.specs.Refusal.{IsAccepted, IsTextRefused};
 ghost use Rattle.cell_units.specs.Text.{clean};
 ghost use Rattle.display_sheet.specs.Changes.{change_refusal, ops_of};
 ghost use Rattle.display_map.specs.Events.{Did, Landed, Published, event_limit};
+ghost use Rattle.display_map.specs.LawfulStates.{IsLawfulHistory};
 ghost use Rattle.display_map.specs.Replay.{appended, is_settled, present_of, versions_of};
 ghost use Rattle.wrap_workers.specs.Finishes.{job_of};
 ghost use Rattle.display_session.specs.Lines.{IsSettled};
@@ -44,6 +45,7 @@ fn land(alloc: Global, display: &mut Display, run: Finished<Held>) -> Option<Fin
     ensures wrapped { IsWrapped display.old display.new }
     ensures kept { KeepsLone display.new (option_map job_of result) }
 {
+    // For the proof: a job is out until it lands.
     job_laws();
     match finished(alloc, run) {
         Finished::Done(done) => match display.land(alloc, done, &mut Steps::new()) {
@@ -70,6 +72,7 @@ fn send(alloc: Global, display: &mut Display) -> Result<Option<Finished<Held>>, 
     // Where there is no memory, nothing happened.
     ensures unchanged { OnErr result (KeepsLone display.new None) }
 {
+    // For the proof: a job that was sent is out.
     job_laws();
     match display.take_run(alloc, &mut Steps::new())? {
         Some(job) => Ok(Some(Finished::Short(job))),
@@ -167,6 +170,7 @@ impl LoneDisplay {
             (IsOwed (change_refusal (present_of self.old) change.now)) }
         ensures unchanged { OnErr result (self.new ≡ self.old) }
     {
+        // For the proof: a job that is out stays so over operations.
         job_laws();
         if (self.display.room() as usize) < operations(change) {
             return Err(Trouble::JournalFull);
@@ -227,6 +231,14 @@ impl LoneDisplay {
     {
         'runs: while self.wrap_run(alloc)? {}
         Ok(())
+    }
+
+    /// Its history is lawful. It does nothing.
+    pub(crate) fn lawful(&self)
+        ensures { IsLawfulHistory self.now }
+    {
+        // For the proof: the history of a display is lawful.
+        self.display.lawful();
     }
 
     /// The display as it is now. It takes no memory: `NoMemory` is one holder too many of what is shared.

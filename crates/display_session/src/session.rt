@@ -1,5 +1,5 @@
 //! A session.
-ghost use Rattle.std.specs.Prelude.{◌≡◌, ◌≤◌, true, false, [], ◌∷◌, None, length, map, option_map, slice_get, slice_range, string_bytes, IfErr, IfNone, IfOk, MatchResult, OnErr, OnOk};
+ghost use Rattle.std.specs.Prelude.{◌≡◌, true, false, [], ◌∷◌, None, length, map, option_map, slice_get, slice_range, string_bytes, IfErr, IfNone, IfOk, MatchResult, OnErr, OnOk};
 ghost use Rattle.std.specs.Str.{IsUtf8};
 ghost use Rattle.cell_units.specs.Refusal.{IsAccepted, IsTextRefused};
 ghost use Rattle.cell_units.specs.Text.{clean};
@@ -15,6 +15,7 @@ ghost use Rattle.edit_script.specs.Commands.{Ask, AskCaret, meaning};
 ghost use Rattle.edit_script.specs.Verdict.{Accepted, command_refusal, query_refusal, query_wants_settled, refused_or};
 ghost use Rattle.display_session.specs.Answers.{filled_with, printed, row_of};
 ghost use Rattle.display_session.specs.CaretLines.{caret_lines};
+ghost use Rattle.display_session.specs.HostMarks.{are_placed, marks_at, marks_moved};
 ghost use Rattle.display_session.specs.Lines.{HasDone, HasDoneAt, HasFailedAt, IsReady, IsSettled, query_verdict, verdict_on};
 ghost use Rattle.display_session.specs.Slices.{slice_refusal};
 ghost use Rattle.display_session.specs.Troubles.{IsEditRefused, IsOwed, IsUnwrapped};
@@ -22,6 +23,7 @@ ghost use Rattle.display_session.specs.Wrapping.{IsWrapped};
 
 use crate::answering::{answer_text, wants_settled};
 use crate::caret_lines::caret_answer;
+use crate::host_marks::{HostMarks, moved};
 use crate::lone::LoneDisplay;
 use crate::text_parts::{text_between, text_len};
 use crate::trouble::Trouble;
@@ -29,14 +31,18 @@ use cell_units::{Bias, NoMemory, Refusal, Spot, Steps, Text, TextFault};
 use display_map::{Change, Kind, Op, Splice};
 use edit_script::laws::verdict_laws;
 use edit_script::{Asked, CaretQuery, Form, Query, query_refusal, read_line};
+use mark_tree::MarkTree;
 use std::alloc::Global;
 
-/// One display, and the bytes of the last answer. Offsets count bytes of the text, and columns cells.
+/// One display, the bytes of the last answer, and marks of the host's own, which move with the edits. Offsets count
+/// bytes of the text, and columns cells.
 ///
 /// Lines that a change touches stand in one row until `wrap` or `settle` has wrapped them.
 pub struct Session {
-    display: LoneDisplay,
+    pub(crate) display: LoneDisplay,
     answer: String,
+    pub(crate) marks: HostMarks,
+    ghost placed: { are_placed (present_of display).text marks ≡ true },
 }
 
 impl Drop for Session {
@@ -44,6 +50,7 @@ impl Drop for Session {
         let Session {
             display: _,
             answer: _,
+            marks: _,
         } = self;
     }
 }
@@ -55,10 +62,12 @@ impl Session {
             (λ session. session.display ≡ record { opening = clean bytes.now; events = Published false ∷ [] })
             (IsTextRefused bytes.now) }
         ensures accepted { OnOk result (IsAccepted bytes.now) }
+        ensures marks { IfOk result (λ session. session.marks ≡ []) }
     {
         Ok(Session {
             display: LoneDisplay::open(alloc, bytes)?,
             answer: String::new(alloc),
+            marks: MarkTree::new(alloc),
         })
     }
 
@@ -71,6 +80,9 @@ impl Session {
         ensures failed { IfErr result (HasFailedAt (verdict_on self.old.display line.now)
             self.old.display self.new.display) }
         ensures kept { OnErr result (self.new.answer ≡ self.old.answer) }
+        ensures moved { OnOk result
+            (self.new.marks ≡ marks_at (verdict_on self.old.display line.now) self.old.marks) }
+        ensures marks { OnErr result (self.new.marks ≡ self.old.marks) }
     {
         match self.read(alloc, line)? {
             Asked::Change(change) => {
@@ -95,6 +107,7 @@ impl Session {
         ensures failed { IfErr result
             (HasFailedAt (verdict_on self.now.display line.now) self.now.display self.now.display) }
     {
+        // For the proof: the verdict on a line is that on what it asks, or the refusal for which it isn't read.
         verdict_laws();
         let view = self.display.view()?;
         match read_line(alloc, line, Form::Second, &view, &mut Steps::new()) {
@@ -111,16 +124,25 @@ impl Session {
             (change_refusal (present_of self.old.display) change.now ≡ None) }
         ensures done { OnOk result
             (self.new.display ≡ appended self.old.display (map Did (ops_of change.now))) }
+        ensures moved { OnOk result
+            (self.new.marks ≡ marks_moved (ops_of change.now) self.old.marks) }
 
         // Why it is refused, and that nothing is changed then.
         ensures refused { IfErr result
             (IsOwed (change_refusal (present_of self.old.display) change.now)) }
-        ensures unchanged { OnErr result (self.new.display ≡ self.old.display) }
+        ensures unchanged { OnErr result (self.new ≡ self.old) }
 
         // The last answer.
         ensures kept { self.new.answer ≡ self.old.answer }
     {
-        self.display.apply(alloc, change)
+        // For the proof: no mark is past the text.
+        self.display.lawful();
+        let marks = moved(alloc, &self.marks, change)?;
+        self.display.apply(alloc, change)?;
+        // For the proof: each operation was allowed where it was done, so marks are at boundaries after it.
+        self.display.lawful();
+        self.marks = marks;
+        Ok(())
     }
 
     /// Replaces the bytes of the text from `start` to `end` by others, in which each CR LF and then each lone CR becomes a
@@ -132,11 +154,13 @@ impl Session {
             × (edit_refusal (present_of self.old.display) (splice_of start end bytes.now ∷ []) ≡ None)) }
         ensures done { OnOk result (self.new.display
             ≡ appended self.old.display (map Did (batch (splice_of start end bytes.now ∷ [])))) }
+        ensures moved { OnOk result (self.new.marks
+            ≡ marks_moved (batch (splice_of start end bytes.now ∷ [])) self.old.marks) }
 
         // Why it is refused, and that nothing is changed then.
         ensures refused { IfErr result (IsEditRefused bytes.now
             (edit_refusal (present_of self.old.display) (splice_of start end bytes.now ∷ []))) }
-        ensures unchanged { OnErr result (self.new.display ≡ self.old.display) }
+        ensures unchanged { OnErr result (self.new ≡ self.old) }
 
         // The last answer.
         ensures kept { self.new.answer ≡ self.old.answer }
@@ -167,6 +191,7 @@ impl Session {
         ensures wrapped { IsWrapped self.old.display self.new.display }
         ensures failed { IfErr result (IsUnwrapped self.new.display) }
         ensures kept { self.new.answer ≡ self.old.answer }
+        ensures marks { self.new.marks ≡ self.old.marks }
     {
         if wants_settled(query) {
             self.settle(alloc)?;
@@ -192,6 +217,7 @@ impl Session {
         ensures failed { IfErr result (HasFailedAt (Accepted (Ask query.now))
             self.old.display self.new.display) }
         ensures kept { OnErr result (self.new.answer ≡ self.old.answer) }
+        ensures marks { self.new.marks ≡ self.old.marks }
     {
         self.prepare(alloc, query)?;
         self.answer = self.answer_now(alloc, query)?;
@@ -205,6 +231,7 @@ impl Session {
         ensures failed { IfErr result (HasFailedAt (query_verdict self.old.display query.now)
             self.old.display self.new.display) }
         ensures kept { OnErr result (self.new.answer ≡ self.old.answer) }
+        ensures marks { self.new.marks ≡ self.old.marks }
     {
         match self.refusal(alloc, query)? {
             Some(refusal) => Err(Trouble::Refused(refusal)),
@@ -228,6 +255,7 @@ impl Session {
         ensures failed { IfErr result (HasFailedAt (Accepted (AskCaret query.now))
             self.old.display self.new.display) }
         ensures kept { OnErr result (self.new.answer ≡ self.old.answer) }
+        ensures marks { self.new.marks ≡ self.old.marks }
     {
         self.settle(alloc)?;
         self.answer = self.caret_now(alloc, query)?;
@@ -241,6 +269,7 @@ impl Session {
             → is_settled (present_of self.new.display) ≡ true) }
         ensures failed { IfErr result (IsUnwrapped self.new.display) }
         ensures kept { self.new.answer ≡ self.old.answer }
+        ensures marks { self.new.marks ≡ self.old.marks }
     {
         self.display.wrap(alloc, runs)
     }
@@ -251,6 +280,7 @@ impl Session {
         ensures wrapped { IsWrapped self.old.display self.new.display }
         ensures failed { IfErr result (IsUnwrapped self.new.display) }
         ensures kept { self.new.answer ≡ self.old.answer }
+        ensures marks { self.new.marks ≡ self.old.marks }
     {
         self.display.settle(alloc)
     }
@@ -293,6 +323,7 @@ impl Session {
         ensures sliced { OnOk result (string_bytes self.new.answer
             ≡ slice_range (present_of self.old.display).text start end) }
         ensures display { self.new.display ≡ self.old.display }
+        ensures marks { self.new.marks ≡ self.old.marks }
 
         // Why it is refused, and that nothing is changed then.
         ensures refused { IfErr result
@@ -320,6 +351,7 @@ impl Session {
             ≡ slice_get (rows_of (present_of self.old.display)) row) }
         ensures past { IfOk result (λ kind. IfNone kind (self.new ≡ self.old)) }
         ensures display { self.new.display ≡ self.old.display }
+        ensures marks { self.new.marks ≡ self.old.marks }
         ensures unchanged { OnErr result (self.new ≡ self.old) }
     {
         let view = self.display.view()?;
@@ -336,6 +368,7 @@ impl Session {
         ensures rows { OnOk result (string_bytes self.new.answer
             ≡ printed (lines_of self.old.display (Rows first count))) }
         ensures display { self.new.display ≡ self.old.display }
+        ensures marks { self.new.marks ≡ self.old.marks }
         ensures unchanged { OnErr result (self.new ≡ self.old) }
     {
         self.answer = self.answer_now(alloc, &Query::Rows { first, count })?;

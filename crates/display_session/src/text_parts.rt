@@ -13,6 +13,7 @@ use std::alloc::Global;
 pub(crate) fn text_len(view: &View) -> u32
     ensures { result ≡ length (present_of view.now).text }
 {
+    // For the proof: the text's length is a u32.
     view.lawful();
     let past = Point {
         row: u32::MAX,
@@ -32,6 +33,7 @@ pub(crate) fn text_between(
     ensures accepted { OnOk result (slice_refusal (present_of view.now).text start end ≡ None) }
     ensures refused { IfErr result (IsOwed (slice_refusal (present_of view.now).text start end)) }
 {
+    // For the proof: the text is UTF-8, whose characters begin at its boundaries.
     text_laws();
     view.lawful();
     if end < start {

@@ -85,3 +85,48 @@ fn an_edit_is_one_row_until_its_line_is_wrapped(rt: HostRuntime) -> Result<(), F
     assert_eq!(rt; session.edit(alloc, 0, 0, b"\xff"), Err(Trouble::NotUtf8));
     Ok(())
 }
+
+/// Adds marks at the byte 13: 1, which stays before what is put in there, and 2, which goes after it.
+fn marked(alloc: Global, session: &mut Session) -> Result<(), Trouble> {
+    session.add_mark(alloc, 1, 13, Bias::Left)?;
+    session.add_mark(alloc, 2, 13, Bias::Right)
+}
+
+#[test]
+fn marks_move_with_edits(rt: HostRuntime) -> Result<(), Fail> {
+    let alloc = rt.alloc();
+    let mut session = opened(alloc)?;
+    assert_eq!(rt; marked(alloc, &mut session), Ok(()));
+    let edits = br#"{"edit":[[0,3,""],[13,13,"ab"]]}"#;
+    assert_eq!(rt; session.apply(alloc, edits), Ok(()));
+    assert_eq!(rt; (session.mark(1), session.mark(2)), (Some(10), Some(12)));
+    let past = Err(Trouble::Refused(Refusal::BadRange));
+    assert_eq!(rt; session.edit(alloc, 5, 40, b""), past);
+    assert_eq!(rt; session.edit(alloc, 5, 29, b""), Ok(()));
+    assert_eq!(rt; (session.mark(1), session.mark(2)), (Some(5), Some(5)));
+    Ok(())
+}
+
+/// Whether no mark is added within a character or past the end.
+fn refuses_what_is_no_boundary(alloc: Global, session: &mut Session) -> bool {
+    let refused = Err(Trouble::Refused(Refusal::BadRange));
+    session.add_mark(alloc, 1, 2, Bias::Left) == refused
+        && session.add_mark(alloc, 1, 6, Bias::Left) == refused
+}
+
+#[test]
+fn a_mark_is_refused_where_none_may_be(rt: HostRuntime) -> Result<(), Fail> {
+    let alloc = rt.alloc();
+    let text = "a⋯b".as_bytes();
+    let mut session = Session::open(alloc, text).ok().ok_or("no session")?;
+    assert!(rt; refuses_what_is_no_boundary(alloc, &mut session));
+    assert_eq!(rt; session.add_mark(alloc, 1, 5, Bias::Left), Ok(()));
+    let twice = Err(Trouble::Refused(Refusal::IdInUse));
+    assert_eq!(rt; session.add_mark(alloc, 1, 2, Bias::Left), twice);
+    assert_eq!(rt; session.mark(1), Some(5));
+    assert_eq!(rt; session.remove_mark(alloc, 1), Ok(()));
+    let unknown = Err(Trouble::Refused(Refusal::UnknownId));
+    assert_eq!(rt; session.remove_mark(alloc, 1), unknown);
+    assert_eq!(rt; session.mark(1), None);
+    Ok(())
+}

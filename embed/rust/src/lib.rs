@@ -4,7 +4,7 @@
 //! does. Offsets count bytes of the text, columns cells, and rows count from 0.
 mod raw;
 
-use raw::{Handle, Place, NO_ROW, OK};
+use raw::{Handle, Place, NO_ROW, OK, UNKNOWN_ID};
 use std::{fmt, ops::Range, ptr};
 
 /// Why a call did nothing.
@@ -124,6 +124,29 @@ impl DisplayMap {
         let Range { start, end } = range;
         checked(unsafe { raw::displaymap_slice(&mut self.handle, start, end) })?;
         Ok(self.answer())
+    }
+
+    /// Adds a mark at an offset of the text, which each edit moves. It is before what is put in at its offset for `Left`,
+    /// and after that for `Right`.
+    pub fn add_mark(&mut self, id: u32, offset: u32, bias: Bias) -> Result<(), Error> {
+        let right = bias == Bias::Right;
+        checked(unsafe { raw::displaymap_add_mark(&mut self.handle, id, offset, right) })
+    }
+
+    /// Takes the mark of this id away.
+    pub fn remove_mark(&mut self, id: u32) -> Result<(), Error> {
+        checked(unsafe { raw::displaymap_remove_mark(&mut self.handle, id) })
+    }
+
+    /// The offset of the mark of this id; `None` where there is none.
+    pub fn mark(&mut self, id: u32) -> Result<Option<u32>, Error> {
+        let mut offset = 0;
+        let status = unsafe { raw::displaymap_mark(&mut self.handle, id, &mut offset) };
+        if status == UNKNOWN_ID {
+            return Ok(None);
+        }
+        checked(status)?;
+        Ok(Some(offset))
     }
 
     /// Wraps up to so many runs of lines that wait, and returns whether a line may still wait.

@@ -15,6 +15,7 @@ pub struct Place {
 }
 
 pub const OK: u32 = 0;
+pub const UNKNOWN_ID: u32 = 4;
 pub const NO_ROW: u32 = 20;
 
 extern "C" {
@@ -30,6 +31,9 @@ extern "C" {
     ) -> u32;
     pub fn displaymap_text_len(d: *mut Handle, bytes: *mut u32) -> u32;
     pub fn displaymap_slice(d: *mut Handle, start: u32, end: u32) -> u32;
+    pub fn displaymap_add_mark(d: *mut Handle, id: u32, offset: u32, right: bool) -> u32;
+    pub fn displaymap_remove_mark(d: *mut Handle, id: u32) -> u32;
+    pub fn displaymap_mark(d: *mut Handle, id: u32, offset: *mut u32) -> u32;
     pub fn displaymap_wrap(d: *mut Handle, runs: u32, waits: *mut bool) -> u32;
     pub fn displaymap_answer(d: *mut Handle, from: usize, out: *mut u8, room: usize) -> usize;
     pub fn displaymap_row_count(d: *mut Handle, count: *mut u32) -> u32;

@@ -81,6 +81,22 @@ fn the_text_is_read_back() -> Result<(), Error> {
 }
 
 #[test]
+fn marks_move_with_edits() -> Result<(), Error> {
+    let mut map = DisplayMap::open(TEXT)?;
+    map.add_mark(1, 13, Bias::Left)?;
+    map.add_mark(2, 13, Bias::Right)?;
+    assert_eq!(map.add_mark(2, 0, Bias::Left), Err(Error::Refused(3)));
+    assert_eq!(map.add_mark(3, 31, Bias::Left), Err(Error::Refused(2)));
+    map.edit(13..13, "ab")?;
+    map.line(br#"{"edit":[[0,3,""]]}"#)?;
+    assert_eq!((map.mark(1)?, map.mark(2)?), (Some(10), Some(12)));
+    map.remove_mark(1)?;
+    assert_eq!(map.mark(1)?, None);
+    assert_eq!(map.remove_mark(1), Err(Error::Refused(4)));
+    Ok(())
+}
+
+#[test]
 fn bytes_that_are_no_text_are_refused() {
     assert_eq!(DisplayMap::open(b"\xff").err(), Some(Error::NotUtf8));
 }
