@@ -3,9 +3,9 @@
 
 mod command;
 pub mod laws;
-pub mod limits;
-pub mod plan;
-pub mod read;
+mod limits;
+mod plan;
+mod read;
 
 pub use limits::{WATCHERS_DEFAULT, WATCHERS_MOST, WORKERS_DEFAULT, WORKERS_LEAST, WORKERS_MOST};
 pub use plan::Plan;

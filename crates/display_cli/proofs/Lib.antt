@@ -3,3 +3,10 @@ pub mod Watches
 pub mod Headline
 pub mod Opened
 pub mod Made
+pub mod SpelledStrings
+pub mod ReadValues
+pub mod ReadCommands
+pub mod LawfulRuns
+pub mod LinesOfRuns
+pub mod JobsOfRuns
+pub mod RunHistories

@@ -1,5 +1,5 @@
 //! A script beside the workers and the watchers, each in a thread of its own.
-ghost use Rattle.std.specs.Prelude.{◌≡◌, None};
+ghost use Rattle.std.specs.Prelude.{◌≡◌, None, []};
 ghost use Rattle.display_cli.specs.inside.Left.{HasLeft, IsReadyAt, Leaves, boards_of};
 ghost use Rattle.script_runner.specs.Going.{IsReady};
 
@@ -56,7 +56,7 @@ fn play<R: Wait, G: Gate, K: Sink>(
         owner,
         out,
     } = runner;
-    // For the prover: the sink is as the runner left it.
+    // For the proof: the sink is as the runner left it.
     give_back(out);
     flag.store(1, Ordering::SeqCst);
     let (display, writer) = owner.dismiss(rt);
@@ -92,7 +92,9 @@ fn work_all<R: Threads + Wait + Sync, G: Gate + Sync>(
     alloc: Global,
     gate: &G,
     workers: &mut Vec<Worker<Held>>,
-) {
+)
+    ensures { workers.new.items ≡ [] }
+{
     let workers = mem::replace(workers, Vec::new(alloc));
     let _ended = thread::map_vec(
         rt,
@@ -110,11 +112,14 @@ fn accompany<R: Threads + Wait + Sync, G: Gate + Sync>(
     watchers: &mut Vec<Watcher>,
     flag: &AtomicU64,
 )
-    ensures { boards_of watchers.new.items ≡ boards_of watchers.old.items }
+    ensures workers { workers.new.items ≡ [] }
+    ensures team { boards_of watchers.new.items ≡ boards_of watchers.old.items }
 {
     thread::join_mut(
         rt,
-        &mut || work_all(rt, alloc, gate, workers),
+        &mut ||
+            ensures { workers.exit.now.items ≡ [] }
+        { work_all(rt, alloc, gate, workers) },
         &mut ||
             ensures { boards_of watchers.exit.now.items ≡ boards_of watchers.entry.now.items }
         { watch_all(rt, gate, watchers, flag) },
@@ -136,13 +141,15 @@ fn play_beside<R: Threads + Wait + Sync, G: Gate + Sync, K: Sink>(
     requires { IsReadyAt slot.old }
     ensures left { Leaves script.now slot.old (K.state out.old) (K.state out.new) result }
     ensures empty { slot.new ≡ None }
+    ensures workers { workers.new.items ≡ [] }
     ensures team { boards_of watchers.new.items ≡ boards_of watchers.old.items }
 {
     let flag = AtomicU64::new(0);
     let ((), left) = thread::join_mut(
         rt,
         &mut ||
-            ensures { boards_of watchers.exit.now.items ≡ boards_of watchers.entry.now.items }
+            ensures workers { workers.exit.now.items ≡ [] }
+            ensures team { boards_of watchers.exit.now.items ≡ boards_of watchers.entry.now.items }
         { accompany(rt, alloc, gate, workers, watchers, &flag) },
         &mut || -> Option<Left>
             requires { IsReadyAt slot.now }

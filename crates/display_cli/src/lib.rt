@@ -1,7 +1,8 @@
 //! The program `displaymap` as calls: a script is run on a text, and what it asks for is written.
 //!
 //! `run` carries the headline theorem: what was written is the output of a legal history. `program` ties the exit status and
-//! what is said on standard error to it, and `give_up` says why there are no words.
+//! what is said on standard error to it, and `give_up` says why there are no words. `run_laws` says what holds of every legal
+//! history: its records are lawful, and its lines and operations are those of the script.
 //!
 //! The outside comes as `Inputs` and `Sink`: over memory (`MapInputs`, `ListSink`, and `SureInputs` and `SureSink`, which never
 //! fail), and over files and streams (`FileInputs`, `StreamSink`). Who writes inputs of his own tells its reads by `ReadsTold`.
@@ -11,7 +12,9 @@ mod beside;
 mod calls;
 mod ended;
 mod inputs;
+mod laws;
 pub mod limits;
+mod playing;
 mod read;
 mod say;
 mod sinks;
@@ -22,6 +25,7 @@ mod watch;
 
 pub use ended::{Ended, Note};
 pub use inputs::{FileInputs, MapInputs, NamedBytes, SureInputs};
+pub use laws::run_laws;
 pub use script_runner::{Failed, Inputs, Part, Sink};
 pub use sinks::{ListSink, StreamSink, SureSink};
 pub use told::ReadsTold;

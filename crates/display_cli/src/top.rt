@@ -1,5 +1,5 @@
 //! The top calls: the run of a script, and the program that says how its run ended.
-ghost use Rattle.std.specs.Prelude.{◌≡◌, ◌≢◌, ◌≤◌, ◌↔◌, ℕ, true, ◌<◌, [], length, None, Some, IfOk, IfErr, OnOk, vec_len};
+ghost use Rattle.std.specs.Prelude.{◌≡◌, ◌↔◌, true, ◌<◌, [], length, None, Some, IfOk, IfErr, OnOk};
 ghost use Rattle.display_map.specs.LawfulStates.{IsLawfulHistory};
 ghost use Rattle.command_line.specs.Words.{IsWithinLimits, plan_of};
 ghost use Rattle.display_cli.specs.declared.ended.Note.TheVariants as notes;
@@ -7,32 +7,27 @@ ghost use Rattle.script_runner.specs.declared.outside.Part.TheVariants as parts;
 ghost use Rattle.script_runner.specs.Outside.{InputState, count_between};
 ghost use Rattle.script_runner.specs.Legal.{history_of};
 ghost use Rattle.display_cli.specs.Ended.{HasStatus, run_of, IsEndedAs, ReadsInOrder, HasReadsPassed, IsRunOfWords, Says, IsProgram, note_without_words};
-ghost use Rattle.display_cli.specs.inside.Opening.{IsOpenedOn, IsStartRefused, IsTextUnread, IsScript, IsScriptUnread, IsNoteOf, EndsWatch, HasRunOn, SeeLast, note_of, seen_by};
-ghost use Rattle.script_runner.specs.Going.{IsReady};
-ghost use Rattle.display_cli.specs.inside.Left.{AreBoards, AreWatchers, HasLeft, HasLeftBy, IsUnplayed, board_of, boards_of};
+ghost use Rattle.display_cli.specs.inside.Opening.{IsOpenedOn, IsStartRefused, IsTextUnread, IsScript, IsScriptUnread, IsNoteOf, HasRunOn, note_of};
 ghost use Rattle.display_cli.specs.inside.Reading.{ReadsName};
 
-use crate::beside::{Left, play_with};
+use crate::beside::Left;
 use crate::ended::{Ended, Note};
 use crate::limits::SCRIPT_LIMIT;
+use crate::playing::{close, end_watch, play_plan};
 use crate::read::{Unread, read_whole};
 use crate::say::say;
-use crate::sinks::SureSink;
-use crate::summary::report;
-use crate::watch::write_watched;
-use board_watch::{Watched, Watcher, end_all, give_up_all, watchers};
+use board_watch::Watched;
 use cell_units::limits::TEXT_LIMIT;
 use cell_units::{NoMemory, Steps, TextFault};
 use command_line::{Plan, read_words};
 use display_map::{Display, Journal};
 use generated_input::made;
-use live_display::{Opened, open};
+use live_display::open;
 use script_runner::{Inputs, Part, Sink, Stop, Tally};
 use std::alloc::Global;
 use std::io::ErrorKind;
 use std::sync::Wait;
 use std::thread::Threads;
-use version_board::Writer;
 use wrap_workers::Gate;
 
 /// The status of a note, for a run without refused lines.
@@ -167,163 +162,12 @@ fn ended_as(played: Result<Tally, Stop>, history: Journal, watched: Vec<Watched>
     }
 }
 
-/// Lets the watchers of a board, if there is one, see its last version, and gives what each saw.
-fn see_last(
-    alloc: Global,
-    writer: &mut Option<Writer>,
-    team: Vec<Watcher>,
-) -> Result<Vec<Watched>, NoMemory>
-    requires { AreBoards (board_of writer.old) (boards_of team.items) }
-    ensures count { IfOk result (λ watched. vec_len watched ≡ vec_len team) }
-    ensures seen { IfOk result (λ watched. SeeLast writer.old (seen_by watched)) }
-{
-    match writer {
-        Some(writer) => end_all(alloc, writer, team),
-        None => Ok(Vec::new(alloc)),
-    }
-}
-
-/// Lets the watchers of a run that came to its end see its last version and writes what each saw; of one that stopped it
-/// gives what they saw so far.
-fn end_watch<K: Sink>(
-    alloc: Global,
-    played: Result<Tally, Stop>,
-    writer: &mut Option<Writer>,
-    team: Vec<Watcher>,
-    out: &mut K,
-) -> (Result<Tally, Stop>, Vec<Watched>)
-    requires { AreBoards (board_of writer.old) (boards_of team.items) }
-    ensures { EndsWatch played writer.old (vec_len team)
-        (K.state out.old) (K.state out.new) result.0 (seen_by result.1) }
-{
-    match played {
-        Ok(tally) => match see_last(alloc, writer, team) {
-            Ok(watched) => match write_watched(alloc, watched.as_slice(), out) {
-                Ok(()) => (Ok(tally), watched),
-                Err(stop) => (Err(stop), watched),
-            },
-            Err(NoMemory) => (Err(Stop::Memory), Vec::new(alloc)),
-        },
-        Err(stop) => (Err(stop), give_up_all(alloc, team)),
-    }
-}
-
-/// Closes a board, if there is one.
-fn close<R: Wait>(rt: &R, writer: Option<Writer>) {
-    if let Some(writer) = writer {
-        writer.close(rt);
-    }
-}
-
-/// What is left, and the watchers, where a script was played by an opened owner.
-fn play_opened<R: Threads + Wait + Sync, G: Gate + Sync, K: Sink>(
-    rt: &R,
-    gate: &G,
-    script: &[u8],
-    opened: Opened,
-    out: &mut K,
-) -> (Left, Vec<Watcher>)
-    // The owner is ready, its journal has room, and each reader is one of its board.
-    requires ready { IsReady opened.owner }
-    requires unplayed { IsUnplayed opened }
-
-    // The script is played on the same board, with its answers written, or the play stopped.
-    ensures left { HasLeft script.now opened.owner (K.state out.old) (K.state out.new) result.0 }
-
-    // The watchers look at that board, one for each reader, or fewer where the play stopped.
-    ensures team { AreWatchers opened result.0 result.1 }
-{
-    let Opened {
-        owner,
-        workers,
-        readers,
-    } = opened;
-    match watchers(owner.alloc, readers) {
-        Ok(mut team) => {
-            let left = play_with(rt, gate, script, owner, workers, &mut team, out);
-            (left, team)
-        }
-        Err(NoMemory) => {
-            let alloc = owner.alloc;
-            let (display, writer) = owner.dismiss(rt);
-            let left = Left {
-                played: Err(Stop::Memory),
-                display,
-                writer,
-            };
-            (left, Vec::new(alloc))
-        }
-    }
-}
-
-/// The same where text and script are made: the answers go nowhere, and in place of them their summary is written.
-fn play_made<R: Threads + Wait + Sync, G: Gate + Sync, K: Sink>(
-    rt: &R,
-    gate: &G,
-    script: &[u8],
-    opened: Opened,
-    out: &mut K,
-) -> (Left, Vec<Watcher>)
-    // The owner is ready, its journal has room, and each reader is one of its board.
-    requires ready { IsReady opened.owner }
-    requires unplayed { IsUnplayed opened }
-
-    // The script is played on the same board, with its summary written, or the play stopped, whatever the number.
-    ensures left { (number : ℕ) → HasLeftBy (Some number) script.now opened.owner
-        (K.state out.old) (K.state out.new) result.0 }
-
-    // The watchers look at that board, one for each reader, or fewer where the play stopped.
-    ensures team { AreWatchers opened result.0 result.1 }
-{
-    let alloc = opened.owner.alloc;
-    let mut nowhere = SureSink::new();
-    let (left, team) = play_opened(rt, gate, script, opened, &mut nowhere);
-    let Left {
-        played,
-        display,
-        writer,
-    } = left;
-    let played = report(alloc, played, &display, out);
-    let left = Left {
-        played,
-        display,
-        writer,
-    };
-    (left, team)
-}
-
-/// What is left, and the watchers, where the script of a plan was played.
-fn play_plan<R: Threads + Wait + Sync, G: Gate + Sync, K: Sink>(
-    rt: &R,
-    gate: &G,
-    plan: &Plan,
-    script: &[u8],
-    opened: Opened,
-    out: &mut K,
-) -> (Left, Vec<Watcher>)
-    // The owner is ready, its journal has room, and each reader is one of its board.
-    requires ready { IsReady opened.owner }
-    requires unplayed { IsUnplayed opened }
-
-    // The script is played on the same board, with its answers or their summary written, or the play stopped.
-    ensures left { HasLeftBy plan.now.make script.now opened.owner
-        (K.state out.old) (K.state out.new) result.0 }
-
-    // The watchers look at that board, one for each reader, or fewer where the play stopped.
-    ensures team { AreWatchers opened result.0 result.1 }
-{
-    match plan.make {
-        Some(_) => play_made(rt, gate, script, opened, out),
-        None => play_opened(rt, gate, script, opened, out),
-    }
-}
-
 /// The journal of a display, whose history is lawful.
 fn journal_of(display: Display) -> Journal
     ensures journal { result ≡ display.events }
     ensures lawful { IsLawfulHistory display }
 {
-    // For the prover: the display's history is lawful.
+    // For the proof: the display's history is lawful.
     display.lawful();
     display.into_journal()
 }

@@ -4,15 +4,15 @@
 //! is the line that the rows of the view's record give, and a refusal prints as its number.
 #![tactic(auto)]
 
-pub mod answer_lines;
-pub mod asked;
-pub mod blank;
+mod answer_lines;
+mod asked;
+mod blank;
 mod commands;
 mod key;
 pub mod laws;
-pub mod query;
-pub mod read;
-pub mod script;
+mod query;
+mod read;
+mod script;
 mod values;
 
 pub use answer_lines::Answer;

@@ -7,7 +7,7 @@
 
 mod files;
 mod generator;
-pub mod laws;
+mod laws;
 mod making;
 mod script;
 pub mod worked;

@@ -226,7 +226,7 @@ impl<'a, R: Wait, G: Gate, K: Sink> Runner<'a, R, G, K> {
         let mut steps = Steps::new();
         let alloc = self.owner.alloc;
         let view = self.owner.display.view()?;
-        // For the prover: no answer has too many lines to be counted.
+        // For the proof: no answer has too many lines to be counted.
         let _rows = view.row_count();
         match answer(alloc, &view, query, &mut steps) {
             Ok(mut lines) => {

@@ -4,8 +4,8 @@
 #![tactic(auto)]
 
 mod each;
-pub mod laws;
-pub mod split;
+mod laws;
+mod split;
 mod wrapping;
 
 pub use laws::{idle_laws, view_laws};

@@ -6,8 +6,8 @@
 #![tactic(auto)]
 
 mod inverting;
-pub mod laws;
-pub mod line;
+mod laws;
+mod line;
 pub mod worked;
 
 pub use inverting::inverse;

@@ -12,6 +12,7 @@ use Rattle.cell_line.specs.Elements.{total_cells}
 use Rattle.cell_line.specs.Wrapping.{cuts_of, indent_of}
 use Rattle.cell_line.proofs.Scan.{range_le}
 use Rattle.plain_rows.specs.Spots.{elements_at, elements_before, mark_at, positions, show}
+use Rattle.plain_rows.specs.inside.SpotRows.{cells_limit}
 use Rattle.plain_rows.proofs.SpotFronts.{line_of-within}
 use Rattle.plain_rows.proofs.SpotLines.{indent-narrow}
 use Rattle.plain_rows.proofs.SpotPositions.{boundary-within, contains-unmapped, position-boundary}
@@ -22,7 +23,7 @@ nothing_or : (b : Bool) (n m : ℕ) → n ≤ m → (if b then 0 else n) ≤ m
 nothing_or true n m le = omega arith
 nothing_or false n m le = le
 
-few-in_line : (es : List Element) (width place : ℕ) → indent_of es width ≤ 10000 → total_cells es ≤ 2149580816 →
+few-in_line : (es : List Element) (width place : ℕ) → indent_of es width ≤ 10000 → total_cells es ≤ cells_limit →
     (if count_by (λ cut. nat_le cut place) (cuts_of es width) == 0 then 0 else indent_of es width)
     + total_cells (slice_range es (slice_index (0 ∷ cuts_of es width) (count_by (λ cut. nat_le cut place) (cuts_of es width))) place) ≤ 2149590816
 few-in_line es width place narrow few =

@@ -4,7 +4,7 @@
 //! carets and selections that are known, as theorems.
 #![tactic(auto)]
 
-pub mod caret;
+mod caret;
 pub mod laws;
 mod selecting;
 mod steps;

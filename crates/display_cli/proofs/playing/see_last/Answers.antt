@@ -6,7 +6,7 @@ use Rattle.board_watch.specs.Watching.{Watching}
 use Rattle.display_cli.specs.inside.Left.{AreBoards, board_of, boards_of}
 use Rattle.display_cli.proofs.Opened.{boards-all}
 use Rattle.display_cli.proofs.Watches.{see-last}
-use Rattle.display_cli.proofs.top.see_last.Goals as goal
+use Rattle.display_cli.proofs.playing.see_last.Goals as goal
 
 pub end_all-requires : goal.end_all-requires
 end_all-requires c =

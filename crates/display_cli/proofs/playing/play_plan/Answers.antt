@@ -1,7 +1,7 @@
 -- A plan has a make, or it has none.
 use Rattle.std.proofs.Common.{ℕ, Option, subst, sym}
 use Rattle.display_cli.specs.inside.Left.{HasLeftBy}
-use Rattle.display_cli.proofs.top.play_plan.Goals as goal
+use Rattle.display_cli.proofs.playing.play_plan.Goals as goal
 
 pub returns-in-Some-clause-left : goal.returns-in-Some-clause-left
 returns-in-Some-clause-left g c =

@@ -10,7 +10,7 @@ use Rattle.script_runner.specs.Output.{printed, watched_lines}
 use Rattle.display_cli.specs.inside.Opening.{EndsWatch}
 use Rattle.script_runner.specs.Writing.{IsUnwritten}
 use Rattle.display_cli.proofs.Watches.{ends-short, ends-stopped, ends-unwritten, ends-written}
-use Rattle.display_cli.proofs.top.end_watch.Goals as goal
+use Rattle.display_cli.proofs.playing.end_watch.Goals as goal
 
 pub returns-in-Ok-write_watched : goal.returns-in-Ok-write_watched
 returns-in-Ok-write_watched g c =

@@ -2,7 +2,7 @@
 use Rattle.std.proofs.Common.{◌≡◌, vec_len}
 use Rattle.display_cli.proofs.Made.{left-made, on-ok-same}
 use Rattle.display_cli.specs.Telling.{bytes_told}
-use Rattle.display_cli.proofs.top.play_made.Goals as goal
+use Rattle.display_cli.proofs.playing.play_made.Goals as goal
 
 pub returns-clause-left : goal.returns-clause-left
 returns-clause-left g c number =

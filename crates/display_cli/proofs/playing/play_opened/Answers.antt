@@ -7,7 +7,7 @@ use Rattle.board_watch.specs.Watching.{Watching}
 use Rattle.display_cli.specs.inside.Left.{AreBoards, board_of, boards_of}
 use Rattle.display_cli.proofs.Opened.{are-boards, team-count, watchers-boards}
 use Rattle.script_runner.proofs.Results.{on-ok}
-use Rattle.display_cli.proofs.top.play_opened.Goals as goal
+use Rattle.display_cli.proofs.playing.play_opened.Goals as goal
 
 -- nobody looks at a board
 none-look : (board : Option Book) (team : List Watching) → team ≡ [] → AreBoards board (boards_of team)
