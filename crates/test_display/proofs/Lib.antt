@@ -1,4 +1,3 @@
 pub mod Batches
 pub mod Opened
-pub mod SameLines
 pub mod Typed

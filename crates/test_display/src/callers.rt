@@ -11,8 +11,7 @@ ghost use Rattle.plain_rows.specs.Rows.{rows_of};
 ghost use Rattle.plain_rows.specs.Spots.{spot_le};
 ghost use Rattle.display_map.specs.Events.{event_limit};
 
-use crate::displays::{assert_row_count, send};
-use crate::landings::opened_at;
+use crate::displays::{assert_row_count, opened_at, send};
 use crate::plain::typed;
 use cell_line::{Cuts, Lines};
 use cell_units::{Bias, Fault, NoMemory, Spot, Steps, TextFault, cleaned, read_text};

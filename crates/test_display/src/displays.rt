@@ -1,8 +1,10 @@
 //! What the tests do with a display over any sheet, and what they ask of its rows, marks and events.
-ghost use Rattle.std.specs.Prelude.{◌≡◌, List, [], IfOk, OnOk};
+ghost use Rattle.std.specs.Prelude.{◌≡◌, List, [], ◌∷◌, IfOk, OnOk};
 ghost use Rattle.cell_units.specs.Text.{clean};
 ghost use Rattle.cell_line.specs.declared.element.Element.{Element};
 ghost use Rattle.wrap_workers.specs.Jobs.{JobParts};
+ghost use Rattle.display_map.specs.Events.{Landed};
+ghost use Rattle.display_map.specs.Replay.{appended};
 ghost use Rattle.display_map.specs.Sending.{IsOutstanding, IsRunTakenOn, seen_job};
 
 use cell_units::{Fault, NoMemory, Steps, Text};
@@ -56,6 +58,20 @@ pub(crate) fn send<S: JobSheet>(
     display.take_run(alloc, &mut Steps::new())
 }
 
+/// Finds that no line waits.
+pub(crate) fn send_none<S: JobSheet>(
+    rt: &impl Abort,
+    alloc: Global,
+    display: &mut DisplayOn<S>,
+) -> Result<(), Fail>
+    ensures { OnOk result (display.new ≡ display.old) }
+{
+    match send(rt, alloc, display)? {
+        Some(_) => Err("a line waits".into()),
+        None => Ok(()),
+    }
+}
+
 /// Does a job that is out, and lands what it gives.
 pub(crate) fn land<S: JobSheet>(
     rt: &impl Abort,
@@ -64,6 +80,7 @@ pub(crate) fn land<S: JobSheet>(
     job: Job<S::Held>,
 ) -> Result<(), NoMemory>
     requires { IsOutstanding display.old (seen_job S.Held.elements_by_line job) }
+    ensures { OnOk result (display.new ≡ appended display.old (Landed job.number ∷ [])) }
 {
     assert!(rt; display.room() > 0);
     let Finished::Done(done) = do_job(alloc, job) else {
@@ -148,6 +165,36 @@ pub(crate) fn operate<S: Sheet>(
     job_laws();
     assert!(rt; display.room() > 0);
     display.apply(alloc, &Change::One(op), &mut Steps::new())
+}
+
+/// A display of a text at a width.
+pub(crate) fn opened_at<S: Sheet>(
+    rt: &impl Abort,
+    alloc: Global,
+    text: &str,
+    cells: u32,
+) -> Result<DisplayOn<S>, Fail> {
+    let mut display = DisplayOn::<S>::start(alloc, text.as_bytes(), &mut Steps::new())?;
+    operate(rt, alloc, &mut display, Op::Width { cells })?;
+    Ok(display)
+}
+
+/// A display of lines that are all alike, joined by line feeds, at a width.
+pub(crate) fn alike<S: Sheet>(
+    rt: &impl Abort,
+    alloc: Global,
+    line: &str,
+    count: usize,
+    cells: u32,
+) -> Result<DisplayOn<S>, Fail> {
+    let mut text = String::new(alloc);
+    for i in 0..count {
+        if i > 0 {
+            text.push('\n')?;
+        }
+        text.push_str(line)?;
+    }
+    opened_at(rt, alloc, text.as_str(), cells)
 }
 
 /// The row of this number is this one.

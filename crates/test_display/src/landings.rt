@@ -5,8 +5,8 @@ ghost use Rattle.wrap_workers.specs.Jobs.{JobParts};
 ghost use Rattle.display_map.specs.Sending.{IsOutstanding, seen_job};
 
 use crate::displays::{
-    assert_events, assert_marks, assert_marks_now, assert_next, assert_row_count, edit, land,
-    operate, publish, send,
+    alike, assert_events, assert_marks, assert_marks_now, assert_next, assert_row_count, edit,
+    land, operate, publish, send, send_none,
 };
 use cell_units::{Bias, Fault, NoMemory, Steps, Text};
 use display_map::{DisplayOn, Op, VersionOn, job_laws};
@@ -16,36 +16,6 @@ use std::alloc::Global;
 use std::process::Abort;
 use std::test::Fail;
 use wrap_workers::Job;
-
-/// A display of a text at a width.
-pub(crate) fn opened_at<S: Sheet>(
-    rt: &impl Abort,
-    alloc: Global,
-    text: &str,
-    cells: u32,
-) -> Result<DisplayOn<S>, Fail> {
-    let mut display = DisplayOn::<S>::start(alloc, text.as_bytes(), &mut Steps::new())?;
-    operate(rt, alloc, &mut display, Op::Width { cells })?;
-    Ok(display)
-}
-
-/// A display of lines that are all alike, joined by line feeds, at a width.
-fn alike<S: Sheet>(
-    rt: &impl Abort,
-    alloc: Global,
-    line: &str,
-    count: usize,
-    cells: u32,
-) -> Result<DisplayOn<S>, Fail> {
-    let mut text = String::new(alloc);
-    for i in 0..count {
-        if i > 0 {
-            text.push('\n')?;
-        }
-        text.push_str(line)?;
-    }
-    opened_at(rt, alloc, text.as_str(), cells)
-}
 
 /// Publishes the version of this number.
 fn publish_as<S: Sheet>(
@@ -167,20 +137,6 @@ fn widen_and_narrow<S: Sheet>(
 {
     operate(rt, alloc, display, Op::Width { cells: 60 })?;
     operate(rt, alloc, display, Op::Width { cells: 40 })
-}
-
-/// Finds that no line waits.
-fn send_none<S: JobSheet>(
-    rt: &impl Abort,
-    alloc: Global,
-    display: &mut DisplayOn<S>,
-) -> Result<(), Fail>
-    ensures { OnOk result (display.new ≡ display.old) }
-{
-    match send(rt, alloc, display)? {
-        Some(_) => Err("a line waits".into()),
-        None => Ok(()),
-    }
 }
 
 /// Lands a job whose width was set again.

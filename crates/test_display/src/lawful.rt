@@ -1,11 +1,14 @@
 //! What a view, a version and a display promise of their history is what laws and plain functions ask.
 ghost use Rattle.std.specs.Prelude.{◌≡◌, ℕ, IsTrue, List, None, length, map, slice_range, take, IfOk};
 ghost use Rattle.cell_units.specs.declared.place.Bias.TheVariants.{Left};
+ghost use Rattle.cell_units.specs.Lawful.{IsAllowed, IsLawful};
+ghost use Rattle.cell_units.specs.Operation.{Operation};
 ghost use Rattle.cell_line.specs.declared.element.Element.{Element};
 ghost use Rattle.wrap_workers.specs.Jobs.{JobParts};
 ghost use Rattle.plain_rows.specs.Rows.{rows_of};
 ghost use Rattle.plain_rows.specs.Spots.{back, clip, show, spot_le};
 ghost use Rattle.display_sheet.specs.Changes.{ChangeParts, operations_in, refusal_of};
+ghost use Rattle.display_sheet.specs.LineStep.{GivesFreshMarks, KeepsMarks, SplicesMarks, Touches, line_step};
 ghost use Rattle.edit_patch.specs.declared.edit.Edit.{Edit};
 ghost use Rattle.display_map.specs.Events.{Did, Event};
 ghost use Rattle.display_map.specs.Identity.{HaveSameLines};
@@ -18,7 +21,7 @@ use crate::callers::row_count;
 use crate::displays::{first_landing, view_of};
 use cell_units::{Bias, NoMemory, Spot, Steps, Text};
 use display_map::{
-    DisplayOn, VersionOn, ViewOn, landing_laws, line_patch_laws, replay_laws, stamp_laws,
+    DisplayOn, VersionOn, ViewOn, landing_laws, line_patch_laws, replay_laws, stamp_laws, step_laws,
 };
 use kept_sheet::{JobSheet, Sheet};
 use map_sheet::MapSheet;
@@ -119,6 +122,24 @@ fn landing_cuts<S: Sheet>(display: &DisplayOn<S>)
     landing_laws();
 }
 
+/// An operation that is allowed in a display's record leaves a lawful one. It hands on the mark of each untouched line,
+/// in order, and the touched lines get fresh ones.
+fn next_steps<S: Sheet>(display: &DisplayOn<S>)
+    ensures lawful { (operation : Operation) → IsAllowed operation (present_of display.now) →
+        IsLawful (line_step operation (present_of display.now)) }
+    ensures handed_on { (operation : Operation) → IsAllowed operation (present_of display.now) →
+        KeepsMarks operation (present_of display.now) }
+    ensures fresh { (operation : Operation) → IsAllowed operation (present_of display.now) →
+        GivesFreshMarks operation (present_of display.now) }
+    ensures splices { (operation : Operation) → IsAllowed operation (present_of display.now) →
+        (a b a' b' : ℕ) → Touches operation (present_of display.now) a b a' b' →
+        SplicesMarks operation (present_of display.now) a b a' b' }
+{
+    // For the proof: the record is lawful, and of such a one an operation steps so.
+    display.lawful();
+    step_laws();
+}
+
 /// Asserts what they read of two lines.
 fn assert_read<S: Sheet>(rt: &impl Abort, alloc: Global) -> Result<(), Fail> {
     let view = view_of::<S>(alloc, b"abc\ndefg")?;
@@ -156,6 +177,7 @@ fn ask_laws<S: JobSheet>(rt: &impl Abort, alloc: Global) -> Result<(), Fail> {
     line_patch(&earlier, version.view());
     fitting_changes(&display);
     landing_cuts(&display);
+    next_steps(&display);
     assert_eq!(rt; version.number(), 2);
     Ok(())
 }

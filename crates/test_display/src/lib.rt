@@ -1,23 +1,17 @@
-//! Worked rows of the display: what it and its views return on texts and changes that are known. Besides the lines of
-//! `cell_line` and the crews of `wrap_workers`. There is nothing here but tests.
+//! Worked rows of the display: what it and its views return on texts and changes that are known. There is nothing here
+//! but tests.
 #![tactic(auto)]
 
-#[cfg(test)]
-mod alike;
 #[cfg(test)]
 mod answers;
 #[cfg(test)]
 mod callers;
-#[cfg(test)]
-mod crews;
 #[cfg(test)]
 mod displays;
 #[cfg(test)]
 mod landings;
 #[cfg(test)]
 mod lawful;
-#[cfg(test)]
-mod lines;
 #[cfg(test)]
 mod plain;
 #[cfg(test)]

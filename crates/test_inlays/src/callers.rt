@@ -19,7 +19,7 @@ pub(crate) fn replace(
     requires { map.old.current.text ≡ rope.old }
     ensures ok { IfOk result (λ shown. map.new.current.text ≡ rope.new) }
     ensures shown { IfOk result (λ shown. shown.0 ≡ map.new.current) }
-    ensures err { OnErr result (map.new ≡ map.old) }
+    ensures unchanged { OnErr result (map.new ≡ map.old) }
 {
     let bytes = rope.len();
     // For the proof: the inlays are at boundaries of the text.

@@ -6,7 +6,6 @@ ghost use Rattle.display_map.specs.Replay.{ends, versions_of};
 ghost use Rattle.live_display.specs.Owned.{IsOwned};
 ghost use Rattle.display_sheet.specs.Changes.{ops_of};
 
-use crate::runs::{inputs_of, strings};
 use board_watch::{Seen, Watched, Watcher, end_all, watchers};
 use cell_units::{Fault, NoMemory, Steps, Text};
 use display_cli::{ListSink, run};
@@ -17,6 +16,7 @@ use std::alloc::Global;
 use std::sync::Wait;
 use std::test::Fail;
 use std::thread::Threads;
+use test_runs::{inputs_of, strings};
 use version_board::{Reader, Writer, board, row_laws};
 use wrap_workers::FreeGate;
 

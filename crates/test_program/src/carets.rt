@@ -1,6 +1,7 @@
 //! Where a caret goes, and what a selection covers.
-use crate::runs::{Session, expect};
+use crate::sessions::expect;
 use std::test::Fail;
+use test_runs::Session;
 
 #[test]
 fn a_caret_goes_from_one_spot_with_an_offset_to_the_next(rt: HostRuntime) -> Result<(), Fail> {

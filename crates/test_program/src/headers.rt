@@ -1,7 +1,8 @@
 //! Scripts of the second form, and lines that look like its header.
-use crate::runs::{Session, expect, run_of};
+use crate::sessions::expect;
 use display_map::{Event, Journal};
 use std::test::Fail;
+use test_runs::{Session, run_of};
 
 const POINTS: &str = r#"{"edit":[[[0,2,"left"],[0,2,"right"],"e"]]}
 {"rows":[0,9]}

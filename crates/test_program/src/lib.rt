@@ -1,5 +1,5 @@
-//! Worked runs of the program: what scripts write on texts that are known, and what faults, workers and watchers do to a run.
-//! Besides words of the command line and their readings. There is nothing here but tests.
+//! Worked runs of the program: what scripts write on texts that are known. Besides words of the command line and their
+//! readings. There is nothing here but tests.
 #![tactic(auto)]
 
 #[cfg(test)]
@@ -7,28 +7,18 @@ mod callers;
 #[cfg(test)]
 mod carets;
 #[cfg(test)]
-mod changing;
-#[cfg(test)]
-mod faults;
-#[cfg(test)]
 mod headers;
 #[cfg(test)]
-mod made;
+mod lawful_runs;
 #[cfg(test)]
-mod outside;
+mod made;
 #[cfg(test)]
 mod refusals;
 #[cfg(test)]
 mod rows;
 #[cfg(test)]
-mod runs;
-#[cfg(test)]
-mod schedules;
-#[cfg(test)]
-mod source;
+mod sessions;
 #[cfg(test)]
 mod spots;
-#[cfg(test)]
-mod threads;
 #[cfg(test)]
 mod words;

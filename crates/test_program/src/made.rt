@@ -1,5 +1,4 @@
 //! Runs whose text and script are made from a number.
-use crate::runs::{Outcome, assert_end, run_words};
 use cell_units::NoMemory;
 use display_cli::Note;
 use std::alloc::Global;
@@ -7,6 +6,7 @@ use std::process::Abort;
 use std::sync::Wait;
 use std::test::Fail;
 use std::thread::Threads;
+use test_runs::{Outcome, run_words};
 use wrap_workers::FreeGate;
 
 /// The line of number 7, as a program of plain lists gives it by the same rules.
@@ -21,7 +21,7 @@ fn expect_seven<R: Abort + Threads + Wait + Sync>(
 ) -> Result<(), NoMemory> {
     let words = ["--make", "7", "--workers", workers];
     let outcome = run_words(rt, alloc, &words, b"", b"", &FreeGate)?;
-    assert_end(rt, &outcome, (Note::Fine, 0), SEVEN);
+    assert_eq!(rt; outcome.end(), (Note::Fine, 0, SEVEN));
     Ok(())
 }
 

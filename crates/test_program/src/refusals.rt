@@ -1,6 +1,7 @@
 //! Lines that are refused.
-use crate::runs::{Session, expect, run_of};
+use crate::sessions::expect;
 use std::test::Fail;
+use test_runs::{Session, run_of};
 
 #[test]
 fn refused_lines_print_their_numbers_and_change_nothing(rt: HostRuntime) -> Result<(), Fail> {

@@ -1,6 +1,7 @@
 //! The rows that texts are shown as.
-use crate::runs::{Session, expect};
+use crate::sessions::expect;
 use std::test::Fail;
+use test_runs::Session;
 
 #[test]
 fn a_text_is_shown_line_by_line(rt: HostRuntime) -> Result<(), Fail> {

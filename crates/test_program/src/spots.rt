@@ -1,6 +1,7 @@
 //! Where offsets are shown, and which offsets spots show.
-use crate::runs::{Session, expect};
+use crate::sessions::expect;
 use std::test::Fail;
+use test_runs::Session;
 
 #[test]
 fn a_cluster_is_one_place(rt: HostRuntime) -> Result<(), Fail> {

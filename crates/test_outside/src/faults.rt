@@ -2,7 +2,6 @@
 //! written is a front of the output, and each run ends.
 ghost use Rattle.std.specs.Prelude.{◌≡◌};
 
-use crate::runs::{Outcome, assert_end, inputs_of, run_failing, run_on};
 use cell_units::NoMemory;
 use display_cli::{Failed, Note, Sink};
 use std::alloc::Global;
@@ -10,6 +9,7 @@ use std::process::Abort;
 use std::sync::Wait;
 use std::test::Fail;
 use std::thread::Threads;
+use test_runs::{Outcome, inputs_of, run_failing, run_on};
 use wrap_workers::FreeGate;
 
 /// The words of a run with two workers and two watchers.
@@ -72,7 +72,7 @@ fn each_read_may_fail(rt: HostRuntime) -> Result<(), Fail> {
         (5, Note::ReadScript),
     ] {
         let outcome = play(&rt, alloc, text.as_str(), &[read], &[])?;
-        assert_end(&rt, &outcome, (note, 3), b"");
+        assert_eq!(rt; outcome.end(), (note, 3, b"".as_slice()));
         assert!(rt; outcome.ended.watched.is_empty());
     }
     let outcome = play(&rt, alloc, text.as_str(), &[6], &[])?;
@@ -82,7 +82,7 @@ fn each_read_may_fail(rt: HostRuntime) -> Result<(), Fail> {
 
 /// Asserts that a run whose write failed had written this, and gives what each watcher saw so far.
 fn assert_unwritten(rt: &impl Abort, outcome: &Outcome, written: &[u8]) {
-    assert_end(rt, outcome, (Note::Write, 4), written);
+    assert_eq!(rt; outcome.end(), (Note::Write, 4, written));
     assert_eq!(rt; outcome.ended.watched.len(), 2);
 }
 

@@ -3,7 +3,6 @@ ghost use Rattle.std.specs.Prelude.{◌≡◌, ◌≤◌, length, IfOk};
 ghost use Rattle.display_cli.specs.Telling.{reads_told};
 ghost use Rattle.script_runner.specs.Outside.{HasPartRisen};
 
-use crate::runs::{Outcome, file, run_on};
 use cell_units::NoMemory;
 use display_cli::{Failed, Inputs, ListSink, MapInputs, Note, Part, ReadsTold};
 use std::alloc::Global;
@@ -11,6 +10,7 @@ use std::process::Abort;
 use std::sync::Wait;
 use std::test::Fail;
 use std::thread::Threads;
+use test_runs::{Outcome, file, run_on};
 use wrap_workers::FreeGate;
 
 /// Inputs that are others from some call on. They tell nothing.

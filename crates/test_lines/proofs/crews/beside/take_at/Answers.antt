@@ -1,7 +1,7 @@
 use Rattle.std.proofs.Common.{◌<◌, ◌==◌, not, All, subst, sym}
 use Rattle.std.proofs.lemmas.List.Elements.{All-filter}
 use Rattle.wrap_workers.specs.Finishes.{job_of}
-use Rattle.test_display.proofs.crews.beside.take_at.Goals as goal
+use Rattle.test_lines.proofs.crews.beside.take_at.Goals as goal
 
 pub returns-then-out-least : goal.returns-then-out-least
 returns-then-out-least g c =

@@ -1,5 +1,5 @@
 use Rattle.std.proofs.Common.{◌<◌, All}
-use Rattle.test_display.proofs.crews.beside.count_results.Given as goal
+use Rattle.test_lines.proofs.crews.beside.count_results.Given as goal
 
 abbrev pub invariant-loop-number : goal.invariant-loop-number
 invariant-loop-number g l = All (λ job. job.number < l.number) l.crew.out

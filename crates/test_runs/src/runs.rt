@@ -1,16 +1,15 @@
-//! What the tests run, and with which inputs and sinks.
+//! What is run, and with which inputs and sinks.
 use cell_units::{NoMemory, Text};
 use display_cli::{Ended, Inputs, ListSink, MapInputs, NamedBytes, Note, Sink, run};
 use std::alloc::Global;
-use std::process::Abort;
 use std::sync::Wait;
 use std::thread::Threads;
 use wrap_workers::{FreeGate, Gate};
 
 /// The end of a run, and what was written.
-pub(crate) struct Outcome {
-    pub(crate) ended: Ended,
-    pub(crate) out: ListSink,
+pub struct Outcome {
+    pub ended: Ended,
+    pub out: ListSink,
 }
 
 impl Drop for Outcome {
@@ -19,16 +18,24 @@ impl Drop for Outcome {
     }
 }
 
-/// A script on a text, what it writes, and what that shows.
-#[derive(Clone, Copy)]
-pub(crate) struct Session<'a> {
-    pub(crate) shows: &'a str,
-    pub(crate) text: &'a str,
-    pub(crate) script: &'a str,
-    pub(crate) written: &'a str,
+impl Outcome {
+    /// The note and the status of the run, and what was written.
+    pub fn end(&self) -> (Note, u8, &[u8]) {
+        (self.ended.note, self.ended.status, self.out.taken())
+    }
 }
 
-pub(crate) fn strings(alloc: Global, words: &[&str]) -> Result<Vec<String>, NoMemory> {
+/// A script on a text, what it writes, and what that shows.
+#[derive(Clone, Copy)]
+pub struct Session<'a> {
+    pub shows: &'a str,
+    pub text: &'a str,
+    pub script: &'a str,
+    pub written: &'a str,
+}
+
+/// Words, each as a text of its own.
+pub fn strings(alloc: Global, words: &[&str]) -> Result<Vec<String>, NoMemory> {
     let mut strings = Vec::new(alloc);
     for word in words {
         strings.push(String::from_str(alloc, word)?)?;
@@ -36,7 +43,8 @@ pub(crate) fn strings(alloc: Global, words: &[&str]) -> Result<Vec<String>, NoMe
     Ok(strings)
 }
 
-pub(crate) fn file(alloc: Global, name: &str, bytes: &[u8]) -> Result<NamedBytes, NoMemory> {
+/// A file of this name.
+pub fn file(alloc: Global, name: &str, bytes: &[u8]) -> Result<NamedBytes, NoMemory> {
     Ok(NamedBytes {
         name: Text::from_str(alloc, name)?,
         bytes: Vec::from_slice(alloc, bytes)?,
@@ -44,7 +52,7 @@ pub(crate) fn file(alloc: Global, name: &str, bytes: &[u8]) -> Result<NamedBytes
 }
 
 /// Inputs with the text `a` and the script `b`, of which the reads of some numbers fail.
-pub(crate) fn inputs_of(
+pub fn inputs_of(
     alloc: Global,
     text: &[u8],
     script: &[u8],
@@ -57,7 +65,7 @@ pub(crate) fn inputs_of(
 }
 
 /// Runs the words on these inputs, with the output to this sink.
-pub(crate) fn run_on<R: Threads + Wait + Sync, I: Inputs + Send, K: Sink + Send, G: Gate + Sync>(
+pub fn run_on<R: Threads + Wait + Sync, I: Inputs + Send, K: Sink + Send, G: Gate + Sync>(
     rt: &R,
     alloc: Global,
     words: &[&str],
@@ -70,7 +78,7 @@ pub(crate) fn run_on<R: Threads + Wait + Sync, I: Inputs + Send, K: Sink + Send,
 }
 
 /// Runs the words on the text `a` and the script `b`, where the reads and writes of some numbers fail.
-pub(crate) fn run_failing<R: Threads + Wait + Sync, G: Gate + Sync>(
+pub fn run_failing<R: Threads + Wait + Sync, G: Gate + Sync>(
     rt: &R,
     alloc: Global,
     words: &[&str],
@@ -87,7 +95,7 @@ pub(crate) fn run_failing<R: Threads + Wait + Sync, G: Gate + Sync>(
 }
 
 /// Runs the words on the text `a` and the script `b`.
-pub(crate) fn run_words<R: Threads + Wait + Sync, G: Gate + Sync>(
+pub fn run_words<R: Threads + Wait + Sync, G: Gate + Sync>(
     rt: &R,
     alloc: Global,
     words: &[&str],
@@ -99,7 +107,7 @@ pub(crate) fn run_words<R: Threads + Wait + Sync, G: Gate + Sync>(
 }
 
 /// Runs the script `b` on the text `a`, where the reads and writes of some numbers fail.
-pub(crate) fn run_of<R: Threads + Wait + Sync>(
+pub fn run_of<R: Threads + Wait + Sync>(
     rt: &R,
     alloc: Global,
     text: &[u8],
@@ -118,40 +126,4 @@ pub(crate) fn run_of<R: Threads + Wait + Sync>(
         failing_writes,
         &FreeGate,
     )
-}
-
-/// Asserts that a run ended with this note and status, and wrote this.
-pub(crate) fn assert_end(
-    rt: &impl Abort,
-    outcome: &Outcome,
-    (note, status): (Note, u8),
-    written: &[u8],
-) {
-    assert_eq!(rt; (outcome.ended.note, outcome.ended.status), (note, status));
-    assert_eq!(rt; outcome.out.taken(), written);
-}
-
-/// Asserts that a run wrote what the session writes, and that its status says whether a line is refused.
-fn assert_session(rt: &impl Abort, outcome: &Outcome, session: &Session) {
-    let Session { shows, written, .. } = *session;
-    assert_eq!(rt; outcome.out.taken(), written.as_bytes(), "{shows}");
-    let refused = written.starts_with("! ") || written.contains("\n! ");
-    assert_eq!(rt; outcome.ended.status, u8::from(refused), "{shows}");
-}
-
-/// Runs each session with 1, 2 and 8 workers, and compares what is written, and whether a line is refused.
-pub(crate) fn expect<R: Abort + Threads + Wait + Sync>(
-    rt: &R,
-    alloc: Global,
-    sessions: &[Session],
-) -> Result<(), NoMemory> {
-    for session in sessions {
-        let (text, script) = (session.text.as_bytes(), session.script.as_bytes());
-        for workers in ["1", "2", "8"] {
-            let words = ["a", "b", "--workers", workers];
-            let outcome = run_words(rt, alloc, &words, text, script, &FreeGate)?;
-            assert_session(rt, &outcome, session);
-        }
-    }
-    Ok(())
 }

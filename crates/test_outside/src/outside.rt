@@ -1,5 +1,4 @@
 //! What is read, what is written, and faults of both.
-use crate::runs::{Outcome, assert_end, file, inputs_of, run_of, run_on, strings};
 use cell_units::NoMemory;
 use display_cli::{
     FileInputs, Inputs, ListSink, MapInputs, Note, Part, Sink, StreamSink, SureInputs, SureSink,
@@ -12,6 +11,7 @@ use std::process::Abort;
 use std::sync::Wait;
 use std::test::Fail;
 use std::thread::Threads;
+use test_runs::{Outcome, file, inputs_of, run_of, run_on, strings};
 use wrap_workers::FreeGate;
 
 #[test]
@@ -26,7 +26,7 @@ fn what_is_read_is_judged_by_its_limits(rt: HostRuntime) -> Result<(), Fail> {
     ];
     for (text, script, note) in table {
         let outcome = run_of(&rt, alloc, text, script, &[], &[])?;
-        assert_end(&rt, &outcome, (note, 5), b"");
+        assert_eq!(rt; outcome.end(), (note, 5, b"".as_slice()));
     }
     Ok(())
 }
@@ -57,7 +57,7 @@ fn a_text_of_just_the_limit_is_accepted_and_no_edit_goes_past_it(
 {"rows":[0,1]}"#;
     let written = format!(in alloc; "524287 t|{LINE}\n524288 t|\n! 5\n0 t|{LINE}\n")?;
     let outcome = run_of(&rt, alloc, text.as_slice(), script, &[], &[])?;
-    assert_end(&rt, &outcome, (Note::Fine, 1), written.as_bytes());
+    assert_eq!(rt; outcome.end(), (Note::Fine, 1, written.as_bytes()));
     Ok(())
 }
 
@@ -75,8 +75,15 @@ fn a_script_of_just_the_limit_is_read(rt: HostRuntime) -> Result<(), Fail> {
     let script = longest_script(alloc)?;
     assert_eq!(rt; script.len(), 16_777_216);
     let outcome = run_of(&rt, alloc, b"abc", script.as_slice(), &[], &[])?;
-    assert_end(&rt, &outcome, (Note::Fine, 0), b"0 t|abc\n");
+    assert_eq!(rt; outcome.end(), (Note::Fine, 0, b"0 t|abc\n".as_slice()));
     Ok(())
+}
+
+/// Asserts that a run ended with this note and status, and wrote this.
+fn assert_end(rt: &impl Abort, outcome: &Outcome, note: Note, status: u8, written: &str) {
+    let (said, left, out) = outcome.end();
+    assert_eq!(rt; (said, left), (note, status));
+    assert_eq!(rt; out, written.as_bytes());
 }
 
 #[test]
@@ -92,7 +99,7 @@ fn a_fault_outside_ends_the_run(rt: HostRuntime) -> Result<(), Fail> {
     ];
     for (reads, writes, note, status, written) in table {
         let outcome = run_of(&rt, alloc, b"a\nb", script, reads, writes)?;
-        assert_end(&rt, &outcome, (note, status), written.as_bytes());
+        assert_end(&rt, &outcome, note, status, written);
     }
     Ok(())
 }
@@ -232,7 +239,7 @@ fn a_folder_and_a_missing_file_cannot_be_read(rt: HostRuntime) -> Result<(), Fai
     for (names, note) in table {
         let mut inputs = FileInputs::new(&rt);
         let outcome = run_files(&rt, rt.alloc(), &mut inputs, &names)?;
-        assert_end(&rt, &outcome, (note, 3), b"");
+        assert_eq!(rt; outcome.end(), (note, 3, b"".as_slice()));
     }
     fs::remove_file(&rt, name)?;
     Ok(())
@@ -260,7 +267,7 @@ fn files_of_many_reads_are_read_whole(rt: HostRuntime) -> Result<(), Fail> {
     let mut inputs = FileInputs::new(&rt);
     let outcome = run_files(&rt, alloc, &mut inputs, &names)?;
     let written = b"19999 t|abcdefghi\n20000 t|the end\n";
-    assert_end(&rt, &outcome, (Note::Fine, 0), written);
+    assert_eq!(rt; outcome.end(), (Note::Fine, 0, written.as_slice()));
     for name in names {
         fs::remove_file(&rt, name)?;
     }

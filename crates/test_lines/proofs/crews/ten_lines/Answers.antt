@@ -1,7 +1,7 @@
 use Rattle.std.proofs.Common.{inr, arith}
 use Rattle.std.specs.Prelude.{codes}
-use Rattle.test_display.proofs.SameLines.{same_fit}
-use Rattle.test_display.proofs.crews.ten_lines.Goals as goal
+use Rattle.test_lines.proofs.SameLines.{same_fit}
+use Rattle.test_lines.proofs.crews.ten_lines.Goals as goal
 
 pub job-requires : goal.job-requires
 job-requires c = (

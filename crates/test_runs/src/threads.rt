@@ -1,7 +1,7 @@
 //! Runs whose workers and watchers do their part beside the owner.
 ghost use Rattle.std.specs.Prelude.{◌≡◌};
 
-use crate::runs::{Outcome, assert_end, inputs_of, run_failing, run_on, run_words};
+use crate::runs::{Outcome, inputs_of, run_failing, run_on, run_words};
 use cell_units::NoMemory;
 use display_cli::{Failed, Note, Sink};
 use std::alloc::Global;
@@ -186,7 +186,7 @@ fn two_jobs_are_done_at_once_by_two_workers(rt: HostRuntime) -> Result<(), Fail>
     let words = ["a", "b", "--workers", "2"];
     let script = br#"{"settle":true}"#;
     let outcome = run_words(&rt, alloc, &words, text.as_slice(), script, &gate)?;
-    assert_end(&rt, &outcome, (Note::Fine, 0), b"");
+    assert_eq!(rt; outcome.end(), (Note::Fine, 0, b"".as_slice()));
     assert_met(&rt, &[&gate.0]);
     // `Published`, two `Sent`, two `Landed` with a `Published` each, `Line` and the last `Published`.
     assert_eq!(rt; outcome.ended.history.len(), 9);
@@ -288,7 +288,7 @@ fn a_watch_line_that_cannot_be_written_ends_the_run(rt: HostRuntime) -> Result<(
     let words = ["a", "b", "--watch", "1"];
     let script = br#"{"rows":[0,1]}"#;
     let outcome = run_failing(&rt, rt.alloc(), &words, b"a", script, &[], &[2], &FreeGate)?;
-    assert_end(&rt, &outcome, (Note::Write, 4), b"0 t|a\n");
+    assert_eq!(rt; outcome.end(), (Note::Write, 4, b"0 t|a\n".as_slice()));
     assert_eq!(rt; outcome.ended.watched.len(), 1);
     Ok(())
 }
