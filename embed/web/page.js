@@ -393,8 +393,10 @@ $('block').onclick = addBlock;
 $('pin').onclick = () => add('pin', `pin ${nextId}`, caret.offset, true);
 $('sample').onchange = () => openText(SAMPLES[$('sample').value]());
 $('file').onchange = async () => {
+  const [file] = $('file').files;
+  $('file').value = ''; // so that the same file may be chosen once more
   try {
-    openText(new Uint8Array(await $('file').files[0].arrayBuffer()));
+    openText(new Uint8Array(await file.arrayBuffer()));
   } catch (why) {
     if (!(why instanceof Refusal)) throw why;
     said = `the file can't be opened: ${why.message}`;

@@ -301,7 +301,7 @@ async function readingMany(p) {
   check('the last rows are drawn', (await p.rows()).slice(-2), last);
   check('at their place', await p.caret(), [199999, 34]);
   await p.press('PageUp');
-  check('a page up', await p.caret(), [199981, 34]);
+  check('a page up, to the shorter row of line 99990', await p.caret(), [199981, 30]);
   await p.press('Home', CONTROL);
   await p.mouse('mouseWheel', await p.at(2, 2), { button: 'none', buttons: 0, deltaX: 0, deltaY: 220 });
   await p.browser.until('view.scrollTop === 220');
@@ -329,8 +329,8 @@ function play(text, script) {
   const bytes = it => Uint8Array.from(atob(it), letter => letter.charCodeAt(0));
   const map = new DisplayMap(module, bytes(text));
   let output = '';
-  for (const line of atob(script).split('\n')) {
-    if (line.trim() === '' || line === '{"script":2}') continue;
+  const lines = atob(script).split('\n').filter(it => it.trim() !== '');
+  for (const line of lines[0] === '{"script":2}' ? lines.slice(1) : lines) {
     try {
       output += map.lineOfBytes(bytes(btoa(line))).map(it => `${it}\n`).join('');
     } catch (why) {
