@@ -3,3 +3,7 @@
 
 #[cfg(test)]
 mod callers;
+#[cfg(test)]
+mod displays;
+#[cfg(test)]
+mod views;
