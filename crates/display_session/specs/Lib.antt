@@ -2,6 +2,7 @@
 pub mod Answers
 pub mod CaretLines
 pub mod HostMarks
+pub mod LentPieces
 pub mod Lines
 pub mod LoneDisplays
 pub mod Slices

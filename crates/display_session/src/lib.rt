@@ -8,11 +8,14 @@
 mod answering;
 mod caret_lines;
 mod host_marks;
+mod lent_pieces;
 mod lone;
 mod marking;
 mod session;
 mod text_parts;
 mod trouble;
 
+pub use lent_pieces::LentPiece;
+pub use row_pieces::RowPieceKind;
 pub use session::Session;
 pub use trouble::Trouble;

@@ -1,5 +1,5 @@
 //! A session.
-ghost use Rattle.std.specs.Prelude.{◌≡◌, true, false, [], ◌∷◌, None, length, map, option_map, slice_get, slice_range, string_bytes, IfErr, IfNone, IfOk, MatchResult, OnErr, OnOk};
+ghost use Rattle.std.specs.Prelude.{◌≡◌, true, false, [], ◌∷◌, None, length, map, option_map, slice_get, slice_index_or, slice_range, string_bytes, IfErr, IfNone, IfOk, IfSome, MatchResult, OnErr, OnOk};
 ghost use Rattle.std.specs.Str.{IsUtf8};
 ghost use Rattle.cell_units.specs.Refusal.{IsAccepted, IsTextRefused};
 ghost use Rattle.cell_units.specs.Text.{clean};
@@ -9,6 +9,7 @@ ghost use Rattle.display_sheet.specs.Changes.{batch, change_refusal, edit_refusa
 ghost use Rattle.display_sheet.specs.Shown.{show_refusal};
 ghost use Rattle.display_map.specs.Events.{Did, Published};
 ghost use Rattle.display_map.specs.Replay.{appended, is_settled, present_of};
+ghost use Rattle.row_pieces.specs.Pieces.{pieces_in_rows, text_of};
 ghost use Rattle.edit_script.specs.declared.asked.Query.TheVariants.{Rows};
 ghost use Rattle.edit_script.specs.Answers.{lines_of};
 ghost use Rattle.edit_script.specs.Commands.{Ask, AskCaret, meaning};
@@ -16,6 +17,7 @@ ghost use Rattle.edit_script.specs.Verdict.{Accepted, command_refusal, query_ref
 ghost use Rattle.display_session.specs.Answers.{filled_with, printed, row_of};
 ghost use Rattle.display_session.specs.CaretLines.{caret_lines};
 ghost use Rattle.display_session.specs.HostMarks.{are_placed, marks_at, marks_moved};
+ghost use Rattle.display_session.specs.LentPieces.{lent_items, lent_piece};
 ghost use Rattle.display_session.specs.Lines.{HasDone, HasDoneAt, HasFailedAt, IsReady, IsSettled, query_verdict, verdict_on};
 ghost use Rattle.display_session.specs.Slices.{slice_refusal};
 ghost use Rattle.display_session.specs.Troubles.{IsEditRefused, IsOwed, IsUnwrapped};
@@ -24,6 +26,7 @@ ghost use Rattle.display_session.specs.Wrapping.{IsWrapped};
 use crate::answering::{answer_text, wants_settled};
 use crate::caret_lines::caret_answer;
 use crate::host_marks::{HostMarks, moved};
+use crate::lent_pieces::{LentPiece, joined_text, lent_pieces};
 use crate::lone::LoneDisplay;
 use crate::text_parts::{text_between, text_len};
 use crate::trouble::Trouble;
@@ -33,6 +36,7 @@ use edit_script::laws::verdict_laws;
 use edit_script::{Asked, CaretQuery, Form, Query, query_refusal, read_line};
 use mark_tree::MarkTree;
 use std::alloc::Global;
+use view_pieces::pieces_of_row;
 
 /// One display, the bytes of the last answer, and marks of the host's own, which move with the edits. Offsets count
 /// bytes of the text, and columns cells.
@@ -360,6 +364,30 @@ impl Session {
         };
         self.answer = String::from_str(alloc, shown.text.as_str())?;
         Ok(Some(shown.kind))
+    }
+
+    /// The pieces of the row of this number, counted from 0, whose texts are kept as the answer, one after another: the
+    /// row's text. `None` past the last row, where the last answer is still kept, as where there is no memory.
+    pub fn pieces(&mut self, alloc: Global, row: u32) -> Result<Option<Vec<LentPiece>>, NoMemory>
+        // The row's pieces, and their texts.
+        ensures pieces { IfOk result (λ lent. lent_items lent
+            ≡ option_map (map lent_piece) (slice_get (pieces_in_rows (present_of self.old.display)) row)) }
+        ensures texts { IfOk result (λ lent. IfSome lent (λ lent. string_bytes self.new.answer
+            ≡ text_of (slice_index_or (pieces_in_rows (present_of self.old.display)) row []))) }
+
+        // What stays.
+        ensures past { IfOk result (λ lent. IfNone lent (self.new ≡ self.old)) }
+        ensures display { self.new.display ≡ self.old.display }
+        ensures marks { self.new.marks ≡ self.old.marks }
+        ensures unchanged { OnErr result (self.new ≡ self.old) }
+    {
+        let view = self.display.view()?;
+        let Some(pieces) = pieces_of_row(alloc, &view, row, &mut Steps::new())? else {
+            return Ok(None);
+        };
+        let lent = lent_pieces(alloc, &pieces)?;
+        self.answer = joined_text(alloc, &pieces)?;
+        Ok(Some(lent))
     }
 
     /// Keeps the rows from number `first` on, as many as there are up to `count`, as the lines that answer `rows` on the

@@ -1,6 +1,6 @@
 //! Sessions from their opening to their answers, by lines and by calls.
 use cell_units::{Bias, Refusal, Spot};
-use display_session::{Session, Trouble};
+use display_session::{LentPiece, RowPieceKind, Session, Trouble};
 use std::alloc::Global;
 use std::test::Fail;
 
@@ -128,5 +128,67 @@ fn a_mark_is_refused_where_none_may_be(rt: HostRuntime) -> Result<(), Fail> {
     let unknown = Err(Trouble::Refused(Refusal::UnknownId));
     assert_eq!(rt; session.remove_mark(alloc, 1), unknown);
     assert_eq!(rt; session.mark(1), None);
+    Ok(())
+}
+
+/// The text of a row and its pieces, where there is such a row.
+fn pieces(session: &mut Session, alloc: Global, row: u32) -> Result<Vec<LentPiece>, Fail> {
+    Ok(session.pieces(alloc, row)?.ok_or("no row")?)
+}
+
+fn piece(kind: RowPieceKind, bytes: usize, cells: u32, start: u32, end: u32) -> LentPiece {
+    LentPiece {
+        kind,
+        bytes,
+        cells,
+        start,
+        end,
+    }
+}
+
+/// A tab has four cells, an inlay and the placeholder of a fold stand between text.
+#[test]
+fn a_row_is_lent_as_its_text_and_its_pieces(rt: HostRuntime) -> Result<(), Fail> {
+    let alloc = rt.alloc();
+    let mut session = opened(alloc)?;
+    let inlay = br#"{"inlay":[7,22,"right",": T"]}"#;
+    assert_eq!(rt; session.apply(alloc, inlay), Ok(()));
+    assert_eq!(rt; session.apply(alloc, br#"{"fold":[1,25,26]}"#), Ok(()));
+    let lent = pieces(&mut session, alloc, 1)?;
+    assert_eq!(rt; session.answer(), "    let total: T = ⋯;");
+    let wanted = [
+        piece(RowPieceKind::Tab, 4, 4, 12, 13),
+        piece(RowPieceKind::Text, 9, 9, 13, 22),
+        piece(RowPieceKind::Inlay(7), 3, 3, 22, 22),
+        piece(RowPieceKind::Text, 3, 3, 22, 25),
+        piece(RowPieceKind::Placeholder, 3, 1, 25, 26),
+        piece(RowPieceKind::Text, 1, 1, 26, 27),
+    ];
+    assert_eq!(rt; lent.as_slice(), wanted.as_slice());
+    Ok(())
+}
+
+/// A row that goes on has its indent, and the row of a block its line.
+#[test]
+fn indents_and_blocks_are_pieces(rt: HostRuntime) -> Result<(), Fail> {
+    let alloc = rt.alloc();
+    let mut session = opened(alloc)?;
+    let block = br#"{"block":[3,"above",2,["end"]]}"#;
+    assert_eq!(rt; session.apply(alloc, block), Ok(()));
+    assert_eq!(rt; session.apply(alloc, br#"{"width":14}"#), Ok(()));
+    assert_eq!(rt; session.settle(alloc), Ok(()));
+    let lent = pieces(&mut session, alloc, 2)?;
+    assert_eq!(rt; session.answer(), "    = 1;");
+    let wanted = [
+        piece(RowPieceKind::Indent, 4, 4, 23, 23),
+        piece(RowPieceKind::Text, 4, 4, 23, 27),
+    ];
+    assert_eq!(rt; lent.as_slice(), wanted.as_slice());
+    let lent = pieces(&mut session, alloc, 3)?;
+    assert_eq!(rt; session.answer(), "end");
+    let wanted = [piece(RowPieceKind::Block(3), 3, 3, 28, 28)];
+    assert_eq!(rt; lent.as_slice(), wanted.as_slice());
+    assert!(rt; session.pieces(alloc, 7)?.is_none());
+    assert_eq!(rt; session.answer(), "end");
     Ok(())
 }
