@@ -1,5 +1,6 @@
 -- What the definitions mean, in other words.
 use Rattle.std.specs.Prelude.{ℕ, ◌≡◌, ◌+◌, ◌≤◌, ◌<◌, ◌==◌, if◌then◌else◌, false, List, [], ◌∷◌, length, map, take, drop, slice_range, slice_index_or, zip}
+use Rattle.std.specs.List.{All}
 use Rattle.cell_units.specs.declared.piece.Piece.{Piece}
 use Rattle.cell_units.specs.declared.piece.PieceKind.{PieceKind}
 use Rattle.cell_units.specs.declared.place.Bias.{Bias}
@@ -91,6 +92,15 @@ abbrev pub row_at : Record → ℕ → Bias → ℕ
 row_at r o bias =
     let line = line_at r o bias in
     (spot_in_line (elements_at r line) (mark_at r line).width (place_at r o bias)).row
+
+-- the elements of a display line, each by itself
+abbrev pub elements_of_line : Record → ℕ → List RowPiece
+elements_of_line r line = bits (pieces_at r line) (elements_of (pieces_at r line) r.tab)
+
+-- the elements before a place end at or before an offset, and the others begin at or after it
+pub record LieApart (elements : List RowPiece) (place o : ℕ) : Type 0 where
+  pub before : All (λ e. e.end ≤ o) (take place elements)
+  pub others : All (λ e. o ≤ e.start) (drop place elements)
 
 -- what of a line's pieces doesn't move: their kinds and texts
 abbrev pub unplaced : List Piece → List (PieceKind × List ℕ)

@@ -1,5 +1,5 @@
 //! Laws of the pieces of rows, and of changed rows.
-ghost use Rattle.std.specs.Prelude.{◌-◌, ◌≡◌, ◌≤◌, ◌<◌, ◌+◌, ◌++◌, ◌∷◌, ℕ, [], List, flat_map, length, map, slice_index_or};
+ghost use Rattle.std.specs.Prelude.{◌-◌, ◌≡◌, ◌≤◌, ◌<◌, ◌+◌, ◌++◌, ◌∷◌, ℕ, [], List, true, flat_map, length, map, slice_index_or};
 ghost use Rattle.cell_units.specs.declared.piece.Piece.{Piece};
 ghost use Rattle.cell_units.specs.declared.place.Bias.{Bias};
 ghost use Rattle.cell_units.specs.Lawful.{IsAllowed, IsLawful, IsMarked};
@@ -10,11 +10,12 @@ ghost use Rattle.cell_units.specs.Record.{Record};
 ghost use Rattle.cell_line.specs.Elements.{elements_of};
 ghost use Rattle.cell_line.specs.Wrapping.{cuts_of};
 ghost use Rattle.plain_rows.specs.Rows.{rows_of};
+ghost use Rattle.plain_rows.specs.Spots.{is_open};
 ghost use Rattle.display_sheet.specs.LineStep.{line_step};
 ghost use Rattle.row_pieces.specs.declared.row_change.RowChange.{RowChange};
 ghost use Rattle.row_pieces.specs.declared.row_piece.RowPiece.{RowPiece};
 ghost use Rattle.row_pieces.specs.Pieces.{cells_in, indent_before, joined, pieces_by_row, pieces_in_rows, text_of};
-ghost use Rattle.row_pieces.specs.Laws.{AreApart, BeginsAt, IsBlockLine, IsShownAmong, KeepsBlocks, KeepsLooks, LeavesBlocks, PartsElements, bits_of_row, indent_at, line_at, place_at, row_at, unplaced};
+ghost use Rattle.row_pieces.specs.Laws.{AreApart, BeginsAt, IsBlockLine, IsShownAmong, KeepsBlocks, KeepsLooks, LeavesBlocks, LieApart, PartsElements, bits_of_row, elements_of_line, indent_at, line_at, place_at, row_at, unplaced};
 ghost use Rattle.row_pieces.specs.Changed.{IsLanded, IsTrue, RowLook, change, covering, look_of, looks, looks_by_line, rows_of_lines};
 
 /// Laws of the pieces of every record and of every line. Call it where one of them is wanted; it does nothing.
@@ -44,6 +45,11 @@ pub fn piece_laws()
         BeginsAt (elements_of pieces tab) width row before }
     ensures shown { (r : Record) (o : ℕ) (bias : Bias) → IsLawful r → o ≤ length r.text →
         IsShownAmong r o bias (line_at r o bias) (place_at r o bias) (row_at r o bias) }
+
+    // Where it is open, the elements before it end at or before its offset, and the others begin at or after it.
+    ensures open_place { (r : Record) (o : ℕ) (bias : Bias) → IsLawful r → o ≤ length r.text →
+        is_open r o bias ≡ true →
+        LieApart (elements_of_line r (line_at r o bias)) (place_at r o bias) o }
 {}
 
 /// Laws of changes of rows. It does nothing.

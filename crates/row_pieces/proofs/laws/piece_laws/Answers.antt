@@ -1,5 +1,6 @@
 use Rattle.row_pieces.proofs.Columns.{begins-at, row-pieces}
 use Rattle.row_pieces.proofs.Maximal.{joined-apart}
+use Rattle.row_pieces.proofs.OpenOffsets.{open-offsets}
 use Rattle.row_pieces.proofs.Parting.{parted-elements}
 use Rattle.row_pieces.proofs.PieceTexts.{joined-cells, rows-texts}
 use Rattle.row_pieces.proofs.ShownPieces.{shown-among}
@@ -25,3 +26,6 @@ returns-clause-begins c = begins-at
 
 pub returns-clause-shown : goal.returns-clause-shown
 returns-clause-shown c = shown-among
+
+pub returns-clause-open_place : goal.returns-clause-open_place
+returns-clause-open_place c = open-offsets
