@@ -19,4 +19,6 @@ pub mod PieceTexts
 pub mod Runs
 pub mod ShownPieces
 pub mod SplitPieces
+pub mod TouchedLines
+pub mod TrueChanges
 pub mod TrueLines

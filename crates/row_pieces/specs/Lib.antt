@@ -2,6 +2,7 @@
 pub mod Pieces
 pub mod Changed
 pub mod Laws
+pub mod Operated
 pub mod Worked
 pub mod Listed
 pub mod inside

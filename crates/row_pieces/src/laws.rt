@@ -5,7 +5,7 @@ ghost use Rattle.cell_units.specs.declared.place.Bias.{Bias};
 ghost use Rattle.cell_units.specs.Lawful.{IsAllowed, IsLawful, IsMarked};
 ghost use Rattle.cell_units.specs.LineCounts.{TouchesOneRun};
 ghost use Rattle.cell_units.specs.Operation.{Operation, operated};
-ghost use Rattle.cell_units.specs.Touched.{touched};
+ghost use Rattle.cell_units.specs.Touched.{EachLine, NoLine, RowRange, Rows, row_range, touched};
 ghost use Rattle.cell_units.specs.Record.{Record};
 ghost use Rattle.cell_line.specs.Elements.{elements_of};
 ghost use Rattle.cell_line.specs.Wrapping.{cuts_of};
@@ -16,7 +16,8 @@ ghost use Rattle.row_pieces.specs.declared.row_change.RowChange.{RowChange};
 ghost use Rattle.row_pieces.specs.declared.row_piece.RowPiece.{RowPiece};
 ghost use Rattle.row_pieces.specs.Pieces.{cells_in, indent_before, joined, pieces_by_row, pieces_in_rows, text_of};
 ghost use Rattle.row_pieces.specs.Laws.{AreApart, BeginsAt, IsBlockLine, IsShownAmong, KeepsBlocks, KeepsLooks, LeavesBlocks, LieApart, PartsElements, bits_of_row, elements_of_line, indent_at, line_at, place_at, row_at, unplaced};
-ghost use Rattle.row_pieces.specs.Changed.{IsLanded, IsTrue, RowLook, change, covering, look_of, looks, looks_by_line, rows_of_lines};
+ghost use Rattle.row_pieces.specs.Changed.{IsLanded, IsTrue, RowLook, change, covering, look_of, looks, looks_by_line, no_change, rows_of_lines};
+ghost use Rattle.row_pieces.specs.Operated.{AreAllowed, AreReplaced, AreTouched, Covers, IsChangeOf, lines_between, stepped_by};
 
 /// Laws of the pieces of every record and of every line. Call it where one of them is wanted; it does nothing.
 pub fn piece_laws()
@@ -50,6 +51,34 @@ pub fn piece_laws()
     ensures open_place { (r : Record) (o : ℕ) (bias : Bias) → IsLawful r → o ≤ length r.text →
         is_open r o bias ≡ true →
         LieApart (elements_of_line r (line_at r o bias)) (place_at r o bias) o }
+{}
+
+/// Laws of the rows that operations replace, one after another. It does nothing.
+pub fn operated_laws()
+    // The lines that an operation replaces are replaced truly, and so are their rows.
+    ensures lines { (operation : Operation) (r : Record) (lines : RowChange) →
+        IsLawful r → IsAllowed operation r → AreReplaced operation r lines →
+        IsTrue lines (looks_by_line r) (looks_by_line (line_step operation r)) }
+    ensures rows { (operation : Operation) (r : Record) (rows : RowChange) →
+        IsLawful r → IsAllowed operation r → IsChangeOf operation r rows →
+        IsTrue rows (looks r) (looks (line_step operation r)) }
+
+    // An operation that touches the rows from that of one offset to that of another replaces the lines from that of the
+    // start of the first row to that of the end of the last. One that touches each line replaces all.
+    ensures between { (operation : Operation) (r : Record) (a b : ℕ) (after : RowRange) →
+        IsLawful r → IsAllowed operation r → a ≤ b → b ≤ length r.text →
+        touched operation r ≡ Rows (row_range r.text a b) after →
+        AreTouched operation r (lines_between r (line_step operation r) a b) }
+    ensures each { (operation : Operation) (r : Record) → IsLawful r → IsAllowed operation r →
+        touched operation r ≡ EachLine →
+        AreTouched operation r (change 0 (length r.marks) (length (line_step operation r).marks)) }
+    ensures none { (operation : Operation) (r : Record) → IsLawful r → IsAllowed operation r →
+        touched operation r ≡ NoLine → AreTouched operation r no_change }
+
+    // What covers a change that was true and those of operations after it is true.
+    ensures covers { (c : RowChange) (ops : List Operation) (q r : Record) (all : RowChange) →
+        IsLawful r → AreAllowed ops r → IsTrue c (looks q) (looks r) → Covers c ops r all →
+        IsTrue all (looks q) (looks (stepped_by ops r)) }
 {}
 
 /// Laws of changes of rows. It does nothing.
