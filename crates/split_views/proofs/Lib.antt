@@ -7,3 +7,4 @@ pub mod Settled
 pub mod Taken
 pub mod Texts
 pub mod Wraps
+pub mod EachView

@@ -6,6 +6,7 @@
 mod each;
 mod laws;
 mod split;
+mod whole;
 mod wrapping;
 
 pub use laws::{idle_laws, view_laws};

@@ -91,6 +91,13 @@ impl<S: Sheet> SplitOn<S> {
         let _ = &self.displays;
     }
 
+    /// How many views there are.
+    pub fn views(&self) -> u32
+        ensures { result ≡ length self.now }
+    {
+        self.displays.len() as u32
+    }
+
     /// How many events each journal may still take.
     pub fn room(&self) -> u32
         ensures within { All (λ h. result + length h.events ≤ event_limit) self.now }
