@@ -10,3 +10,4 @@ pub mod Bounds
 pub mod Decimals
 pub mod Order
 pub mod Written
+pub mod ViewWords

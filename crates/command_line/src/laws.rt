@@ -8,6 +8,7 @@ ghost use Rattle.command_line.specs.Words.{IsWithinLimits, Key, Token, Word, giv
 ghost use Rattle.command_line.specs.Words.{is_name, number, plan_of_tokens, reading};
 ghost use Rattle.command_line.specs.Laws.{attached, of_names, of_seed, option_name, spaced};
 ghost use Rattle.command_line.specs.Laws.{written_names, written_seed};
+ghost use Rattle.command_line.specs.ViewWords.{asks_for_views, of_views, view_reading};
 
 /// What holds of every list of words or tokens. Where an option is among the others makes no difference, nor does
 /// whether its value is in its own word. An option that is there twice has no plan. It does nothing.
@@ -83,4 +84,31 @@ pub fn worked_refusals()
     ensures empty_word { reading (spaced (codes "a ")) ≡ None }
     ensures unknown_option { reading (spaced (codes "a b --work 3")) ≡ None }
     ensures help { reading (spaced (codes "a b --help")) ≡ None }
+{}
+
+/// Words that ask for views have no other reading, and words that don't have no plan of views. It does nothing.
+pub fn view_laws()
+    ensures no_run { (words : List Word) → asks_for_views words ≡ true → reading words ≡ None }
+    ensures no_views { (words : List Word) → asks_for_views words ≡ false → view_reading words ≡ None }
+{}
+
+/// Words that ask for views. It does nothing.
+pub fn worked_views()
+    ensures two { view_reading (spaced (codes "--views 2 a b"))
+        ≡ Some (of_views (codes "a") (codes "b") 2) }
+    ensures least { view_reading (spaced (codes "--views 1 a b"))
+        ≡ Some (of_views (codes "a") (codes "b") 1) }
+    ensures most { view_reading (spaced (codes "--views 8 a b"))
+        ≡ Some (of_views (codes "a") (codes "b") 8) }
+    ensures none { view_reading (spaced (codes "--views 0 a b")) ≡ None }
+    ensures nine { view_reading (spaced (codes "--views 9 a b")) ≡ None }
+    ensures leading_zero { view_reading (spaced (codes "--views 02 a b")) ≡ None }
+    ensures one_name { view_reading (spaced (codes "--views 2 a")) ≡ None }
+    ensures three_names { view_reading (spaced (codes "--views 2 a b c")) ≡ None }
+    ensures attached { view_reading (spaced (codes "--views=2 a b")) ≡ None }
+    ensures behind { view_reading (spaced (codes "a b --views 2")) ≡ None }
+    ensures hyphen { view_reading (spaced (codes "--views 2 -a b")) ≡ None }
+    ensures hyphen_behind { view_reading (spaced (codes "--views 2 a -b")) ≡ None }
+    ensures empty_name { view_reading (spaced (codes "--views 2 a ")) ≡ None }
+    ensures workers { view_reading (spaced (codes "--views 2 a b --workers 1")) ≡ None }
 {}

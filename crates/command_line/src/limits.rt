@@ -1,4 +1,4 @@
-//! How many threads the words may ask for.
+//! How many threads and views the words may ask for.
 
 /// The fewest workers.
 pub const WORKERS_LEAST: u32 = 1;
@@ -17,3 +17,9 @@ pub const WATCHERS_DEFAULT: u32 = 0;
 
 /// The greatest number from which a text and a script are made.
 pub const SEED_MOST: u32 = 4_294_967_295;
+
+/// The fewest views, where the words ask for views.
+pub const VIEWS_LEAST: u32 = 1;
+
+/// The most views.
+pub const VIEWS_MOST: u32 = 8;

@@ -47,7 +47,7 @@ fn is_decimal(value: &str) -> bool
 }
 
 /// The number of a value, if it is one and lies in the range.
-fn number(least: u32, most: u32, value: &str) -> Option<u32>
+pub(crate) fn number(least: u32, most: u32, value: &str) -> Option<u32>
     ensures { result ≡ number least most value.now }
 {
     if !is_decimal(value) {
@@ -73,7 +73,7 @@ fn number_said(missing: u32, least: u32, most: u32, value: Option<&str>) -> Opti
 }
 
 /// Whether a positional may name a file: it isn't empty and doesn't begin with a hyphen.
-fn is_name(word: &str) -> bool
+pub(crate) fn is_name(word: &str) -> bool
     ensures { result ≡ is_name word.now }
 {
     match word.as_bytes().first() {
