@@ -187,9 +187,9 @@ module _ (text : List ℕ) (entries : List (ℕ × Entry)) where
 
   pub follows-script : (workers : ℕ) (history : List Event) → IsLegalSoFar text entries workers history → FollowsScript text entries history
   follows-script workers history legal =
-      let owes = owing history legal.changes in
+      let owes = owing history legal.orderly.changes in
       let it = owes.1 in
-      record { lines = first-lines entries history legal.lines_in_order; operations = (owes.0, it.are) }
+      record { lines = first-lines entries history legal.orderly.lines_in_order; operations = (owes.0, it.are) }
 
   -- ---- the end
 
@@ -221,11 +221,11 @@ module _ (text : List ℕ) (entries : List (ℕ × Entry)) where
       let front = end.front in
       let at : slice_get history (length front) ≡ Some (Published true) = ap (λ l. slice_get l (length front)) end.parted ∙ at_end front (Published true) in
       let past : take (length front) history ≡ front = ap (take (length front)) end.parted ∙ take_at front (Published true ∷ []) (length front) refl in
-      let ending = legal.so_far.ending (length front) (Published true) at in
+      let ending = legal.so_far.orderly.ending (length front) (Published true) at in
       let all_done = subst (IsDone text entries) past (ending.is_done refl) in
       let few : length entries ≤ lines_in front = none_past entries (lines_in front) all_done.lines in
       let same : lines_in history ≡ lines_in front + 0 = ap lines_in end.parted ∙ lines-append front (Published true ∷ []) in
-      let owes = owing history legal.so_far.changes in
+      let owes = owing history legal.so_far.orderly.changes in
       let it = owes.1 in
       let none : owes.0 ≡ [] = elim it.left [
         | inl none ↦ none
@@ -234,7 +234,7 @@ module _ (text : List ℕ) (entries : List (ℕ × Entry)) where
             absurd (true≢false (sym (end-changes front (Published true) changing.past changing.number c.0 (sym end.parted ∙ changing.ends))))
       ] in
       record {
-        lines = first-lines entries history legal.so_far.lines_in_order
+        lines = first-lines entries history legal.so_far.orderly.lines_in_order
             ∙ take_all (lines_in history) (map (λ l. l.0) entries) (omega (arith, few, same, length-map entries (λ (l : ℕ × Entry). l.0)));
         operations = done-all history owes.0 it none;
       }

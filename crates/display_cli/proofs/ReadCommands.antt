@@ -1,23 +1,25 @@
 -- What a command inserts that is read from a line is UTF-8.
-use Rattle.std.proofs.Common.{◌≡◌, ℕ, Bool, true, false, List, length, Option, Some, None, option_map, All, IfSome, IsUtf8, refl, subst}
+use Rattle.std.proofs.Common.{◌≡◌, ℕ, Bool, true, false, List, [], ◌∷◌, length, Option, Some, None, option_map, All, IfSome, IsUtf8, refl, subst}
 use Rattle.std.specs.Prelude.{⊤, nat_lt, codes, bytes_eq, if◌then◌else◌, option_and_then}
+use Rattle.std.specs.List.{list_all}
 use Rattle.std.specs.Str.{is_utf8}
-use Rattle.std.proofs.lemmas.Bool.{cond_both}
+use Rattle.std.proofs.lemmas.Bool.{and_parts, cond_both}
 use Rattle.std.proofs.lemmas.List.Elements.{All-cons, All-nil}
 use Rattle.std.proofs.lemmas.Str.{IsUtf8-from_is_utf8}
 use Rattle.serde_json.specs.Data.{Data, Items, Members, array, boolean, item, member, no_items, no_members, null, number, object, string}
 use Rattle.serde_json.specs.Find.{as_array, as_bool, as_object, as_str}
 use Rattle.serde_json.specs.Read.{read}
 use Rattle.cell_units.specs.declared.fault.Refusal.{Refusal}
-use Rattle.cell_units.specs.declared.fault.Refusal.TheVariants.{BadNumber, TooLong}
+use Rattle.cell_units.specs.declared.fault.Refusal.TheVariants.{BadNumber, NotCommand, TooLong}
 use Rattle.cell_units.specs.Record.{Record}
 use Rattle.display_sheet.specs.declared.change.Splice.{Splice}
+use Rattle.display_sheet.specs.Changes.{Edit}
 use Rattle.display_map.specs.LawfulStates.{ChangeInsertsUtf8}
 use Rattle.edit_script.specs.declared.asked.Form.{Form}
 use Rattle.edit_script.specs.declared.blank.TheConstants.{LINE_LIMIT}
 use Rattle.edit_script.specs.Commands.{Apply, Ask, AskCaret, Command, Settle, aim_in, bias_in, command_at, command_named, command_of, command_of_value, four_in, member_in, move_in, number_in, number_of, numbers_in, only_member, place_in, select_in, side_in, splice_of, splices_of_items, texts_in, texts_of_items, three_in, two_in, value_of}
-use Rattle.edit_script.specs.Verdict.{Accepted, Refused, Verdict, command_refusal, form_verdict, is_over, refused_or, verdict}
-use Rattle.script_runner.specs.Entries.{Bytes, Entry, judged}
+use Rattle.edit_script.specs.Verdict.{Accepted, Refused, Verdict, command_refusal, command_verdict, form_verdict, is_over, refused_or, verdict}
+use Rattle.script_runner.specs.Entries.{Bytes, Edited, Entry, judged}
 use Rattle.display_cli.proofs.ReadValues.{AreUtf8Items, AreUtf8Members, IsUtf8Data, all_mapped, chained, read-utf8}
 use Rattle.display_cli.proofs.SpelledStrings.{either, onward}
 
@@ -211,5 +213,17 @@ by_line form r line =
     cond_both (nat_lt LINE_LIMIT (length line)) (Refused TooLong) (form_verdict r (command_of form r.text line)) (IfAccepted r) (λ e. tt)
     (λ e. by_command r (command_of form r.text line) (command-utf8 form r.text line))
 
+-- texts that are tested one by one
+tested-utf8 : (splices : List Splice) → list_all (λ s. is_utf8 s.text) splices ≡ true → InsertUtf8 splices
+tested-utf8 [] e = All-nil (λ (s : Splice). IsUtf8 s.text)
+tested-utf8 (s ∷ splices) e =
+    let P : Splice → Type 0 = λ s. IsUtf8 s.text in
+    let parts = and_parts (is_utf8 s.text) (list_all (λ s. is_utf8 s.text) splices) e in
+    All-cons P s splices (IsUtf8-from_is_utf8 s.text parts.0) (tested-utf8 splices parts.1)
+
 pub accepted-on : (r : Record) (entry : Entry) (command : Command) → judged r entry ≡ Accepted command → IsAcceptedOn r command
 accepted-on r (Bytes form line) command e = subst (IfAccepted r) e (by_line form r line)
+accepted-on r (Edited splices) command e =
+    subst (IfAccepted r) e
+    (cond_both (list_all (λ s. is_utf8 s.text) splices) (command_verdict r (Apply (Edit splices))) (Refused NotCommand) (IfAccepted r)
+    (λ u. by_command r (Some (Apply (Edit splices))) (tested-utf8 splices u)) (λ u. tt))

@@ -15,12 +15,12 @@ use Rattle.display_cli.proofs.LawfulRuns.{leads-to_lawful}
 use Rattle.display_cli.proofs.LinesOfRuns.{follows-script}
 
 pub legal-leads : (text : List ℕ) (entries : List (ℕ × Entry)) (workers : ℕ) (history : List Event) → IsText text → IsLegalSoFar text entries workers history → LeadsToLawful text history
-legal-leads text entries workers history is legal = leads-to_lawful text entries history is legal.changes
+legal-leads text entries workers history is legal = leads-to_lawful text entries history is legal.orderly.changes
 
 pub legal-keeps : (text : List ℕ) (entries : List (ℕ × Entry)) (workers : ℕ) (history : List Event) → IsText text → IsLegalSoFar text entries workers history → KeepsLines text history
 legal-keeps text entries workers history is legal =
     let leads = legal-leads text entries workers history is legal in
-    keeps-lines text is workers history leads.fits legal.sends legal.once
+    keeps-lines text is workers history leads.fits legal.orderly.sends legal.orderly.once
 
 module _ (plan : Plan) (run : Run) where
   of-legal : (read : HasRead plan run) → IsText (clean read.bytes) → IsLegalSoFar (clean read.bytes) (numbered_lines read.script) plan.workers run.history → HasLawfulHistory plan run

@@ -5,7 +5,7 @@ use Rattle.std.proofs.lemmas.List.{append-nil, drop_more}
 use Rattle.std.proofs.Math.Seq.{take-add}
 use Rattle.cell_units.specs.Text.{line_feed}
 use Rattle.script_runner.specs.Outside.{SinkState, HasRisen, Appends, Takes, TakesFront, Refuses}
-use Rattle.script_runner.specs.Output.{printed}
+use Rattle.script_runner.specs.Output.{printed_with}
 use Rattle.script_runner.specs.declared.stop.Stop.{Stop}
 use Rattle.script_runner.specs.declared.stop.Stop.TheVariants as stops
 use Rattle.script_runner.specs.Writing.{IsUnwritten}
@@ -77,66 +77,78 @@ unwritten-behind a b c p x q whole stops.JournalFull before it e = absurd it
 unwritten-behind a b c p x q whole stops.Memory before it e =
     (front-behind a b c p x q whole before it.0 e, it.1 ∙ before.passed)
 
--- lines of an answer that were written, before those that are left
-pub record AreWritten (all left : List (List ℕ)) (old new : SinkState) : Type 0 where
+-- lines of an answer that were written, each behind a prefix, before those that are left
+pub record AreWrittenWith (prefix : List ℕ) (all left : List (List ℕ)) (old new : SinkState) : Type 0 where
   pub front : List ℕ
   pub taken : Takes front old new
-  pub is_front : front ++ printed left ≡ printed all
+  pub is_front : front ++ printed_with prefix left ≡ printed_with prefix all
 
--- the next line, and the lines behind it
-line-first : (left rest : List (List ℕ)) (line : List ℕ) → Some line ≡ slice_get left 0 → rest ≡ drop 1 left
-    → (line ++ line_feed ∷ []) ++ printed rest ≡ printed left
-line-first [] rest line is e = cc
-line-first (l ∷ ls) rest line is e =
-    let same : line ≡ l = cc in ap (λ r. (line ++ line_feed ∷ []) ++ printed r) e ∙ ap (λ l. (l ++ line_feed ∷ []) ++ printed ls) same
+-- ... without one
+abbrev pub AreWritten : (all left : List (List ℕ)) (old new : SinkState) → Type 0
+AreWritten = AreWrittenWith []
 
-pub written-more : (all left rest : List (List ℕ)) (a b c : SinkState) (line : List ℕ) → AreWritten all left a b → Some line ≡ slice_get left 0 → rest ≡ drop 1 left
-    → Takes (line ++ line_feed ∷ []) b c → AreWritten all rest a c
-written-more all left rest a b c line before is e taken = record {
-  front = before.front ++ (line ++ line_feed ∷ []);
-  taken = takes-more a b c before.front (line ++ line_feed ∷ []) before.taken taken;
-  is_front = append_assoc before.front (line ++ line_feed ∷ []) (printed rest) ∙ (ap (λ l. before.front ++ l) (line-first left rest line is e) ∙ before.is_front);
-}
+module _ (prefix : List ℕ) where
+  -- a line with its prefix and its line feed
+  abbrev full : List ℕ → List ℕ
+  full line = prefix ++ (line ++ line_feed ∷ [])
 
--- the line wasn't written whole
-pub written-stopped : (all left rest : List (List ℕ)) (a b c : SinkState) (line : List ℕ) (stop : Stop) → AreWritten all left a b → Some line ≡ slice_get left 0
-    → rest ≡ drop 1 left → IsUnwritten (line ++ line_feed ∷ []) b c stop → IsUnwritten (printed all) a c stop
-written-stopped all left rest a b c line stop before is e why =
-    unwritten-behind a b c before.front (line ++ line_feed ∷ []) (printed rest) (printed all) stop before.taken why
-    (append_assoc before.front (line ++ line_feed ∷ []) (printed rest) ∙ (ap (λ l. before.front ++ l) (line-first left rest line is e) ∙ before.is_front))
+  -- the next line, and the lines behind it
+  line-first : (left rest : List (List ℕ)) (line : List ℕ) → Some line ≡ slice_get left 0 → rest ≡ drop 1 left
+      → full line ++ printed_with prefix rest ≡ printed_with prefix left
+  line-first [] rest line is e = cc
+  line-first (l ∷ ls) rest line is e =
+      let same : line ≡ l = cc in ap (λ r. full line ++ printed_with prefix r) e ∙ ap (λ l. full l ++ printed_with prefix ls) same
 
--- a first line of some, and the lines after it
-module _ (line : List ℕ) (lines : List (List ℕ)) (a b c : SinkState) (text : List ℕ) (stop : Stop) (e : text ≡ line) where
-  pub first-unwritten : IsUnwritten (text ++ line_feed ∷ []) a b stop → IsUnwritten (printed (line ∷ lines)) a b stop
-  first-unwritten why =
-      unwritten-behind a a b [] (text ++ line_feed ∷ []) (printed lines) (printed (line ∷ lines)) stop (takes-none a) why
-      (ap (λ t. (t ++ line_feed ∷ []) ++ printed lines) e)
+  pub written-more : (all left rest : List (List ℕ)) (a b c : SinkState) (line : List ℕ) → AreWrittenWith prefix all left a b
+      → Some line ≡ slice_get left 0 → rest ≡ drop 1 left → Takes (prefix ++ (line ++ line_feed ∷ [])) b c → AreWrittenWith prefix all rest a c
+  written-more all left rest a b c line before is e taken = record {
+    front = before.front ++ full line;
+    taken = takes-more a b c before.front (full line) before.taken taken;
+    is_front = append_assoc before.front (full line) (printed_with prefix rest)
+        ∙ (ap (λ l. before.front ++ l) (line-first left rest line is e) ∙ before.is_front);
+  }
 
-  pub others-unwritten : (some : List (List ℕ)) → some ≡ lines → Takes (text ++ line_feed ∷ []) a b → IsUnwritten (printed some) b c stop
-      → IsUnwritten (printed (line ∷ lines)) a c stop
-  others-unwritten some f taken why =
-      unwritten-behind a b c (text ++ line_feed ∷ []) (printed some) [] (printed (line ∷ lines)) stop taken why
-      (append-nil ((text ++ line_feed ∷ []) ++ printed some)
-      ∙ (ap (λ t. (t ++ line_feed ∷ []) ++ printed some) e ∙ ap (λ ls. (line ++ line_feed ∷ []) ++ printed ls) f))
+  -- the line wasn't written whole
+  pub written-stopped : (all left rest : List (List ℕ)) (a b c : SinkState) (line : List ℕ) (stop : Stop) → AreWrittenWith prefix all left a b
+      → Some line ≡ slice_get left 0 → rest ≡ drop 1 left → IsUnwritten (prefix ++ (line ++ line_feed ∷ [])) b c stop
+      → IsUnwritten (printed_with prefix all) a c stop
+  written-stopped all left rest a b c line stop before is e why =
+      unwritten-behind a b c before.front (full line) (printed_with prefix rest) (printed_with prefix all) stop before.taken why
+      (append_assoc before.front (full line) (printed_with prefix rest)
+      ∙ (ap (λ l. before.front ++ l) (line-first left rest line is e) ∙ before.is_front))
 
--- the lines of a list, one after the other
-module _ {X : Type 0} (line_of : X → List ℕ) (all : List X) (i : ℕ) (d : X) (lt : i < length all) (a b c : SinkState)
-    (before : AreWritten (map line_of all) (map line_of (drop i all)) a b) where
-  next-listed : AreWritten (map line_of all) (line_of (get_or all i d) ∷ map line_of (drop (i + 1) all)) a b
-  next-listed =
-      let P : List X → Type 0 = λ rest. AreWritten (map line_of all) (map line_of rest) a b in subst P (drop_more all i d lt) before
+  -- a first line of some, and the lines after it
+  module _ (line : List ℕ) (lines : List (List ℕ)) (a b c : SinkState) (text : List ℕ) (stop : Stop) (e : text ≡ line) where
+    pub first-unwritten : IsUnwritten (prefix ++ (text ++ line_feed ∷ [])) a b stop → IsUnwritten (printed_with prefix (line ∷ lines)) a b stop
+    first-unwritten why =
+        unwritten-behind a a b [] (full text) (printed_with prefix lines) (printed_with prefix (line ∷ lines)) stop (takes-none a) why
+        (ap (λ t. full t ++ printed_with prefix lines) e)
 
-  pub listed-written : (line : List ℕ) → line ≡ line_of (get_or all i d) → Takes (line ++ line_feed ∷ []) b c
-      → AreWritten (map line_of all) (map line_of (drop (i + 1) all)) a c
-  listed-written line e taken =
-      written-more (map line_of all) (line_of (get_or all i d) ∷ map line_of (drop (i + 1) all)) (map line_of (drop (i + 1) all)) a b c line
-      next-listed (ap Some e) refl taken
+    pub others-unwritten : (some : List (List ℕ)) → some ≡ lines → Takes (prefix ++ (text ++ line_feed ∷ [])) a b
+        → IsUnwritten (printed_with prefix some) b c stop → IsUnwritten (printed_with prefix (line ∷ lines)) a c stop
+    others-unwritten some f taken why =
+        unwritten-behind a b c (full text) (printed_with prefix some) [] (printed_with prefix (line ∷ lines)) stop taken why
+        (append-nil (full text ++ printed_with prefix some)
+        ∙ (ap (λ t. full t ++ printed_with prefix some) e ∙ ap (λ ls. full line ++ printed_with prefix ls) f))
 
-  pub listed-unwritten : (line : List ℕ) (stop : Stop) → line ≡ line_of (get_or all i d) → IsUnwritten (line ++ line_feed ∷ []) b c stop
-      → IsUnwritten (printed (map line_of all)) a c stop
-  listed-unwritten line stop e why =
-      written-stopped (map line_of all) (line_of (get_or all i d) ∷ map line_of (drop (i + 1) all)) (map line_of (drop (i + 1) all)) a b c line stop
-      next-listed (ap Some e) refl why
+  -- the lines of a list, one after the other
+  module _ {X : Type 0} (line_of : X → List ℕ) (all : List X) (i : ℕ) (d : X) (lt : i < length all) (a b c : SinkState)
+      (before : AreWrittenWith prefix (map line_of all) (map line_of (drop i all)) a b) where
+    next-listed : AreWrittenWith prefix (map line_of all) (line_of (get_or all i d) ∷ map line_of (drop (i + 1) all)) a b
+    next-listed =
+        let P : List X → Type 0 = λ rest. AreWrittenWith prefix (map line_of all) (map line_of rest) a b in subst P (drop_more all i d lt) before
+
+    pub listed-written : (line : List ℕ) → line ≡ line_of (get_or all i d) → Takes (prefix ++ (line ++ line_feed ∷ [])) b c
+        → AreWrittenWith prefix (map line_of all) (map line_of (drop (i + 1) all)) a c
+    listed-written line e taken =
+        written-more (map line_of all) (line_of (get_or all i d) ∷ map line_of (drop (i + 1) all)) (map line_of (drop (i + 1) all)) a b c line
+        next-listed (ap Some e) refl taken
+
+    pub listed-unwritten : (line : List ℕ) (stop : Stop) → line ≡ line_of (get_or all i d) → IsUnwritten (prefix ++ (line ++ line_feed ∷ [])) b c stop
+        → IsUnwritten (printed_with prefix (map line_of all)) a c stop
+    listed-unwritten line stop e why =
+        written-stopped (map line_of all) (line_of (get_or all i d) ∷ map line_of (drop (i + 1) all)) (map line_of (drop (i + 1) all)) a b c line stop
+        next-listed (ap Some e) refl why
 
 -- no line is left
 pub none-first : (left : List (List ℕ)) → None ≡ slice_get left 0 → left ≡ []

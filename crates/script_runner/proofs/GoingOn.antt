@@ -26,7 +26,7 @@ use Rattle.script_runner.specs.Going.{IsFree, Stage, at, IsGoing, IsCut, GoesOn}
 use Rattle.script_runner.proofs.LastLine.{begun-more}
 use Rattle.script_runner.proofs.Fronts.{front-all}
 use Rattle.script_runner.proofs.Snoc.{quiet-append, last-snoc, any-snoc}
-use Rattle.script_runner.proofs.Next.{legal-snoc, free-snoc, not-changing, next-sent, next-landed, next-published}
+use Rattle.script_runner.proofs.Next.{legal-quiet, free-snoc, not-changing, next-sent, next-landed, next-published}
 use Rattle.script_runner.proofs.Sends.{send-next}
 
 or-none-false : (a : Bool) → a ≡ false → (a || false) ≡ false
@@ -109,15 +109,15 @@ module _ (course : Course) (left : List (ℕ × Entry)) (tally : Tally) (sink : 
       → IsGoing course left tally (at h sink) → IsGoing course left tally (at (appended h (Sent job first count ∷ [])) sink)
   going-sent h job first count sending going =
       going-quiet course left tally (at h sink) (Sent job first count ∷ []) going refl
-      (legal-snoc h.opening course.entries course.workers h.events (Sent job first count) going.legal
-      (next-sent h.opening course.entries course.workers h.events job first count going.free (send-next course.workers (state_of h) job first count sending)))
+      (legal-quiet h.opening course.entries course.workers h.events (Sent job first count) going.legal
+      (next-sent h.opening course.entries course.workers h.events job first count going.free (send-next course.workers (state_of h) job first count sending)) refl)
       (free-snoc h.opening course.entries h.events (Sent job first count) refl refl refl going.free.goes_on)
 
   landed-legal : (h : History) (job : ℕ) → IsOut (state_of h) job → IsGoing course left tally (at h sink)
       → IsLegalSoFar h.opening course.entries course.workers (h.events ++ Landed job ∷ [])
   landed-legal h job out going =
-      legal-snoc h.opening course.entries course.workers h.events (Landed job) going.legal
-      (next-landed h.opening course.entries course.workers h.events job going.free out)
+      legal-quiet h.opening course.entries course.workers h.events (Landed job) going.legal
+      (next-landed h.opening course.entries course.workers h.events job going.free out) refl
 
   -- a job landed, and its version was published
   going-landed : (h : History) (job : ℕ) → IsOut (state_of h) job
@@ -128,9 +128,9 @@ module _ (course : Course) (left : List (ℕ × Entry)) (tally : Tally) (sink : 
       let landed : List Event = h.events ++ Landed job ∷ [] in
       let goes_on : list_any is_end landed ≡ false = any-snoc is_end h.events (Landed job) ∙ or-none-false (list_any is_end h.events) going.free.goes_on in
       let legal : IsLegalSoFar text entries course.workers (landed ++ Published false ∷ []) =
-      legal-snoc text entries course.workers landed (Published false) (landed-legal h job out going)
+      legal-quiet text entries course.workers landed (Published false) (landed-legal h job out going)
       (next-published text entries course.workers landed (λ done rest op c. not-changing text entries h.events (Landed job) refl done (op ∷ rest) c)
-      (inr (ap is_landed (last-snoc None h.events (Landed job)))) goes_on) in
+      (inr (ap is_landed (last-snoc None h.events (Landed job)))) goes_on) refl in
       let free : IsFree text entries (landed ++ Published false ∷ []) = free-snoc text entries landed (Published false) refl refl refl goes_on in
       let e : landed ++ Published false ∷ [] ≡ h.events ++ (Landed job ∷ (Published false ∷ [])) = append_assoc h.events (Landed job ∷ []) (Published false ∷ []) in
       let L : List Event → Type 0 = λ l. IsLegalSoFar text entries course.workers l in

@@ -7,6 +7,7 @@ pub mod Ready
 pub mod GoingOn
 pub mod Results
 pub mod Fronts
+pub mod Orderly
 pub mod Lines
 pub mod Handled
 pub mod Played

@@ -12,7 +12,7 @@ use Rattle.display_map.specs.Replay.{History, state_of, present_of, appended}
 use Rattle.edit_script.specs.Commands.{Command}
 use Rattle.edit_script.specs.Verdict.{Accepted, ops_of}
 use Rattle.script_runner.specs.Entries.{Entry, judged}
-use Rattle.script_runner.specs.Legal.{IsLegalSoFar, IsChanging, IsChanged, is_line, is_end, lines_in, next_entry, next_verdict, is_landed, needs_settled}
+use Rattle.script_runner.specs.Legal.{IsLegalSoFar, IsOrderlySoFar, IsChanging, IsChanged, is_line, is_end, lines_in, next_entry, next_verdict, is_landed, needs_settled}
 use Rattle.script_runner.specs.Outside.{SinkState, Takes, TakesFront}
 use Rattle.script_runner.specs.declared.tally.Tally.{Tally}
 use Rattle.script_runner.specs.Output.{answered, answer, printed, refusals_in, tally_of}
@@ -21,7 +21,8 @@ use Rattle.script_runner.specs.Course.{Course, IsStopped}
 use Rattle.script_runner.specs.Going.{IsFree, at, IsGoing, MayHandle, changed}
 use Rattle.script_runner.proofs.Snoc.{quiet-append, answered-snoc, tally-snoc, lines-append, last-snoc, any-snoc}
 use Rattle.script_runner.proofs.LastLine.{dids, same-end, end-not-empty, begun-more, dids-more}
-use Rattle.script_runner.proofs.Next.{legal-snoc, free-snoc, next-line-event, next-did, next-published, all-done}
+use Rattle.script_runner.proofs.Next.{legal-snoc, next-line-event, still-unsettled}
+use Rattle.script_runner.proofs.Orderly.{dids-orderly, dids-quiet, line-free, published-free, published-orderly}
 use Rattle.script_runner.proofs.Unsettled.{is-settled, lands-first}
 use Rattle.script_runner.proofs.Sends.{none-wait}
 use Rattle.script_runner.proofs.Fronts.{takes-more, takes-none, takes-same, front-all, front-behind}
@@ -29,18 +30,6 @@ use Rattle.script_runner.proofs.GoingOn.{stopped-at}
 
 some-same : {X : Type 0} (x y : X) → Some x ≡ Some y → x ≡ y
 some-same x y e = cc
-
-or-none-false : (a : Bool) → a ≡ false → (a || false) ≡ false
-or-none-false true e = e
-or-none-false false e = refl
-
-end-not-empty' : (done : List Operation) (op : Operation) (rest : List Operation) → done ++ (op ∷ rest) ≡ [] → ⊥
-end-not-empty' [] op rest e = cc
-end-not-empty' (x ∷ done) op rest e = cc
-
-dids-quiet : (ops : List Operation) → list_any is_line (dids ops) ≡ false
-dids-quiet [] = refl
-dids-quiet (op ∷ ops) = dids-quiet ops
 
 accepted-same' : (a b : Command) → Accepted a ≡ Accepted b → a ≡ b
 accepted-same' a b e = cc
@@ -95,10 +84,11 @@ module _ (course : Course) (number : ℕ) (entry : Entry) (left : List (ℕ × E
       legal-snoc h.opening course.entries course.workers h.events (Line number) going.legal
       (next-line-event h.opening course.entries course.workers h.events number going.free (ap (option_map (λ l. l.0)) it-is-next)
       (λ wanted. is-settled h (needs_settled (Some (judged (present_of h) entry))) (sym (ap needs_settled its-verdict) ∙ wanted) may.prepared)
-      (λ calm. lands-first h (needs_settled (Some (judged (present_of h) entry))) (sym (ap needs_settled its-verdict) ∙ calm) may.prepared) (elim may.busy [
+      (elim may.busy [
         | inl none ↦ inl (none-wait (state_of h) none)
         | inr full ↦ inr full
       ]))
+      (λ n it calm. lands-first h (needs_settled (Some (judged (present_of h) entry))) (sym (ap needs_settled its-verdict) ∙ calm) may.prepared)
 
   -- while its answer is written
   pub stopped-line : MayHandle course.workers h (judged (present_of h) entry) → (lines : List (List ℕ)) (then : SinkState)
@@ -120,7 +110,7 @@ module _ (course : Course) (number : ℕ) (entry : Entry) (left : List (ℕ × E
       record {
         opening = going.opening;
         legal = its-legal may;
-        free = free-line;
+        free = line-free h.opening course.entries h.events number going.free idle-verdict;
         lines = its-lines;
         written = takes-same course.sink then _ _
             (ap (λ l. answered h.opening course.entries h.events ++ printed l) (sym is) ∙ sym its-answer)
@@ -131,67 +121,28 @@ module _ (course : Course) (number : ℕ) (entry : Entry) (left : List (ℕ × E
       idle-verdict : (command : Command) → next_verdict h.opening course.entries h.events ≡ Some (Accepted command) → ops_of command ≡ []
       idle-verdict command e = idle command (some-same (judged (present_of h) entry) (Accepted command) (sym its-verdict ∙ e))
 
-      not-going : (done rest : List Operation) (op : Operation) → IsChanging h.opening course.entries (h.events ++ Line number ∷ []) done (op ∷ rest) → ⊥
-      not-going done rest op c =
-          let same = same-end h.events c.past number c.number [] done c.ends in
-          let pasts : h.events ≡ c.past = same.past in
-          let none : ops_of c.command ≡ [] = idle-verdict c.command (ap (next_verdict h.opening course.entries) pasts ∙ c.accepted) in
-          end-not-empty' done op rest (sym c.operations ∙ none)
-
-      not-changed : IsChanged h.opening course.entries (h.events ++ Line number ∷ []) → ⊥
-      not-changed c =
-          let same = same-end h.events c.2.past number c.2.number [] (c.0 ∷ c.1) c.2.ends in
-          let none : [] ≡ (c.0 ∷ c.1) = same.done in cc
-
-      free-line : IsFree h.opening course.entries (h.events ++ Line number ∷ [])
-      free-line =
-          record {
-            begun = end-not-empty h.events (Line number) [];
-            unchanging = not-going;
-            unchanged = not-changed;
-            unlanded = ap is_landed (last-snoc None h.events (Line number));
-            goes_on = any-snoc is_end h.events (Line number) ∙ or-none-false (list_any is_end h.events) going.free.goes_on;
-          }
+-- a history goes on without a line
+still-legal : (text : List ℕ) (entries : List (ℕ × Entry)) (workers : ℕ) (h more : List Event) → list_any is_line more ≡ false
+    → IsLegalSoFar text entries workers h → IsOrderlySoFar text entries workers (h ++ more) → IsLegalSoFar text entries workers (h ++ more)
+still-legal text entries workers h more quiet legal orderly =
+    record { orderly = orderly; unsettled = still-unsettled text entries h more quiet legal.unsettled }
 
 -- behind the operations of a command and its version
 module _ (text : List ℕ) (entries : List (ℕ × Entry)) (workers : ℕ) (past : List Event) (number : ℕ) (command : Command)
     (accepted : next_verdict text entries past ≡ Some (Accepted command)) (open_before : list_any is_end past ≡ false) where
-  open-dids : (done : List Operation) → list_any is_end (past ++ (Line number ∷ dids done)) ≡ false
-  open-dids done =
-      list_any-append is_end past (Line number ∷ dids done)
-      ∙ (ap (λ b. b || list_any is_end (Line number ∷ dids done)) open_before ∙ none-end done)
-    where
-      none-end : (done : List Operation) → list_any is_end (dids done) ≡ false
-      none-end [] = refl
-      none-end (op ∷ done) = none-end done
-
   dids-legal : (done rest : List Operation) → ops_of command ≡ done ++ rest
       → IsLegalSoFar text entries workers (past ++ (Line number ∷ dids done))
       → IsLegalSoFar text entries workers ((past ++ (Line number ∷ dids done)) ++ dids rest)
-  dids-legal done [] operations legal =
-      let P : List Event → Type 0 = λ l. IsLegalSoFar text entries workers l in
-      subst P (sym (append-nil (past ++ (Line number ∷ dids done)))) legal
-  dids-legal done (op ∷ rest) operations legal =
-      let P : List Event → Type 0 = λ l. IsLegalSoFar text entries workers l in
-      let one = legal-snoc text entries workers (past ++ (Line number ∷ dids done)) (Did op) legal
-      (next-did text entries past number command workers done rest op accepted operations (open-dids done)) in
-      let all = dids-legal (done ++ op ∷ []) rest (operations ∙ sym (append_assoc done (op ∷ []) rest))
-      (subst P (dids-more past number done op) one) in
-      subst P (ap (λ l. l ++ dids rest) (sym (dids-more past number done op))
-      ∙ append_assoc (past ++ (Line number ∷ dids done)) (Did op ∷ []) (dids rest)) all
+  dids-legal done rest operations legal =
+      still-legal text entries workers (past ++ (Line number ∷ dids done)) (dids rest) (dids-quiet rest) legal
+      (dids-orderly text entries workers past number command accepted open_before done rest operations legal.orderly)
 
   published-legal : (op : Operation) (ops : List Operation) → ops_of command ≡ (op ∷ ops)
       → IsLegalSoFar text entries workers (past ++ (Line number ∷ dids (op ∷ ops)))
       → IsLegalSoFar text entries workers ((past ++ (Line number ∷ dids (op ∷ ops))) ++ Published false ∷ [])
   published-legal op ops operations legal =
-      legal-snoc text entries workers (past ++ (Line number ∷ dids (op ∷ ops))) (Published false) legal
-      (next-published text entries workers (past ++ (Line number ∷ dids (op ∷ ops)))
-      (λ done rest o c. all-done text entries past number command (op ∷ ops) rest o done accepted operations c)
-      (inl (op, ops, record { past = past; number = number; command = command; ends = refl; accepted = accepted; operations = operations ∙ sym (append-nil (op ∷ ops)) }))
-      (open-dids (op ∷ ops)))
-
-  published-free : (ops : List Operation) → IsFree text entries ((past ++ (Line number ∷ dids ops)) ++ Published false ∷ [])
-  published-free ops = free-snoc text entries (past ++ (Line number ∷ dids ops)) (Published false) refl refl refl (open-dids ops)
+      still-legal text entries workers (past ++ (Line number ∷ dids (op ∷ ops))) (Published false ∷ []) refl legal
+      (published-orderly text entries workers past number command accepted open_before op ops operations legal.orderly)
 
 changed-quiet : (ops : List Operation) → list_any is_line (changed ops) ≡ false
 changed-quiet [] = refl

@@ -1,5 +1,5 @@
 -- Which event may come next in a legal history.
-use Rattle.std.proofs.Common.{◌≡◌, ℕ, ◌*◌, ◌⊎◌, inl, inr, true, false, List, [], ◌∷◌, ◌++◌, Option, Some, None, refl, sym, ap, ◌∙◌, subst, true≢false}
+use Rattle.std.proofs.Common.{◌≡◌, ℕ, ◌*◌, ◌⊎◌, inl, inr, true, false, List, [], ◌∷◌, ◌++◌, Option, Some, None, refl, sym, ap, ◌∙◌, subst, append_assoc, true≢false}
 use Rattle.std.specs.Option.{option_map}
 use Rattle.std.specs.List.{last_or, list_any}
 use Rattle.std.proofs.lemmas.List.{append-nil}
@@ -11,12 +11,12 @@ use Rattle.edit_script.specs.Commands.{Command}
 use Rattle.edit_script.specs.Verdict.{Accepted, ops_of}
 use Rattle.script_runner.specs.Entries.{Entry}
 use Rattle.live_display.specs.Beside.{outstanding}
-use Rattle.script_runner.specs.Legal.{needs_settled, Opens, TakesNextLine, IsChanging, IsChanged, DoesChanges, PublishesLandings, IsSend, Sends, LandsOnce, AnswersSettled, LandsFirst, GoesUnsettled, KeepsBusy, IsDone, Ends, IsLegalSoFar, history_of, next_entry, next_verdict, is_landed, is_end}
+use Rattle.script_runner.specs.Legal.{AtEach, needs_settled, Opens, TakesNextLine, IsChanging, IsChanged, DoesChanges, PublishesLandings, IsSend, Sends, LandsOnce, AnswersSettled, GoesUnsettled, KeepsBusy, IsDone, Ends, IsLegalSoFar, IsOrderlySoFar, history_of, next_entry, next_verdict, is_landed, is_line, is_end}
 use Rattle.script_runner.specs.Going.{IsFree}
-use Rattle.script_runner.proofs.Snoc.{AtEach-snoc, last-snoc, any-snoc}
+use Rattle.script_runner.proofs.Snoc.{AtEach-snoc, last-snoc, any-snoc, or-left, or-right}
 use Rattle.script_runner.proofs.LastLine.{dids, is_change, same-end, end-changes, end-not-empty, append-same}
 
--- all that a legal history asks of its next event
+-- all that an orderly history asks of its next event
 pub record IsNext (text : List ℕ) (entries : List (ℕ × Entry)) (workers : ℕ) (past : List Event) (e : Event) : Type 0 where
   pub opening : Opens past e
   pub lines_in_order : TakesNextLine entries past e
@@ -25,26 +25,73 @@ pub record IsNext (text : List ℕ) (entries : List (ℕ × Entry)) (workers : �
   pub sends : Sends text workers past e
   pub once : LandsOnce text past e
   pub settled : AnswersSettled text entries past e
-  pub unsettled : GoesUnsettled text entries past e
   pub busy : KeepsBusy text workers past e
   pub ending : Ends text entries past e
 
+pub none-each : (P : List Event → Event → Type 0) → AtEach P []
+none-each P k e at = cc
+
+-- nothing happened yet
+pub none-orderly : (text : List ℕ) (entries : List (ℕ × Entry)) (workers : ℕ) → IsOrderlySoFar text entries workers []
+none-orderly text entries workers =
+    record {
+      opening = none-each Opens;
+      lines_in_order = none-each (TakesNextLine entries);
+      changes = none-each (DoesChanges text entries);
+      landings = none-each (PublishesLandings text entries);
+      sends = none-each (Sends text workers);
+      once = none-each (LandsOnce text);
+      settled = none-each (AnswersSettled text entries);
+      busy = none-each (KeepsBusy text workers);
+      ending = none-each (Ends text entries);
+    }
+
+pub orderly-snoc :
+    (text : List ℕ) (entries : List (ℕ × Entry)) (workers : ℕ) (h : List Event) (e : Event)
+    → IsOrderlySoFar text entries workers h → IsNext text entries workers h e → IsOrderlySoFar text entries workers (h ++ e ∷ [])
+orderly-snoc text entries workers h e orderly next =
+    record {
+      opening = AtEach-snoc Opens h e orderly.opening next.opening;
+      lines_in_order = AtEach-snoc (TakesNextLine entries) h e orderly.lines_in_order next.lines_in_order;
+      changes = AtEach-snoc (DoesChanges text entries) h e orderly.changes next.changes;
+      landings = AtEach-snoc (PublishesLandings text entries) h e orderly.landings next.landings;
+      sends = AtEach-snoc (Sends text workers) h e orderly.sends next.sends;
+      once = AtEach-snoc (LandsOnce text) h e orderly.once next.once;
+      settled = AtEach-snoc (AnswersSettled text entries) h e orderly.settled next.settled;
+      busy = AtEach-snoc (KeepsBusy text workers) h e orderly.busy next.busy;
+      ending = AtEach-snoc (Ends text entries) h e orderly.ending next.ending;
+    }
+
 pub legal-snoc :
     (text : List ℕ) (entries : List (ℕ × Entry)) (workers : ℕ) (h : List Event) (e : Event)
-    → IsLegalSoFar text entries workers h → IsNext text entries workers h e → IsLegalSoFar text entries workers (h ++ e ∷ [])
-legal-snoc text entries workers h e legal next =
+    → IsLegalSoFar text entries workers h → IsNext text entries workers h e → GoesUnsettled text entries h e
+    → IsLegalSoFar text entries workers (h ++ e ∷ [])
+legal-snoc text entries workers h e legal next unsettled =
     record {
-      opening = AtEach-snoc Opens h e legal.opening next.opening;
-      lines_in_order = AtEach-snoc (TakesNextLine entries) h e legal.lines_in_order next.lines_in_order;
-      changes = AtEach-snoc (DoesChanges text entries) h e legal.changes next.changes;
-      landings = AtEach-snoc (PublishesLandings text entries) h e legal.landings next.landings;
-      sends = AtEach-snoc (Sends text workers) h e legal.sends next.sends;
-      once = AtEach-snoc (LandsOnce text) h e legal.once next.once;
-      settled = AtEach-snoc (AnswersSettled text entries) h e legal.settled next.settled;
-      unsettled = AtEach-snoc (GoesUnsettled text entries) h e legal.unsettled next.unsettled;
-      busy = AtEach-snoc (KeepsBusy text workers) h e legal.busy next.busy;
-      ending = AtEach-snoc (Ends text entries) h e legal.ending next.ending;
+      orderly = orderly-snoc text entries workers h e legal.orderly next;
+      unsettled = AtEach-snoc (GoesUnsettled text entries) h e legal.unsettled unsettled;
     }
+
+-- ... where the event is no line
+pub legal-quiet :
+    (text : List ℕ) (entries : List (ℕ × Entry)) (workers : ℕ) (h : List Event) (e : Event)
+    → IsLegalSoFar text entries workers h → IsNext text entries workers h e → is_line e ≡ false
+    → IsLegalSoFar text entries workers (h ++ e ∷ [])
+legal-quiet text entries workers h e legal next quiet =
+    legal-snoc text entries workers h e legal next (λ number it q. absurd (true≢false (sym (ap is_line it) ∙ quiet)))
+
+-- ... and where events are no lines no job is waited for
+pub still-unsettled :
+    (text : List ℕ) (entries : List (ℕ × Entry)) (h more : List Event) → list_any is_line more ≡ false
+    → AtEach (GoesUnsettled text entries) h → AtEach (GoesUnsettled text entries) (h ++ more)
+still-unsettled text entries h [] quiet each =
+    let P : List Event → Type 0 = λ l. AtEach (GoesUnsettled text entries) l in subst P (sym (append-nil h)) each
+still-unsettled text entries h (e ∷ more) quiet each =
+    let P : List Event → Type 0 = λ l. AtEach (GoesUnsettled text entries) l in
+    let one = or-left (is_line e) (list_any is_line more) quiet in
+    subst P (append_assoc h (e ∷ []) more)
+    (still-unsettled text entries (h ++ e ∷ []) more (or-right (is_line e) (list_any is_line more) quiet)
+    (AtEach-snoc (GoesUnsettled text entries) h e each (λ number it q. absurd (true≢false (sym (ap is_line it) ∙ one)))))
 
 -- behind an event that is neither a line nor an operation no change is under way
 pub not-changing :
@@ -90,7 +137,6 @@ next-opening text entries workers =
       sends = λ job first count e. cc;
       once = λ job e. cc;
       settled = λ number e q. cc;
-      unsettled = λ number e q. absurd (cc);
       busy = λ number e. cc;
       ending = record { is_done = λ e. cc; none_behind = refl };
     }
@@ -121,7 +167,6 @@ next-sent text entries workers h job first count free send =
       sends = λ j f c e. let P : Event → Type 0 = IsSendAt workers (state_of (history_of text h)) in subst P e send;
       once = λ j e. cc;
       settled = λ number e q. cc;
-      unsettled = λ number e q. absurd (cc);
       busy = λ number e. cc;
       ending = record { is_done = λ e. cc; none_behind = free.goes_on };
     }
@@ -152,7 +197,6 @@ next-landed text entries workers h job free out =
       sends = λ j f c e. cc;
       once = λ j e. let P : Event → Type 0 = job-is (state_of (history_of text h)) in subst P e out;
       settled = λ number e q. cc;
-      unsettled = λ number e q. absurd (cc);
       busy = λ number e. cc;
       ending = record { is_done = λ e. cc; none_behind = free.goes_on };
     }
@@ -176,7 +220,6 @@ next-published text entries workers h unchanging owed goes_on =
       sends = λ j f c e. cc;
       once = λ j e. cc;
       settled = λ number e q. cc;
-      unsettled = λ number e q. absurd (cc);
       busy = λ number e. cc;
       ending = record { is_done = λ e. cc; none_behind = goes_on };
     }
@@ -201,22 +244,20 @@ next-last text entries workers h free is_done =
       sends = λ j f c e. cc;
       once = λ j e. cc;
       settled = λ number e q. cc;
-      unsettled = λ number e q. absurd (cc);
       busy = λ number e. cc;
       ending = record { is_done = λ e. is_done; none_behind = free.goes_on };
     }
 
--- where no event is owed, the next line may be handled: all stands wrapped where it wants that, and else no job was waited
--- for; and no line of the display waits or as many jobs are out as may be
+-- where no event is owed, the next line may be handled: all stands wrapped where it wants that, and no line of the display
+-- waits or as many jobs are out as may be
 pub next-line-event :
     (text : List ℕ) (entries : List (ℕ × Entry)) (workers : ℕ) (h : List Event) (number : ℕ)
     → IsFree text entries h → option_map (λ l. l.0) (next_entry entries h) ≡ Some number
     → (needs_settled (next_verdict text entries h) ≡ true → is_settled (state_of (history_of text h)).present ≡ true)
-    → (needs_settled (next_verdict text entries h) ≡ false → LandsFirst h)
     → (list_any (waits (state_of (history_of text h))) (state_of (history_of text h)).present.marks ≡ false)
     ⊎ (outstanding (state_of (history_of text h)) ≡ 2 * workers)
     → IsNext text entries workers h (Line number)
-next-line-event text entries workers h number free line settled unsettled busy =
+next-line-event text entries workers h number free line settled busy =
     record {
       opening = λ e. absurd (free.begun e);
       lines_in_order = λ n e. line ∙ ap Some (line-same number n e);
@@ -232,7 +273,6 @@ next-line-event text entries workers h number free line settled unsettled busy =
       sends = λ j f c e. cc;
       once = λ j e. cc;
       settled = λ n e q. settled q;
-      unsettled = λ n e q. unsettled q;
       busy = λ n e. busy;
       ending = record { is_done = λ e. cc; none_behind = free.goes_on };
     }
@@ -307,7 +347,6 @@ module _ (text : List ℕ) (entries : List (ℕ × Entry)) (past : List Event) (
         sends = λ j f c e. cc;
         once = λ j e. cc;
         settled = λ n e q. cc;
-        unsettled = λ n e q. absurd (cc);
         busy = λ n e. cc;
         ending = record { is_done = λ e. cc; none_behind = goes_on };
       }

@@ -24,7 +24,7 @@ use Rattle.script_runner.specs.Course.{Course}
 use Rattle.script_runner.specs.Going as going
 use Rattle.script_runner.specs.Going.{Stage, at, AreHandled, IsGoing, IsCut, IsPlayed, HasEnded, HasRoomAhead, numbered_from}
 use Rattle.script_runner.proofs.Snoc.{quiet-append, last-snoc}
-use Rattle.script_runner.proofs.Next.{legal-snoc, free-snoc, next-opening, next-last}
+use Rattle.script_runner.proofs.Next.{free-snoc, legal-quiet, next-opening, next-last, none-each, none-orderly}
 use Rattle.script_runner.proofs.Fronts.{takes-none}
 use Rattle.script_runner.proofs.Lines.{none-left}
 
@@ -119,24 +119,10 @@ pub lines-all : (xs : List ℕ) → 0 < length xs → position is_feed xs ≡ No
 lines-all [] some e = absurd (omega arith)
 lines-all (x ∷ xs) some e = lines-none x xs (no-feed (x ∷ xs) e)
 
-none-each : (P : List Event → Event → Type 0) → AtEach P []
-none-each P k e at = cc
-
 -- nothing happened yet
 none-legal : (text : List ℕ) (entries : List (ℕ × Entry)) (workers : ℕ) → IsLegalSoFar text entries workers []
 none-legal text entries workers =
-    record {
-      opening = none-each Opens;
-      lines_in_order = none-each (TakesNextLine entries);
-      changes = none-each (DoesChanges text entries);
-      landings = none-each (PublishesLandings text entries);
-      sends = none-each (Sends text workers);
-      once = none-each (LandsOnce text);
-      settled = none-each (AnswersSettled text entries);
-      unsettled = none-each (GoesUnsettled text entries);
-      busy = none-each (KeepsBusy text workers);
-      ending = none-each (Ends text entries);
-    }
+    record { orderly = none-orderly text entries workers; unsettled = none-each (GoesUnsettled text entries) }
 
 module _ (h : History) (fresh : h.events ≡ []) where
   pub going-fresh : (entries : List (ℕ × Entry)) (workers watchers : ℕ) (sink : SinkState)
@@ -147,7 +133,7 @@ module _ (h : History) (fresh : h.events ≡ []) where
       (at (record { opening = h.opening; events = events ++ Published false ∷ [] }) sink) in
       subst P (sym fresh) (record {
         opening = refl;
-        legal = legal-snoc h.opening entries workers [] (Published false) (none-legal h.opening entries workers) (next-opening h.opening entries workers);
+        legal = legal-quiet h.opening entries workers [] (Published false) (none-legal h.opening entries workers) (next-opening h.opening entries workers) refl;
         free = free-snoc h.opening entries [] (Published false) refl refl refl refl;
         lines = refl;
         written = takes-none sink;
@@ -175,7 +161,7 @@ played course tally s going settled landed room =
     record {
       opening = going.opening;
       legal = subst L going.opening (record {
-        so_far = legal-snoc h.opening course.entries course.workers h.events (Published true) going.legal (next-last h.opening course.entries course.workers h.events going.free is_done);
+        so_far = legal-quiet h.opening course.entries course.workers h.events (Published true) going.legal (next-last h.opening course.entries course.workers h.events going.free is_done) refl;
         ends = last-snoc None h.events (Published true);
       });
       written = subst T going.opening (subst W (sym quiet.answered) going.written);

@@ -137,8 +137,8 @@ pub record Ends (text : List ℕ) (entries : List (ℕ × Entry)) (past : List E
   pub is_done : e ≡ Published true → IsDone text entries past
   pub none_behind : list_any is_end past ≡ false
 
--- the history of a run so far
-pub record IsLegalSoFar (text : List ℕ) (entries : List (ℕ × Entry)) (workers : ℕ) (history : List Event) : Type 0 where
+-- nine facts of each event of a history, whoever wraps its lines
+pub record IsOrderlySoFar (text : List ℕ) (entries : List (ℕ × Entry)) (workers : ℕ) (history : List Event) : Type 0 where
   pub opening : AtEach Opens history
   pub lines_in_order : AtEach (TakesNextLine entries) history
   pub changes : AtEach (DoesChanges text entries) history
@@ -146,9 +146,18 @@ pub record IsLegalSoFar (text : List ℕ) (entries : List (ℕ × Entry)) (worke
   pub sends : AtEach (Sends text workers) history
   pub once : AtEach (LandsOnce text) history
   pub settled : AtEach (AnswersSettled text entries) history
-  pub unsettled : AtEach (GoesUnsettled text entries) history
   pub busy : AtEach (KeepsBusy text workers) history
   pub ending : AtEach (Ends text entries) history
+
+-- it is orderly to its last version
+pub record IsOrderly (text : List ℕ) (entries : List (ℕ × Entry)) (workers : ℕ) (history : List Event) : Type 0 where
+  pub so_far : IsOrderlySoFar text entries workers history
+  pub ends : last_or None history ≡ Some (Published true)
+
+-- the history of a run so far
+pub record IsLegalSoFar (text : List ℕ) (entries : List (ℕ × Entry)) (workers : ℕ) (history : List Event) : Type 0 where
+  pub orderly : IsOrderlySoFar text entries workers history
+  pub unsettled : AtEach (GoesUnsettled text entries) history
 
 -- the history of a finished run ends with the last version
 pub record IsLegal (text : List ℕ) (entries : List (ℕ × Entry)) (workers : ℕ) (history : List Event) : Type 0 where

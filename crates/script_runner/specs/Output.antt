@@ -6,7 +6,7 @@ use Rattle.cell_units.specs.Record.{Record, line_count}
 use Rattle.plain_rows.specs.Rows.{rows_of}
 use Rattle.display_map.specs.Events.{Event}
 use Rattle.display_map.specs.Events.{Line}
-use Rattle.display_map.specs.Replay.{present_of, versions_of}
+use Rattle.display_map.specs.Replay.{History, present_of, versions_of}
 use Rattle.board_watch.specs.declared.seen.Seen.{Seen}
 use Rattle.board_watch.specs.declared.seen.Watched.{Watched}
 use Rattle.edit_script.specs.Verdict.{Verdict, Refused, Accepted}
@@ -18,9 +18,12 @@ use Rattle.script_runner.specs.declared.tally.Tally.{Tally}
 use Rattle.script_runner.specs.Entries.{Entry}
 use Rattle.script_runner.specs.Legal.{history_of, lines_in, next_verdict}
 
--- lines, each with its line feed
+-- lines, each with its line feed, and with the same bytes before it
+abbrev pub printed_with : List ℕ → List (List ℕ) → List ℕ
+printed_with prefix lines = flat_map (λ line. prefix ++ (line ++ line_feed ∷ [])) lines
+
 abbrev pub printed : List (List ℕ) → List ℕ
-printed lines = flat_map (λ line. line ++ line_feed ∷ []) lines
+printed lines = printed_with [] lines
 
 -- the lines that answer an accepted command, where so many versions were published
 abbrev pub command_lines : Record → ℕ → Command → List (List ℕ)
@@ -30,10 +33,14 @@ command_lines r versions (AskCaret query) = caret_lines r query
 command_lines r versions Settle = []
 
 -- the lines that a verdict is answered with, on the record that it was given on
+abbrev pub verdict_lines : History → Verdict → List (List ℕ)
+verdict_lines h (Refused refusal) = refusal_text refusal ∷ []
+verdict_lines h (Accepted command) = command_lines (present_of h) (versions_of h.events) command
+
+-- ... after some events, if there is a verdict
 abbrev pub answer : List ℕ → List (ℕ × Entry) → List Event → Option Verdict → List (List ℕ)
 answer text entries past None = []
-answer text entries past (Some (Refused refusal)) = refusal_text refusal ∷ []
-answer text entries past (Some (Accepted command)) = command_lines (present_of (history_of text past)) (versions_of past) command
+answer text entries past (Some verdict) = verdict_lines (history_of text past) verdict
 
 -- the lines that an event is answered with: for the line of a script what becomes of it
 abbrev pub answer_at : List ℕ → List (ℕ × Entry) → List Event → Event → List (List ℕ)

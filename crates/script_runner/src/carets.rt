@@ -3,13 +3,13 @@ ghost use Rattle.std.specs.Prelude.{◌≡◌, ◌≤◌, [], ◌∷◌, ◌++�
 ghost use Rattle.display_map.specs.Replay.{present_of};
 ghost use Rattle.script_runner.specs.CaretLines.{caret_line, caret_lines, range_line, selection_lines, span_line};
 ghost use Rattle.script_runner.specs.Outside.{Takes};
-ghost use Rattle.script_runner.specs.Output.{printed};
+ghost use Rattle.script_runner.specs.Output.{printed_with};
 ghost use Rattle.script_runner.specs.inside.Carets.{lines_of};
 ghost use Rattle.script_runner.specs.Writing.{IsUnwritten};
 
 use crate::outside::Sink;
 use crate::stop::Stop;
-use crate::write::write_line;
+use crate::write::write_prefixed;
 use cell_units::{NoMemory, Steps, Text};
 use display_map::View;
 use edit_script::CaretQuery;
@@ -18,7 +18,7 @@ use view_moves::{Caret, RowSpan, Selection, select, step};
 
 /// What a question about a caret is answered with.
 #[derive(Drop)]
-pub(crate) enum CaretAnswer {
+pub enum CaretAnswer {
     /// Where a motion took the caret.
     Moved(Caret),
     /// What a selection covers.
@@ -26,7 +26,7 @@ pub(crate) enum CaretAnswer {
 }
 
 /// The answer to a question about a caret on a view.
-pub(crate) fn answer_caret(
+pub fn answer_caret(
     alloc: Global,
     view: &View,
     query: &CaretQuery,
@@ -73,64 +73,83 @@ fn span_line(alloc: Global, span: &RowSpan) -> Result<Text, NoMemory>
     Text::from_str(alloc, line.as_str())
 }
 
-/// Writes the lines of the spans of a selection.
-fn write_spans<K: Sink>(alloc: Global, spans: &[RowSpan], out: &mut K) -> Result<(), Stop>
+/// Writes the lines of the spans of a selection, each behind the prefix.
+fn write_spans<K: Sink>(
+    alloc: Global,
+    prefix: &str,
+    spans: &[RowSpan],
+    out: &mut K,
+) -> Result<(), Stop>
     ensures written { OnOk result
-        (Takes (printed (map span_line spans.now)) (K.state out.old) (K.state out.new)) }
+        (Takes (printed_with prefix.now (map span_line spans.now))
+        (K.state out.old) (K.state out.new)) }
     ensures stopped { IfErr result
-        (IsUnwritten (printed (map span_line spans.now)) (K.state out.old) (K.state out.new)) }
+        (IsUnwritten (printed_with prefix.now (map span_line spans.now))
+        (K.state out.old) (K.state out.new)) }
 {
     for span in spans {
         let line = span_line(alloc, span)?;
-        write_line(alloc, line.as_str(), out)?;
+        write_prefixed(alloc, prefix, line.as_str(), out)?;
     }
     Ok(())
 }
 
-/// Writes the lines of a selection.
-fn write_selection<K: Sink>(alloc: Global, selection: &Selection, out: &mut K) -> Result<(), Stop>
+/// Writes the lines of a selection, each behind the prefix.
+fn write_selection<K: Sink>(
+    alloc: Global,
+    prefix: &str,
+    selection: &Selection,
+    out: &mut K,
+) -> Result<(), Stop>
     ensures written { OnOk result (Takes
-        (printed (selection_lines selection.now.start selection.now.end selection.now.spans.items))
+        (printed_with prefix.now
+        (selection_lines selection.now.start selection.now.end selection.now.spans.items))
         (K.state out.old) (K.state out.new)) }
     ensures stopped { IfErr result (IsUnwritten
-        (printed (selection_lines selection.now.start selection.now.end selection.now.spans.items))
+        (printed_with prefix.now
+        (selection_lines selection.now.start selection.now.end selection.now.spans.items))
         (K.state out.old) (K.state out.new)) }
 {
     let line = range_line(alloc, selection.start, selection.end)?;
-    write_line(alloc, line.as_str(), out)?;
-    write_spans(alloc, selection.spans.as_slice(), out)
+    write_prefixed(alloc, prefix, line.as_str(), out)?;
+    write_spans(alloc, prefix, selection.spans.as_slice(), out)
 }
 
-/// Writes the line of a caret.
-fn write_caret<K: Sink>(alloc: Global, caret: &Caret, out: &mut K) -> Result<(), Stop>
+/// Writes the line of a caret behind the prefix.
+fn write_caret<K: Sink>(alloc: Global, prefix: &str, caret: &Caret, out: &mut K) -> Result<(), Stop>
     ensures written { OnOk result
-        (Takes (printed (caret_line caret.now ∷ [])) (K.state out.old) (K.state out.new)) }
+        (Takes (printed_with prefix.now (caret_line caret.now ∷ []))
+        (K.state out.old) (K.state out.new)) }
     ensures stopped { IfErr result
-        (IsUnwritten (printed (caret_line caret.now ∷ [])) (K.state out.old) (K.state out.new)) }
+        (IsUnwritten (printed_with prefix.now (caret_line caret.now ∷ []))
+        (K.state out.old) (K.state out.new)) }
 {
     let line = caret_line(alloc, caret)?;
-    write_line(alloc, line.as_str(), out)
+    write_prefixed(alloc, prefix, line.as_str(), out)
 }
 
-/// Writes the lines of an answer, each with its line feed, and says how many they are.
-pub(crate) fn write_caret_answer<K: Sink>(
+/// Writes the lines of an answer, each behind the prefix and with its line feed, and says how many they are.
+pub fn write_caret_answer<K: Sink>(
     alloc: Global,
+    prefix: &str,
     answer: &CaretAnswer,
     out: &mut K,
 ) -> Result<u64, Stop>
     ensures lines { IfOk result (λ lines. lines ≡ length (lines_of answer.now)) }
     ensures written { OnOk result
-        (Takes (printed (lines_of answer.now)) (K.state out.old) (K.state out.new)) }
+        (Takes (printed_with prefix.now (lines_of answer.now))
+        (K.state out.old) (K.state out.new)) }
     ensures stopped { IfErr result
-        (IsUnwritten (printed (lines_of answer.now)) (K.state out.old) (K.state out.new)) }
+        (IsUnwritten (printed_with prefix.now (lines_of answer.now))
+        (K.state out.old) (K.state out.new)) }
 {
     match answer {
         CaretAnswer::Moved(caret) => {
-            write_caret(alloc, caret, out)?;
+            write_caret(alloc, prefix, caret, out)?;
             Ok(1)
         }
         CaretAnswer::Selected(selection) => {
-            write_selection(alloc, selection, out)?;
+            write_selection(alloc, prefix, selection, out)?;
             Ok(selection.spans.len() as u64 + 1)
         }
     }

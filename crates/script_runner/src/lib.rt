@@ -17,9 +17,11 @@ mod summary;
 mod tally;
 mod write;
 
+pub use carets::{CaretAnswer, answer_caret, write_caret_answer};
 pub use outside::{Failed, Inputs, Part, Sink};
 pub use runner::Runner;
+pub use script::split_line;
 pub use stop::Stop;
 pub use summary::write_summary;
 pub use tally::Tally;
-pub use write::{write_line, write_piece};
+pub use write::{write_answer, write_line, write_piece, write_prefixed, write_refusal};

@@ -8,15 +8,11 @@ ghost use Rattle.live_display.specs.Owned.{IsSameTeam};
 ghost use Rattle.live_display.specs.declared.owner.TheConstants.{EVENTS_AHEAD};
 ghost use Rattle.edit_script.specs.declared.asked.Asked.TheVariants as asks;
 ghost use Rattle.edit_script.specs.Commands.{AskCaret, Settle, meaning};
-ghost use Rattle.edit_script.specs.Printed.{refusal_text};
 ghost use Rattle.edit_script.specs.Verdict.{Refused, Accepted, query_wants_settled};
 ghost use Rattle.script_runner.specs.declared.stop.Stop.TheVariants as stops;
 ghost use Rattle.script_runner.specs.CaretLines.{caret_lines};
-ghost use Rattle.script_runner.specs.Outside.{Takes};
-ghost use Rattle.script_runner.specs.Output.{printed};
 ghost use Rattle.script_runner.specs.Entries.{script_lines, asked_by_command};
 ghost use Rattle.script_runner.specs.inside.Carets.{lines_of};
-ghost use Rattle.script_runner.specs.Writing.{IsUnwritten};
 ghost use Rattle.script_runner.specs.Going.{IsReady, IsShown, IsAbreast, IsPrepared, IsPreparedFor, HasChanged, IsWithinChange, IsUnrecorded, Handles, HandlesUnread, HandlesQuery, HandlesChange, IsReadOn, IsUnreadOn, query_verdict, read_wants_settled, HandlesLine, HandlesFirst, HandlesAll, HandlesScript, PlaysAll, IsSameRun, SameSink, stage};
 
 use crate::carets::{CaretAnswer, answer_caret, write_caret_answer};
@@ -25,12 +21,10 @@ use crate::script::{head_of, split_line};
 use crate::settling::{check_room, finish, land_ready, prepare};
 use crate::stop::Stop;
 use crate::tally::{Outcome, Tally};
-use crate::write::{write_answer, write_line};
+use crate::write::{write_answer, write_refusal};
 use cell_units::{Fault, NoMemory, Refusal, Steps};
 use display_map::{Change, View};
-use edit_script::{
-    Asked, CaretQuery, Form, Query, answer, query_refusal, read_line, refusal_line, skipped,
-};
+use edit_script::{Asked, CaretQuery, Form, Query, answer, query_refusal, read_line, skipped};
 use live_display::Owner;
 use std::alloc::Global;
 use std::sync::Wait;
@@ -91,17 +85,6 @@ fn record_line(number: u64, operations: usize, owner: &mut Owner) -> Result<(), 
     check_room(&owner.display, operations)?;
     owner.note_line(number)?;
     Ok(())
-}
-
-/// Writes the line of a refusal.
-fn write_refusal<K: Sink>(alloc: Global, refusal: Refusal, out: &mut K) -> Result<(), Stop>
-    ensures written { OnOk result
-        (Takes (printed (refusal_text refusal ∷ [])) (K.state out.old) (K.state out.new)) }
-    ensures stopped { IfErr result
-        (IsUnwritten (printed (refusal_text refusal ∷ [])) (K.state out.old) (K.state out.new)) }
-{
-    let line = refusal_line(alloc, refusal)?;
-    write_line(alloc, line.as_str(), out)
 }
 
 /// Does a change, and publishes the display where it had an operation. Returns why it is refused, if it is.
@@ -183,7 +166,7 @@ impl<'a, R: Wait, G: Gate, K: Sink> Runner<'a, R, G, K> {
         ensures same { IsSameRun self.old self.new }
     {
         record_line(number, 0, &mut self.owner)?;
-        write_refusal(self.owner.alloc, refusal, self.out)?;
+        write_refusal(self.owner.alloc, "", refusal, self.out)?;
         Ok(Outcome::Refused)
     }
 
@@ -231,7 +214,7 @@ impl<'a, R: Wait, G: Gate, K: Sink> Runner<'a, R, G, K> {
         match answer(alloc, &view, query, &mut steps) {
             Ok(mut lines) => {
                 record_line(number, 0, &mut self.owner)?;
-                let lines = write_answer(alloc, &mut lines, self.out, &mut steps)?;
+                let lines = write_answer(alloc, "", &mut lines, self.out, &mut steps)?;
                 Ok(Outcome::Accepted { lines })
             }
             Err(Fault::Refused(refusal)) => self.refuse(number, refusal),
@@ -264,7 +247,7 @@ impl<'a, R: Wait, G: Gate, K: Sink> Runner<'a, R, G, K> {
     {
         let answer = self.caret_answer(query)?;
         record_line(number, 0, &mut self.owner)?;
-        let lines = write_caret_answer(self.owner.alloc, &answer, self.out)?;
+        let lines = write_caret_answer(self.owner.alloc, "", &answer, self.out)?;
         Ok(Outcome::Accepted { lines })
     }
 
@@ -285,7 +268,7 @@ impl<'a, R: Wait, G: Gate, K: Sink> Runner<'a, R, G, K> {
         record_line(number, operations(change), &mut self.owner)?;
         match apply_change(self.rt, change, &mut self.owner)? {
             Some(refusal) => {
-                write_refusal(self.owner.alloc, refusal, self.out)?;
+                write_refusal(self.owner.alloc, "", refusal, self.out)?;
                 Ok(Outcome::Refused)
             }
             None => Ok(Outcome::Accepted { lines: 0 }),

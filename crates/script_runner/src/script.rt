@@ -17,7 +17,7 @@ fn feed_at(bytes: &[u8]) -> Option<usize>
 }
 
 /// The first line of what is left of a script, without its line feed, and what is left after it.
-pub(crate) fn split_line(script: &[u8]) -> (&[u8], &[u8])
+pub fn split_line(script: &[u8]) -> (&[u8], &[u8])
     requires { 0 < length script.now }
     ensures lines { script_lines script.now ≡ result.0.now ∷ script_lines result.1.now }
     ensures shorter { length result.1.now < length script.now }

@@ -2,13 +2,14 @@
 ghost use Rattle.std.specs.Prelude.{◌≡◌, ◌+◌, ◌<◌, ◌≤◌, ◌^◌, ◌++◌, ℕ, [], ◌∷◌, length, IfOk, OnOk, IfErr, OnErr, string_bytes};
 ghost use Rattle.cell_units.specs.Text.{line_feed};
 ghost use Rattle.script_runner.specs.Outside.{HasRisen, Takes, TakesFront};
-ghost use Rattle.script_runner.specs.Output.{printed};
+ghost use Rattle.edit_script.specs.Printed.{refusal_text};
+ghost use Rattle.script_runner.specs.Output.{printed_with};
 ghost use Rattle.script_runner.specs.Writing.{IsUnwritten};
 
 use crate::outside::{Failed, Sink};
 use crate::stop::Stop;
-use cell_units::{NoMemory, Steps};
-use edit_script::Answer;
+use cell_units::{NoMemory, Refusal, Steps};
+use edit_script::{Answer, refusal_line};
 use std::alloc::Global;
 
 /// Hands the piece to the sink, and then what is left of it as often as only a part was taken. `Failed` where a write fails,
@@ -25,31 +26,66 @@ pub fn write_piece<K: Sink>(piece: &[u8], out: &mut K) -> Result<(), Failed>
     Ok(())
 }
 
-/// The line with its line feed.
-fn with_feed(alloc: Global, line: &str) -> Result<String, NoMemory>
-    ensures { IfOk result (λ text. string_bytes text ≡ line.now ++ line_feed ∷ []) }
+/// The line with its line feed, behind a prefix.
+fn with_feed(alloc: Global, prefix: &str, line: &str) -> Result<String, NoMemory>
+    ensures { IfOk result
+        (λ text. string_bytes text ≡ prefix.now ++ (line.now ++ line_feed ∷ [])) }
 {
-    let mut text = String::from_str(alloc, line)?;
+    let mut text = String::from_str(alloc, prefix)?;
+    text.push_str(line)?;
     text.push('\n')?;
     Ok(text)
 }
 
-/// Writes the line with its line feed. It stops with `Stop::Write` where a write fails, after a prefix of the line, and with
-/// `Stop::Memory` where there is no memory, before anything is written.
+/// Writes the line behind a prefix, with its line feed, as one piece. It stops with `Stop::Write` where a write fails, after
+/// a prefix of that piece, and with `Stop::Memory` where there is no memory, before anything is written.
+pub fn write_prefixed<K: Sink>(
+    alloc: Global,
+    prefix: &str,
+    line: &str,
+    out: &mut K,
+) -> Result<(), Stop>
+    ensures written { OnOk result
+        (Takes (prefix.now ++ (line.now ++ line_feed ∷ [])) (K.state out.old) (K.state out.new)) }
+    ensures stopped { IfErr result (IsUnwritten (prefix.now ++ (line.now ++ line_feed ∷ []))
+        (K.state out.old) (K.state out.new)) }
+{
+    let text = with_feed(alloc, prefix, line)?;
+    write_piece(text.as_bytes(), out)?;
+    Ok(())
+}
+
+/// Writes the line with its line feed, as `write_prefixed` without a prefix.
 pub fn write_line<K: Sink>(alloc: Global, line: &str, out: &mut K) -> Result<(), Stop>
     ensures written { OnOk result
         (Takes (line.now ++ line_feed ∷ []) (K.state out.old) (K.state out.new)) }
     ensures stopped { IfErr result
         (IsUnwritten (line.now ++ line_feed ∷ []) (K.state out.old) (K.state out.new)) }
 {
-    let text = with_feed(alloc, line)?;
-    write_piece(text.as_bytes(), out)?;
-    Ok(())
+    write_prefixed(alloc, "", line, out)
 }
 
-/// Writes the lines of an answer, each with its line feed, and says how many they are.
-pub(crate) fn write_answer<K: Sink>(
+/// Writes the line of a refusal behind a prefix.
+pub fn write_refusal<K: Sink>(
     alloc: Global,
+    prefix: &str,
+    refusal: Refusal,
+    out: &mut K,
+) -> Result<(), Stop>
+    ensures written { OnOk result (Takes (printed_with prefix.now (refusal_text refusal ∷ []))
+        (K.state out.old) (K.state out.new)) }
+    ensures stopped { IfErr result
+        (IsUnwritten (printed_with prefix.now (refusal_text refusal ∷ []))
+        (K.state out.old) (K.state out.new)) }
+{
+    let line = refusal_line(alloc, refusal)?;
+    write_prefixed(alloc, prefix, line.as_str(), out)
+}
+
+/// Writes the lines of an answer, each behind the prefix and with its line feed, and says how many they are.
+pub fn write_answer<K: Sink>(
+    alloc: Global,
+    prefix: &str,
     answer: &mut Answer,
     out: &mut K,
     steps: &mut Steps,
@@ -57,16 +93,17 @@ pub(crate) fn write_answer<K: Sink>(
     requires { length answer.old < 2 ^ 64 }
     // What is written.
     ensures lines { IfOk result (λ lines. lines ≡ length answer.old) }
-    ensures written { OnOk result (Takes (printed answer.old) (K.state out.old) (K.state out.new)) }
+    ensures written { OnOk result
+        (Takes (printed_with prefix.now answer.old) (K.state out.old) (K.state out.new)) }
     // What of it is written where it stops.
-    ensures stopped { IfErr result
-        (IsUnwritten (printed answer.old) (K.state out.old) (K.state out.new)) }
+    ensures stopped { IfErr result (IsUnwritten (printed_with prefix.now answer.old)
+        (K.state out.old) (K.state out.new)) }
     // The work.
     ensures counted { steps.old ≤ steps.new }
 {
     let mut lines: u64 = 0;
     while let Some(line) = answer.next_line(alloc, steps)? {
-        write_line(alloc, line.as_str(), out)?;
+        write_prefixed(alloc, prefix, line.as_str(), out)?;
         lines += 1;
     }
     Ok(lines)

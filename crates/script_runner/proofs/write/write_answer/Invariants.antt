@@ -1,12 +1,12 @@
 -- The lines before those that are left were written and counted.
 use Rattle.std.proofs.Common.{◌≡◌, ◌+◌, ◌≤◌, length}
-use Rattle.script_runner.proofs.Fronts.{AreWritten}
+use Rattle.script_runner.proofs.Fronts.{AreWrittenWith}
 use Rattle.script_runner.proofs.write.write_answer.Given as goal
 
 abbrev pub invariant-loop-line : goal.invariant-loop-line
 invariant-loop-line g l =
     record {
-      written : AreWritten l.initial.answer l.answer (g.K.Sink.state l.initial.out) (g.K.Sink.state l.out);
+      written : AreWrittenWith l.prefix l.initial.answer l.answer (g.K.Sink.state l.initial.out) (g.K.Sink.state l.out);
       counted : l.lines + length l.answer ≡ length l.initial.answer;
       rises : l.initial.steps ≤ l.steps;
     }
