@@ -55,7 +55,7 @@ impl ListSink {
 impl Sink for ListSink {
     ghost state = { λ s. list_state s };
 
-    /// Takes the whole piece, or fails, as it does where the call's number is one of those that fail. Want of memory is a
+    /// Takes the whole piece, or fails, as it does where the call's number is one of those that fail. Running out of memory is a
     /// fault too.
     fn write(&mut self, piece: &[u8]) -> Result<usize, Failed>
         ensures within { IfOk result (λ n. n ≤ length piece.now) }

@@ -46,3 +46,4 @@ pub mod StampedWorks
 pub mod SplicedWorks
 pub mod LandedSteps
 pub mod AppliedWorks
+pub mod Settled

@@ -4,6 +4,5 @@ pub mod LoneDisplays
 pub mod MovedMarks
 pub mod PlacedMarks
 pub mod SameSessions
-pub mod Settled
 pub mod Slices
 pub mod Wrapping

@@ -1,15 +1,16 @@
 -- What a display without workers keeps, over its events.
-use Rattle.std.proofs.Common.{◌≡◌, ℕ, ◌+◌, ◌≤◌, Bool, true, false, cond, List, [], ◌∷◌, ◌++◌, map, Option, Some, None, Result, Ok, Err, refl, sym, ap, ◌∙◌, subst, true≢false, arith}
+use Rattle.std.proofs.Common.{◌≡◌, ℕ, ◌+◌, ◌≤◌, Bool, true, false, not, cond, List, [], ◌∷◌, ◌++◌, map, Option, Some, None, Result, Ok, Err, refl, sym, ap, ◌∙◌, subst, true≢false, arith}
 use Rattle.std.specs.Prelude.{◌&&◌, ◌==◌, IfSome, OnErr, OnOk}
 use Rattle.std.proofs.lemmas.Bool.{eq-eqb}
 use Rattle.std.proofs.lemmas.List.Sums.{sum_by-append}
 use Rattle.cell_units.specs.Operation.{Operation}
+use Rattle.display_map.specs.Displays.{unlanded}
 use Rattle.display_map.specs.Events.{Event, Did, Landed, Published}
 use Rattle.display_map.specs.Replay.{History, SentJob, State, appended, begun, happens, is_published, landed_if, next_run, is_settled, present_of, replayed, stamps_of, state_of, versions_of, with_landed}
 use Rattle.display_map.specs.Sending.{IsOutstanding, IsRunTaken, IsSent, sending}
+use Rattle.display_map.proofs.Settled.{all-settled}
 use Rattle.display_map.proofs.Replays.{replayed-cons, replayed-none, state_of-appended, state_of-one_more}
 use Rattle.display_session.specs.LoneDisplays.{KeepsLone, LineJob, but_late, have_landed}
-use Rattle.display_session.proofs.Settled.{all-settled}
 
 -- ---- laws of jobs, as `job_laws` has them
 
@@ -109,10 +110,18 @@ applied stays a b ops late (Err error) is same kept = kept-same a b late same ke
 
 -- a run is sent, or no line waits: then every line is wrapped
 
+none-unlanded : (jobs : List SentJob) → have_landed jobs ≡ true → unlanded jobs ≡ []
+none-unlanded [] e = refl
+none-unlanded (job ∷ jobs) e = go job.landed (none-unlanded jobs) e where
+  go : (l : Bool) → (have_landed jobs ≡ true → unlanded jobs ≡ []) → (l && have_landed jobs) ≡ true
+      → cond (not l) (job ∷ unlanded jobs) (unlanded jobs) ≡ []
+  go true rest e = rest e
+  go false rest e = absurd (true≢false (sym e))
+
 pub one-sent : Sends → (a b : History) (run : Option LineJob) (job : LineJob) → run ≡ Some job → IsRunTaken a b run → KeepsLone a None → KeepsLone b (Some job)
 one-sent sends a b run job is taken kept = kept-sent sends a b job (subst (λ run. IsRunTaken a b run) is taken) kept
 
 pub none-sent : (a b : History) (run : Option LineJob) → run ≡ None → IsRunTaken a b run → KeepsLone a None → is_settled (present_of b) ≡ true
 none-sent a b run is taken kept =
     let none : (next_run (state_of a) ≡ None) × (b ≡ a) = subst (λ run. IsRunTaken a b run) is taken in
-    ap (λ h. is_settled (present_of h)) none.1 ∙ all-settled (state_of a) kept.others_landed none.0
+    ap (λ h. is_settled (present_of h)) none.1 ∙ all-settled (state_of a) (none-unlanded (state_of a).jobs kept.others_landed) none.0

@@ -10,7 +10,7 @@ use Rattle.cell_units.specs.Points.{offset_at}
 use Rattle.cell_units.specs.Record.{line_count}
 use Rattle.cell_units.specs.Text.{IsBoundary, is_boundary, is_feed}
 use Rattle.cell_units.proofs.BufferLines.{line_count-is}
-use Rattle.display_session.proofs.Settled.{if-none}
+use Rattle.display_map.proofs.Settled.{if-none}
 
 -- no text has so many rows that the greatest number names one
 pub text-end : (text : List ℕ) → length text ≤ TEXT_LIMIT → offset_at text (record { row = 4294967295; column = 0 }) Left ≡ length text

@@ -1,7 +1,6 @@
 pub mod Going
 pub mod Outs
 pub mod Newest
-pub mod Settled
 pub mod Owners
 pub mod Steps
 pub mod Begun

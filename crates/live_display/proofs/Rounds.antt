@@ -2,8 +2,10 @@
 use Rattle.std.proofs.Common.{◌≡◌, ℕ, ◌-◌, ◌<◌, ◌≤◌, ◌⊎◌, inl, inr, not, Bool, true, false, List, [], ◌∷◌, length, map, Result, Ok, Err, refl, sym, ap, ◌∙◌, subst, arith, true≢false}
 use Rattle.std.specs.Prelude.{IfErr, OnOk}
 use Rattle.std.specs.Result.{IsErrAnd}
+use Rattle.display_map.specs.Displays.{unlanded}
 use Rattle.display_map.specs.Events.{Event, event_limit}
-use Rattle.display_map.specs.Replay.{History, state_of, present_of, is_settled}
+use Rattle.display_map.specs.Replay.{History, SentJob, state_of, present_of, is_settled}
+use Rattle.display_map.proofs.Settled.{all-settled}
 use Rattle.live_display.specs.declared.owner.Owner.{Owner}
 use Rattle.live_display.specs.declared.halt.Halt.{Halt}
 use Rattle.live_display.specs.Beside.{HasGone, GoesWithout, IsHalted, is_any_landing, is_send, outstanding}
@@ -11,7 +13,6 @@ use Rattle.live_display.specs.Owned.{IsBusy, IsOwned, IsSameTeam}
 use Rattle.live_display.specs.Stepping.{HasLanded, HasLandedOne, HasSent, IsLonger}
 use Rattle.live_display.proofs.Going.{gone-none, gone-gone, gone-longer, halted-behind, without-none}
 use Rattle.live_display.proofs.Outs.{Job, outstanding-is}
-use Rattle.live_display.proofs.Settled.{all-settled}
 
 -- from where a call began to where it is: steps were taken, and the owner still has its team
 pub record Keeps (first now : Owner) : Type 0 where
@@ -64,11 +65,15 @@ some-or-none : (out : List Job) → (1 ≤ length out) ⊎ (out ≡ [])
 some-or-none [] = inr refl
 some-or-none (job ∷ out) = inl (omega arith)
 
+none-numbered : (jobs : List SentJob) → map (λ job. job.number) jobs ≡ [] → jobs ≡ []
+none-numbered [] e = refl
+none-numbered (job ∷ jobs) e = cc
+
 pub job-is-out : (o : Owner) → IsOwned o → IsBusy o → is_settled (present_of o.display) ≡ false → 1 ≤ length o.crew.out
 job-is-out o owned (inr full) unsettled = let some = owned.some_worker in omega (arith, full, some)
 job-is-out o owned (inl none) unsettled = elim (some-or-none o.crew.out) [
   | inl some ↦ some
-  | inr empty ↦ absurd (true≢false (sym (all-settled (state_of o.display) (sym owned.jobs.numbers ∙ ap (map (λ j. j.number)) empty) none) ∙ unsettled))
+  | inr empty ↦ absurd (true≢false (sym (all-settled (state_of o.display) (none-numbered (unlanded (state_of o.display).jobs) (sym owned.jobs.numbers ∙ ap (map (λ j. j.number)) empty)) none) ∙ unsettled))
 ]
 
 pub err-halted : (w : ℕ) (h h' : History) (r : Result (Unit {0}) Halt) (halt : Halt) → IsErrAnd r (λ e. e ≡ halt) → IsHalted w h h' halt → IfErr r (IsHalted w h h')

@@ -68,7 +68,7 @@ fn publish_first<R: Wait>(
     requires events { display.old.events ≡ [] }
     requires readers { readers ≤ 8 }
 
-    // Want of memory comes before version 0 is published, or before it is shown.
+    // Memory runs out before version 0 is published, or before it is shown.
     ensures published { OnOk result
         (display.new ≡ appended display.old (Published false ∷ [])) }
     ensures unopened { OnErr result (IsUnopened display.old display.new) }

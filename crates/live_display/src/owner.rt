@@ -454,7 +454,7 @@ impl Owner {
         requires room { length self.old.display.events + 1 ≤ event_limit }
         requires out { IsOutstanding self.old.display (job_of finished) }
 
-        // The landing is one event. Want of memory leaves the display as it was.
+        // The landing is one event. Out of memory leaves the display as it was.
         ensures landed { OnOk result (self.new.display
             ≡ appended self.old.display (Landed (job_of finished).number ∷ [])) }
         ensures unchanged { OnErr result (self.new.display ≡ self.old.display) }

@@ -3,7 +3,6 @@ pub mod Keeping
 pub mod OneText
 pub mod Reached
 pub mod Rooms
-pub mod Settled
 pub mod Taken
 pub mod Texts
 pub mod Wraps

@@ -1,7 +1,7 @@
 use Rattle.std.proofs.Common.{◌≡◌, true, sym, subst, arith}
 use Rattle.display_map.specs.Replay.{History, is_settled, present_of, state_of}
 use Rattle.split_views.specs.Wrapping.{HasWrappedNext}
-use Rattle.split_views.proofs.Settled.{all-settled}
+use Rattle.display_map.proofs.Settled.{all-settled}
 use Rattle.split_views.proofs.Wraps.{wrapped-more}
 use Rattle.split_views.proofs.wrapping.wrap_all.Goals as goal
 

@@ -7,7 +7,7 @@ use Rattle.cell_units.specs.Record.{Mark}
 use Rattle.display_map.specs.Displays.{unlanded}
 use Rattle.display_map.specs.Replay.{SentJob, State, first_waiting, holds, is_held, is_settled, next_run, run_from, waits}
 
-if-none : {X : Type 0} (b : Bool) (x : X) → (if b then None else Some x) ≡ None → b ≡ true
+pub if-none : {X : Type 0} (b : Bool) (x : X) → (if b then None else Some x) ≡ None → b ≡ true
 if-none true x e = refl
 if-none false x e = cc
 
