@@ -2,20 +2,14 @@
 ghost use Rattle.std.specs.Prelude.{◌≡◌, [], IfOk, codes};
 ghost use Rattle.cell_units.specs.Text.{clean};
 
-use crate::displays::{assert_marks, assert_row, first_landing, view_of};
+use crate::views::{assert_row, view_of};
 use cell_units::{Bias, Fault, NoMemory, Point, Refusal, Spot, Steps, Text};
 use display_map::{Kind, ViewOn};
-use kept_sheet::{JobSheet, Sheet};
+use kept_sheet::Sheet;
 use map_sheet::MapSheet;
 use std::alloc::Global;
 use std::process::Abort;
 use std::test::Fail;
-
-/// A view of `abc` with its one line wrapped.
-fn first_view<S: JobSheet>(rt: &impl Abort, alloc: Global) -> Result<ViewOn<S>, Fail> {
-    let display = first_landing::<S>(rt, alloc)?;
-    Ok(display.view()?)
-}
 
 /// Asserts where a view of `abc` shows what.
 fn assert_places<S: Sheet>(rt: &impl Abort, alloc: Global, view: &ViewOn<S>) -> Result<(), Fail> {
@@ -26,19 +20,6 @@ fn assert_places<S: Sheet>(rt: &impl Abort, alloc: Global, view: &ViewOn<S>) -> 
     let nearest = view.clip(alloc, spot, Bias::Left, &mut steps)?;
     assert_eq!(rt; nearest, Spot { row: 0, col: 3 });
     assert_eq!(rt; view.back(alloc, spot, Bias::Right, &mut steps)?, 3);
-    Ok(())
-}
-
-/// Asserts that a view's record is the text `abc` with one line at 80 cells.
-fn assert_plain<S: Sheet>(
-    rt: &impl Abort,
-    alloc: Global,
-    view: &ViewOn<S>,
-) -> Result<(), NoMemory> {
-    let plain = view.plain(alloc, &mut Steps::new())?;
-    assert_eq!(rt; plain.text.as_str(), "abc");
-    assert_eq!(rt; plain.marks.as_slice(), [80].as_slice());
-    assert_eq!(rt; (plain.tab, plain.width), (4, 80));
     Ok(())
 }
 
@@ -54,9 +35,9 @@ fn assert_no_row<S: Sheet>(
     Ok(())
 }
 
-/// Asserts the rows of that view, and where it shows what.
-fn assert_shown<S: JobSheet>(rt: &impl Abort, alloc: Global) -> Result<(), Fail> {
-    let view = first_view::<S>(rt, alloc)?;
+/// Asserts the rows of such a view, and where it shows what.
+fn assert_shown<S: Sheet>(rt: &impl Abort, alloc: Global) -> Result<(), Fail> {
+    let view = view_of::<S>(alloc, b"abc")?;
     assert_row(rt, alloc, &view, 0, Kind::Head, "abc")?;
     assert_no_row(rt, alloc, &view, 1)?;
     assert_places(rt, alloc, &view)
@@ -65,20 +46,6 @@ fn assert_shown<S: JobSheet>(rt: &impl Abort, alloc: Global) -> Result<(), Fail>
 #[test]
 fn a_view_has_rows_and_places(rt: HostRuntime) -> Result<(), Fail> {
     assert_shown::<MapSheet>(&rt, rt.alloc())
-}
-
-/// Asserts the number, the marks and the record of that view.
-fn assert_kept<S: JobSheet>(rt: &impl Abort, alloc: Global) -> Result<(), Fail> {
-    let view = first_view::<S>(rt, alloc)?;
-    assert_eq!(rt; view.versions(), 2);
-    assert_marks(rt, alloc, &view, &[(0, 0, 80)])?;
-    assert_plain(rt, alloc, &view)?;
-    Ok(())
-}
-
-#[test]
-fn a_view_has_marks_and_a_record(rt: HostRuntime) -> Result<(), Fail> {
-    assert_kept::<MapSheet>(&rt, rt.alloc())
 }
 
 /// A view of `abcdefg`.

@@ -1,5 +1,5 @@
 //! The callers that the pages of the crates show.
-ghost use Rattle.std.specs.Prelude.{◌≡◌, ◌+◌, ◌≤◌, [], ◌∷◌, IsTrue, codes, length, string_bytes, IfOk, IfSome};
+ghost use Rattle.std.specs.Prelude.{◌≡◌, ◌≤◌, [], ◌∷◌, IsTrue, codes, length, string_bytes, IfOk};
 ghost use Rattle.std.specs.Result.{MatchResult};
 ghost use Rattle.cell_units.specs.declared.place.Bias.TheVariants.{Right};
 ghost use Rattle.cell_units.specs.declared.limits.TheConstants.{LAID_LIMIT, TEXT_LIMIT};
@@ -9,24 +9,17 @@ ghost use Rattle.cell_units.specs.Text.{IsBoundary, clean};
 ghost use Rattle.plain_rows.specs.Plain.{record_of};
 ghost use Rattle.plain_rows.specs.Rows.{rows_of};
 ghost use Rattle.plain_rows.specs.Spots.{spot_le};
-ghost use Rattle.display_map.specs.Events.{event_limit};
 
-use crate::displays::{assert_row_count, opened_at, send};
 use crate::plain::typed;
-use cell_line::{Cuts, Lines};
-use cell_units::{Bias, Fault, NoMemory, Spot, Steps, TextFault, cleaned, read_text};
-use display_map::{Display, Op, Shown};
+use cell_units::{Bias, Fault, NoMemory, Spot, TextFault, cleaned, read_text};
+use display_map::{Op, Shown};
 use display_sheet::operate::operate;
 use display_sheet::{Buffer, Sheet};
-use kept_sheet::JobSheet;
-use map_sheet::MapSheet;
 use plain_rows::{Plain, build, show};
 use spot_laws::laws::show_laws;
 use std::alloc::Global;
-use std::process::Abort;
 use std::sync::Arc;
 use std::test::Fail;
-use wrap_workers::{Done, Finished, Job, do_job};
 
 /// A text as it is opened: its bytes are judged, and its line breaks made line feeds.
 fn opened(alloc: Global, bytes: &[u8]) -> Result<String, TextFault>
@@ -92,37 +85,6 @@ fn offsets_are_shown_in_order(rt: HostRuntime) -> Result<(), Fail> {
     Ok(())
 }
 
-/// A job as it is done, or nothing where there is no memory for its cuts.
-fn done<N: Lines>(alloc: Global, job: Job<N>) -> Option<Done<N>>
-    ensures { IfSome result (λ done. done.job ≡ job) }
-{
-    match do_job(alloc, job) {
-        Finished::Done(done) => Some(done),
-        Finished::Short(_) => None,
-    }
-}
-
-/// Asserts that of two lines the first is cut after its blank, and the second isn't cut.
-fn assert_cuts(rt: &impl Abort, wraps: &[Cuts]) {
-    assert_eq!(rt; wraps.len(), 2);
-    assert_eq!(rt; wraps[0].as_slice(), [6].as_slice());
-    assert_eq!(rt; wraps[1].as_slice().len(), 0);
-}
-
-/// Sends and does the job of those lines, at a width of 5.
-fn cut_lines<S: JobSheet>(rt: &impl Abort, alloc: Global) -> Result<(), Fail> {
-    let mut display = opened_at::<S>(rt, alloc, "hello world\nabc", 5)?;
-    let job = send(rt, alloc, &mut display)?.ok_or("no run")?;
-    let done = done(alloc, job).ok_or("no memory")?;
-    assert_cuts(rt, done.wraps());
-    Ok(())
-}
-
-#[test]
-fn a_job_gives_the_cuts_of_its_lines(rt: HostRuntime) -> Result<(), Fail> {
-    cut_lines::<MapSheet>(&rt, rt.alloc())
-}
-
 /// The first rows of a sheet of which the bytes 8 to 13 are folded, or why they aren't.
 fn folded(alloc: Global, sheet: &Sheet) -> Result<Vec<Shown>, Fault> {
     let fold = Op::Fold {
@@ -150,30 +112,5 @@ fn a_fold_joins_lines(rt: HostRuntime) -> Result<(), Fail> {
     let rows = folded(alloc, &sheet)?;
     assert_eq!(rt; rows.len(), 2);
     assert_eq!(rt; rows[0].text.as_str(), "fn f() {⋯}");
-    Ok(())
-}
-
-/// Sends the first run of lines that wait, if there is one, and lands it.
-fn wrap_run(alloc: Global, display: &mut Display, steps: &mut Steps) -> Result<(), NoMemory>
-    requires room { length display.old.events + 2 ≤ event_limit }
-{
-    let Some(job) = display.take_run(alloc, steps)? else {
-        return Ok(());
-    };
-    let Finished::Done(done) = do_job(alloc, job) else {
-        return Err(NoMemory);
-    };
-    display.land(alloc, done, steps).map_err(|_| NoMemory)
-}
-
-/// A line is in one row until its run has landed, and then in two.
-#[test]
-fn a_landing_wraps_a_line(rt: HostRuntime) -> Result<(), Fail> {
-    let alloc = rt.alloc();
-    let mut display: Display = opened_at(&rt, alloc, "hello world", 5)?;
-    assert_row_count(&rt, &display, 1)?;
-    assert!(rt; display.room() >= 2);
-    wrap_run(alloc, &mut display, &mut Steps::new())?;
-    assert_row_count(&rt, &display, 2)?;
     Ok(())
 }

@@ -18,12 +18,12 @@ ghost use Rattle.display_map.specs.Replay.{appended, begun, present_of, replayed
 ghost use Rattle.display_map.specs.Sending.{GivesCuts, IsOutstanding};
 
 use crate::callers::row_count;
-use crate::displays::{first_landing, view_of};
+use crate::views::view_of;
 use cell_units::{Bias, NoMemory, Spot, Steps, Text};
 use display_map::{
     DisplayOn, VersionOn, ViewOn, landing_laws, line_patch_laws, replay_laws, stamp_laws, step_laws,
 };
-use kept_sheet::{JobSheet, Sheet};
+use kept_sheet::Sheet;
 use map_sheet::MapSheet;
 use plain_rows::{back, clip, show};
 use spot_laws::laws::show_laws;
@@ -168,17 +168,17 @@ fn published<S: Sheet>(
     display.publish(alloc, false)
 }
 
-/// Asks the laws of a display that was published twice, of a view of it, and of its next version.
-fn ask_laws<S: JobSheet>(rt: &impl Abort, alloc: Global) -> Result<(), Fail> {
-    let mut display = first_landing::<S>(rt, alloc)?;
-    let earlier = display.view()?;
-    let version = published(rt, alloc, &mut display)?;
-    same_lines(&version);
-    line_patch(&earlier, version.view());
+/// Asks the laws of a display that was published twice, and of both versions.
+fn ask_laws<S: Sheet>(rt: &impl Abort, alloc: Global) -> Result<(), Fail> {
+    let mut display = DisplayOn::<S>::start(alloc, b"abc", &mut Steps::new())?;
+    let earlier = published(rt, alloc, &mut display)?;
+    let later = published(rt, alloc, &mut display)?;
+    same_lines(&later);
+    line_patch(earlier.view(), later.view());
     fitting_changes(&display);
     landing_cuts(&display);
     next_steps(&display);
-    assert_eq!(rt; version.number(), 2);
+    assert_eq!(rt; (earlier.number(), later.number()), (0, 1));
     Ok(())
 }
 

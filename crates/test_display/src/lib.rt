@@ -1,15 +1,11 @@
-//! Worked rows of the display: what it and its views return on texts and changes that are known. There is nothing here
-//! but tests.
+//! Worked rows of the display: what it and its views return on texts and changes that are known, with no job out. There
+//! is nothing here but tests.
 #![tactic(auto)]
 
 #[cfg(test)]
 mod answers;
 #[cfg(test)]
 mod callers;
-#[cfg(test)]
-mod displays;
-#[cfg(test)]
-mod landings;
 #[cfg(test)]
 mod lawful;
 #[cfg(test)]
@@ -18,5 +14,7 @@ mod plain;
 mod prepared;
 #[cfg(test)]
 mod starts;
+#[cfg(test)]
+mod views;
 #[cfg(test)]
 mod work;

@@ -1,9 +1,9 @@
 //! Changes that are prepared beside a display, and taken later.
 ghost use Rattle.std.specs.Prelude.{◌≡◌, IfOk};
 
-use crate::displays::{assert_events, assert_row};
+use crate::views::assert_row;
 use cell_units::{Fault, Refusal, Steps, Text};
-use display_map::{Change, DisplayOn, Kind, Op, PreparedOn, Splice};
+use display_map::{Change, DisplayOn, Event, Journal, Kind, Op, PreparedOn, Splice};
 use kept_sheet::Sheet;
 use map_sheet::MapSheet;
 use std::alloc::Global;
@@ -52,12 +52,19 @@ fn put_letter<S: Sheet>(
     assert_text(rt, alloc, display, "axbc")
 }
 
-/// Asserts the events of that.
+/// Asserts that the events are that line and its operation.
+fn assert_noted(rt: &impl Abort, journal: &Journal) {
+    assert_eq!(rt; journal.len(), 2);
+    assert!(rt; matches!(journal.get(0), Some(Event::Line { number: 7 })));
+    assert!(rt; matches!(journal.get(1), Some(Event::Did { .. })));
+}
+
+/// Does both.
 fn assert_put<S: Sheet>(rt: &impl Abort, alloc: Global) -> Result<(), Fail> {
     let mut display = DisplayOn::<S>::start(alloc, b"abc", &mut Steps::new())?;
     put_letter(rt, alloc, &mut display)?;
     let journal = display.into_journal();
-    assert_events(rt, &journal, &["Line", "Did"]);
+    assert_noted(rt, &journal);
     Ok(())
 }
 

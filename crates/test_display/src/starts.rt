@@ -1,9 +1,9 @@
 //! Displays that were just opened, and changes of them.
-use crate::displays::{assert_events, assert_row, edit, first_landing, operate, view_of};
+use crate::views::{assert_row, view_of};
 use cell_units::limits::TEXT_LIMIT;
-use cell_units::{Fault, NoMemory, Refusal, Steps, TextFault};
-use display_map::{DisplayOn, Event, Journal, Kind, Op, ViewOn};
-use kept_sheet::{JobSheet, Sheet};
+use cell_units::{Fault, NoMemory, Refusal, Steps, Text, TextFault};
+use display_map::{Change, DisplayOn, Kind, Splice, ViewOn};
+use kept_sheet::Sheet;
 use map_sheet::MapSheet;
 use std::alloc::Global;
 use std::process::Abort;
@@ -35,59 +35,26 @@ fn bytes_that_are_no_text_are_refused(rt: HostRuntime) {
     refuse_bytes::<MapSheet>(&rt, rt.alloc());
 }
 
-/// Notes the first line of a script.
-fn note<S: Sheet>(
+/// The replacement of a range by a text.
+fn splice(alloc: Global, start: u32, end: u32, text: &str) -> Result<Splice, NoMemory> {
+    Ok(Splice {
+        start,
+        end,
+        text: Text::from_str(alloc, text)?,
+    })
+}
+
+/// Does a batch of replacements.
+#[tactic(auto, using(crate::proofs::Batches::batch_few))]
+fn edit<S: Sheet>(
     rt: &impl Abort,
     alloc: Global,
     display: &mut DisplayOn<S>,
-) -> Result<(), NoMemory> {
-    assert!(rt; display.room() > 0);
-    display.note_line(alloc, 1)
-}
-
-/// Asserts that the fifth event, which is the last, is that line.
-fn assert_noted(rt: &impl Abort, journal: &Journal) {
-    assert_eq!(rt; journal.len(), 5);
-    assert!(rt; matches!(journal.get(4), Some(Event::Line { number: 1 })));
-}
-
-/// Does both.
-fn note_fifth<S: JobSheet>(rt: &impl Abort, alloc: Global) -> Result<(), Fail> {
-    let mut display = first_landing::<S>(rt, alloc)?;
-    note(rt, alloc, &mut display)?;
-    let journal = display.into_journal();
-    assert_noted(rt, &journal);
-    Ok(())
-}
-
-#[test]
-fn a_line_is_noted(rt: HostRuntime) -> Result<(), Fail> {
-    note_fifth::<MapSheet>(&rt, rt.alloc())
-}
-
-/// Asserts that a fold of the first nine bytes is refused.
-fn refuse_fold<S: Sheet>(rt: &impl Abort, alloc: Global, display: &mut DisplayOn<S>) {
-    let fold = Op::Fold {
-        id: 1,
-        start: 0,
-        end: 9,
-    };
-    let result = operate(rt, alloc, display, fold);
-    assert_eq!(rt; result, Err(Fault::Refused(Refusal::BadRange)));
-}
-
-/// Asserts that, and that it is no event.
-fn assert_no_fold<S: JobSheet>(rt: &impl Abort, alloc: Global) -> Result<(), Fail> {
-    let mut display = first_landing::<S>(rt, alloc)?;
-    refuse_fold(rt, alloc, &mut display);
-    let journal = display.into_journal();
-    assert_events(rt, &journal, &["Published", "Sent", "Landed", "Published"]);
-    Ok(())
-}
-
-#[test]
-fn a_fold_past_the_end_is_refused(rt: HostRuntime) -> Result<(), Fail> {
-    assert_no_fold::<MapSheet>(&rt, rt.alloc())
+    splices: Vec<Splice>,
+) -> Result<(), Fault> {
+    assert!(rt; splices.len() <= 2000);
+    assert!(rt; display.room() >= 2000);
+    display.apply(alloc, &Change::Edit(splices), &mut Steps::new())
 }
 
 /// As many letters as a text may have.
@@ -103,7 +70,8 @@ fn refuse_edit<S: Sheet>(
     display: &mut DisplayOn<S>,
 ) -> Result<(), NoMemory> {
     let text = longest(alloc)?;
-    let result = edit(rt, alloc, display, &[(0, 0, text.as_str())]);
+    let splices = vec![in alloc; splice(alloc, 0, 0, text.as_str())?]?;
+    let result = edit(rt, alloc, display, splices);
     assert_eq!(rt; result, Err(Fault::Refused(Refusal::TooLong)));
     Ok(())
 }
@@ -123,24 +91,24 @@ fn a_text_over_the_limit_is_refused(rt: HostRuntime) -> Result<(), Fail> {
 }
 
 /// Of a hundred lines of twenty letters, each first of two letters is replaced by `xy` and each second by `-`.
-fn ranges(alloc: Global) -> Result<Vec<(u32, u32, &'static str)>, NoMemory> {
-    let mut ranges = Vec::new(alloc);
+fn replacements(alloc: Global) -> Result<Vec<Splice>, NoMemory> {
+    let mut splices = Vec::new(alloc);
     for line in 0..100u32 {
         for pair in 0..10u32 {
             let start = 21 * line + 2 * pair;
-            ranges.push((start, start + 1, "xy"))?;
-            ranges.push((start + 1, start + 2, "-"))?;
+            splices.push(splice(alloc, start, start + 1, "xy")?)?;
+            splices.push(splice(alloc, start + 1, start + 2, "-")?)?;
         }
     }
-    Ok(ranges)
+    Ok(splices)
 }
 
 /// A display of those lines, with that done.
 fn edited<S: Sheet>(rt: &impl Abort, alloc: Global) -> Result<DisplayOn<S>, Fail> {
     let text = "abababababababababab\n".repeat(alloc, 100)?;
-    let ranges = ranges(alloc)?;
+    let splices = replacements(alloc)?;
     let mut display = DisplayOn::<S>::start(alloc, text.as_bytes(), &mut Steps::new())?;
-    edit(rt, alloc, &mut display, ranges.as_slice())?;
+    edit(rt, alloc, &mut display, splices)?;
     Ok(display)
 }
 

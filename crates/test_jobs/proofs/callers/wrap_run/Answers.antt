@@ -1,0 +1,20 @@
+use Rattle.display_map.proofs.Sent.{display_sent}
+use Rattle.test_jobs.proofs.callers.wrap_run.Goals as goal
+
+pub take_run-requires-send-S-Held : goal.take_run-requires-send-S-Held
+take_run-requires-send-S-Held _ _ = search display_sent depth 12 fits 4000
+
+pub take_run-requires-sync-S-Held : goal.take_run-requires-sync-S-Held
+take_run-requires-sync-S-Held _ _ = search display_sent depth 12 fits 4000
+
+pub do_job-requires-send-N : goal.do_job-requires-send-N
+do_job-requires-send-N _ _ = search display_sent depth 12 fits 4000
+
+pub do_job-requires-sync-N : goal.do_job-requires-sync-N
+do_job-requires-sync-N _ _ = search display_sent depth 12 fits 4000
+
+pub land-requires-send-S-Held : goal.land-requires-send-S-Held
+land-requires-send-S-Held _ _ = search display_sent depth 12 fits 4000
+
+pub land-requires-sync-S-Held : goal.land-requires-sync-S-Held
+land-requires-sync-S-Held _ _ = search display_sent depth 12 fits 4000
