@@ -1,0 +1,2 @@
+-- What its parts say to each other
+pub mod Going
