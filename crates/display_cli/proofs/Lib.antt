@@ -1,5 +1,6 @@
 pub mod NameRead
 pub mod Watches
+pub mod Ends
 pub mod Headline
 pub mod Opened
 pub mod Made

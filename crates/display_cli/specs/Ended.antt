@@ -133,22 +133,45 @@ pub record IsShort (plan : Plan) (run : Run) : Type 0 where
   pub reads_passed : run.inputs_after.faults ≡ run.inputs.faults
   pub writes_passed : run.sink_after.faults ≡ run.sink.faults
 
--- what a run of a plan is, by the note that it ends with. No read fails where text and script are made
+-- what it is to finish, to stop for a failed write or a full journal, to find no memory, and to be refused
+pub record Endings : Type 1 where
+  pub finished : Type 0
+  pub unwritten : Type 0
+  pub full : Type 0
+  pub short : Type 0
+  pub refused : Type 0
+
+-- what is so where it ends with a note. No read fails where text and script are made
+abbrev pub EndsAs : Endings → Plan → Run → Note → Type 0
+EndsAs endings plan run Fine = endings.finished
+EndsAs endings plan run Write = endings.unwritten
+EndsAs endings plan run JournalFull = endings.full
+EndsAs endings plan run Memory = endings.short
+EndsAs endings plan run ReadText =
+    endings.refused × HasRisen run.inputs.faults.text run.inputs_after.faults.text × (plan.make ≡ None)
+EndsAs endings plan run ReadScript =
+    endings.refused × HasRisen run.inputs.faults.script run.inputs_after.faults.script × HasText plan run × (plan.make ≡ None)
+EndsAs endings plan run (TextNotUtf8 at) =
+    endings.refused × IfSome (text_of plan run.inputs) (λ bytes. IsTextRefused bytes (NotUtf8 at))
+EndsAs endings plan run TextTooLong =
+    endings.refused × IfSome (text_of plan run.inputs) (λ bytes. IsTextRefused bytes TooLong)
+EndsAs endings plan run ScriptTooLong =
+    endings.refused × IfSome (script_of plan run.inputs) (λ script. SCRIPT_LIMIT < length script) × HasText plan run
+EndsAs endings plan run Usage = ⊥
+
+-- what these are of a run
+abbrev pub endings_of : Plan → Run → Endings
+endings_of plan run = record {
+  finished = HasFinished plan run;
+  unwritten = HasStopped plan run (IsWriteFailed run);
+  full = HasStopped plan run IsFull;
+  short = IsShort plan run;
+  refused = IsRefused run;
+}
+
+-- what a run of a plan is, by the note that it ends with
 abbrev pub IsEndedAs : Plan → Run → Note → Type 0
-IsEndedAs plan run Fine = HasFinished plan run
-IsEndedAs plan run Write = HasStopped plan run (IsWriteFailed run)
-IsEndedAs plan run JournalFull = HasStopped plan run IsFull
-IsEndedAs plan run Memory = IsShort plan run
-IsEndedAs plan run ReadText =
-    IsRefused run × HasRisen run.inputs.faults.text run.inputs_after.faults.text × (plan.make ≡ None)
-IsEndedAs plan run ReadScript =
-    IsRefused run × HasRisen run.inputs.faults.script run.inputs_after.faults.script × HasText plan run × (plan.make ≡ None)
-IsEndedAs plan run (TextNotUtf8 at) = IsRefused run × IfSome (text_of plan run.inputs) (λ bytes. IsTextRefused bytes (NotUtf8 at))
-IsEndedAs plan run TextTooLong =
-    IsRefused run × IfSome (text_of plan run.inputs) (λ bytes. IsTextRefused bytes TooLong)
-IsEndedAs plan run ScriptTooLong =
-    IsRefused run × IfSome (script_of plan run.inputs) (λ script. SCRIPT_LIMIT < length script) × HasText plan run
-IsEndedAs plan run Usage = ⊥
+IsEndedAs plan run note = EndsAs (endings_of plan run) plan run note
 
 -- ---- which reads are made
 
@@ -235,11 +258,3 @@ pub record Says (note : Note) (old new : SinkState) : Type 0 where
 abbrev pub note_without_words : ErrorKind → Note
 note_without_words InvalidData = Usage
 note_without_words _ = Memory
-
--- the program: its run is one of its words, it says the note of the run, and its status is that of the run
-pub record IsProgram (plan : Option Plan) (inputs inputs_after : InputState)
-    (sink sink_after err err_after : SinkState) (status : ℕ) : Type 0 where
-  pub ended : Ended
-  pub run : IsRunOfWords plan (run_of inputs inputs_after sink sink_after ended)
-  pub said : Says ended.note err err_after
-  pub status_is : status ≡ ended.status

@@ -6,16 +6,16 @@ ghost use Rattle.display_cli.specs.declared.ended.Note.TheVariants as notes;
 ghost use Rattle.script_runner.specs.declared.outside.Part.TheVariants as parts;
 ghost use Rattle.script_runner.specs.Outside.{InputState, count_between};
 ghost use Rattle.script_runner.specs.Legal.{history_of};
-ghost use Rattle.display_cli.specs.Ended.{HasStatus, run_of, IsEndedAs, ReadsInOrder, HasReadsPassed, IsRunOfWords, Says, IsProgram, note_without_words};
+ghost use Rattle.display_cli.specs.Ended.{HasStatus, run_of, IsEndedAs, ReadsInOrder, HasReadsPassed, IsRunOfWords, Says, note_without_words};
 ghost use Rattle.display_cli.specs.inside.Opening.{IsOpenedOn, IsStartRefused, IsTextUnread, IsScript, IsScriptUnread, IsNoteOf, HasRunOn, note_of};
-ghost use Rattle.display_cli.specs.inside.Reading.{ReadsName};
+ghost use Rattle.display_cli.specs.inside.Reading.{IsWholeWithin, ReadsName};
 
 use crate::beside::Left;
 use crate::ended::{Ended, Note};
 use crate::limits::SCRIPT_LIMIT;
 use crate::playing::{close, end_watch, play_plan};
 use crate::read::{Unread, read_whole};
-use crate::say::say;
+use crate::saying::say;
 use board_watch::Watched;
 use cell_units::limits::TEXT_LIMIT;
 use cell_units::{NoMemory, Steps, TextFault};
@@ -31,7 +31,7 @@ use std::thread::Threads;
 use wrap_workers::Gate;
 
 /// The status of a note, for a run without refused lines.
-fn status_of(note: Note) -> u8
+pub fn status_of(note: Note) -> u8
     ensures { HasStatus note result }
 {
     match note {
@@ -46,7 +46,7 @@ fn status_of(note: Note) -> u8
 }
 
 /// The status of a run that did all.
-fn fine_status(refused: bool) -> u8
+pub fn fine_status(refused: bool) -> u8
     ensures status { HasStatus notes.Fine result }
     ensures refused { (result ≡ 1) ↔ (refused ≡ true) }
 {
@@ -81,6 +81,27 @@ fn start(alloc: Global, bytes: &[u8]) -> Result<Display, Note>
     }
 }
 
+/// The bytes of a plan's text, at most 33,554,432. `ReadText` where a read failed, `TextTooLong` where there are more, and
+/// `Memory` where there was none. The bytes aren't judged.
+pub fn read_text<I: Inputs>(alloc: Global, plan: &Plan, inputs: &mut I) -> Result<Vec<u8>, Note>
+    ensures read { IfOk result
+        (λ bytes. IsWholeWithin ((I.state inputs.old).told plan.now.text) TEXT_LIMIT bytes.items) }
+    ensures counted { IfOk result (λ bytes.
+        length bytes.items ≡ count_between parts.Text (I.state inputs.old) (I.state inputs.new)) }
+    ensures passed { OnOk result ((I.state inputs.new).faults ≡ (I.state inputs.old).faults) }
+    ensures refused { IfErr result (IsTextUnread ((I.state inputs.old).told plan.now.text)
+        (I.state inputs.old).faults (I.state inputs.new).faults) }
+    ensures reads { ReadsName parts.Text plan.now.text TEXT_LIMIT
+        (I.state inputs.old) (I.state inputs.new) }
+{
+    match read_whole(alloc, inputs, Part::Text, plan.text.as_str(), TEXT_LIMIT) {
+        Ok(bytes) => Ok(bytes),
+        Err(Unread::Failed) => Err(Note::ReadText),
+        Err(Unread::TooLong) => Err(Note::TextTooLong),
+        Err(Unread::NoMemory) => Err(Note::Memory),
+    }
+}
+
 /// Reads the text of a plan, and starts a display on it.
 fn open_text<I: Inputs>(alloc: Global, plan: &Plan, inputs: &mut I) -> Result<Display, Note>
     ensures opened { IfOk result (IsOpenedOn ((I.state inputs.old).told plan.now.text)
@@ -91,16 +112,13 @@ fn open_text<I: Inputs>(alloc: Global, plan: &Plan, inputs: &mut I) -> Result<Di
     ensures reads { ReadsName parts.Text plan.now.text TEXT_LIMIT
         (I.state inputs.old) (I.state inputs.new) }
 {
-    match read_whole(alloc, inputs, Part::Text, plan.text.as_str(), TEXT_LIMIT) {
-        Ok(bytes) => start(alloc, bytes.as_slice()),
-        Err(Unread::Failed) => Err(Note::ReadText),
-        Err(Unread::TooLong) => Err(Note::TextTooLong),
-        Err(Unread::NoMemory) => Err(Note::Memory),
-    }
+    let bytes = read_text(alloc, plan, inputs)?;
+    start(alloc, bytes.as_slice())
 }
 
-/// Reads the script of a plan.
-fn read_script<I: Inputs>(alloc: Global, plan: &Plan, inputs: &mut I) -> Result<Vec<u8>, Note>
+/// The bytes of a plan's script, at most 16,777,216. `ReadScript` where a read failed, `ScriptTooLong` where there are more,
+/// and `Memory` where there was none.
+pub fn read_script<I: Inputs>(alloc: Global, plan: &Plan, inputs: &mut I) -> Result<Vec<u8>, Note>
     ensures read { IfOk result
         (λ script. IsScript ((I.state inputs.old).told plan.now.script) script.items) }
     ensures counted { IfOk result (λ script.
@@ -126,7 +144,7 @@ fn read_script<I: Inputs>(alloc: Global, plan: &Plan, inputs: &mut I) -> Result<
 }
 
 /// The note of a run that stopped.
-fn note_of(stop: Stop) -> Note
+pub fn note_of(stop: Stop) -> Note
     ensures { result ≡ note_of stop }
 {
     match stop {
@@ -345,23 +363,4 @@ pub fn give_up<E: Sink>(kind: ErrorKind, err: &mut E) -> u8
     let note = note_without_words(kind);
     let _ = say(&note, err);
     status_of(note)
-}
-
-/// Runs the program on its words, says on `err` in one line why its run ended before its script did, and returns the status
-/// of the run, as `run` gives it: 0 or 1 where all was done, and 2 to 7 else. Where `err` fails too, there is nobody to tell.
-pub fn program<R: Threads + Wait + Sync, I: Inputs + Send, K: Sink + Send, E: Sink, G: Gate + Sync>(
-    rt: &R,
-    alloc: Global,
-    words: &[String],
-    inputs: &mut I,
-    out: &mut K,
-    err: &mut E,
-    gate: &G,
-) -> u8
-    ensures { IsProgram (plan_of words.now) (I.state inputs.old) (I.state inputs.new)
-        (K.state out.old) (K.state out.new) (E.state err.old) (E.state err.new) result }
-{
-    let ended = run(rt, alloc, words, inputs, out, gate);
-    let _ = say(&ended.note, err);
-    ended.status
 }

@@ -1,10 +1,11 @@
 //! The program `displaymap`: it runs a script on a text and prints the rows that the script asks for.
 //!
-//! All that it does is `program` of `display_cli`: `main` gives that the words, the real files, the standard output and
+//! All that it does is `program` of `split_cli`: `main` gives that the words, the real files, the standard output and
 //! standard error, and hands its status to the system.
 #![tactic(auto)]
 
-use display_cli::{FileInputs, StreamSink, give_up, program};
+use display_cli::{FileInputs, StreamSink, give_up};
+use split_cli::program;
 use std::env::Env;
 use std::process::ExitCode;
 use std::{env, io};

@@ -8,7 +8,8 @@
 mod session;
 
 use crate::session::Session;
-use display_cli::{FileInputs, ListSink, program};
+use display_cli::{FileInputs, ListSink};
+use split_cli::program;
 use std::env::Env;
 use std::fs::Files;
 use std::process::ExitCode;

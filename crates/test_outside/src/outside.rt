@@ -2,8 +2,8 @@
 use cell_units::NoMemory;
 use display_cli::{
     FileInputs, Inputs, ListSink, MapInputs, Note, Part, Sink, StreamSink, SureInputs, SureSink,
-    program,
 };
+use split_cli::program;
 use std::alloc::Global;
 use std::fs;
 use std::io::{Error, ErrorKind, Write};
@@ -154,15 +154,19 @@ fn two_texts(alloc: Global) -> Result<MapInputs, NoMemory> {
 #[test]
 fn the_program_says_why_its_run_ended(rt: HostRuntime) -> Result<(), Fail> {
     let usage = "displaymap: usage: displaymap TEXT SCRIPT [--workers N] [--watch R]\n";
-    let table: [(&[&str], u8, &str); 4] = [
+    let no_script = "displaymap: cannot read the script\n";
+    let no_text = "displaymap: cannot read the text\n";
+    let no_utf8 = "displaymap: the text is not UTF-8 at byte 3\n";
+    let table: [(&[&str], u8, &str); 9] = [
         (&["a"], 2, usage),
-        (&["a", "b"], 3, "displaymap: cannot read the script\n"),
-        (&["b", "a"], 3, "displaymap: cannot read the text\n"),
-        (
-            &["c", "a"],
-            5,
-            "displaymap: the text is not UTF-8 at byte 3\n",
-        ),
+        (&["a", "b"], 3, no_script),
+        (&["b", "a"], 3, no_text),
+        (&["c", "a"], 5, no_utf8),
+        (&["--views", "2", "a"], 2, usage),
+        (&["--views", "9", "a", "a"], 2, usage),
+        (&["--views", "2", "a", "b"], 3, no_script),
+        (&["--views", "2", "b", "a"], 3, no_text),
+        (&["--views", "2", "c", "a"], 5, no_utf8),
     ];
     for (words, status, line) in table {
         let mut inputs = two_texts(rt.alloc())?;
@@ -180,6 +184,18 @@ fn a_program_with_a_refused_line_says_nothing_and_ends_with_status_1(
     let mut inputs = inputs_of(alloc, b"a", b"{}", &[])?;
     let said = run_program(&rt, alloc, &["a", "b"], &mut inputs)?;
     assert_said(&rt, &said, 1, "! 1\n", "");
+    Ok(())
+}
+
+/// The edit reaches both views, and the second `undo` has none to take back.
+#[test]
+fn a_program_with_views_answers_with_their_digits(rt: HostRuntime) -> Result<(), Fail> {
+    let alloc = rt.alloc();
+    let script =
+        b"0 {\"edit\":[[1,1,\"b\"]]}\n1 {\"rows\":[0,1]}\nundo\n0 {\"rows\":[0,1]}\nundo\n";
+    let mut inputs = inputs_of(alloc, b"a", script, &[])?;
+    let said = run_program(&rt, alloc, &["--views", "2", "a", "b"], &mut inputs)?;
+    assert_said(&rt, &said, 1, "1 0 t|ab\n0 0 t|a\n! 8\n", "");
     Ok(())
 }
 

@@ -6,7 +6,8 @@ use Rattle.command_line.specs.Words.{IsWithinLimits, plan_of}
 use Rattle.display_cli.specs.declared.ended.Note.{Note}
 use Rattle.display_cli.specs.declared.ended.Note.TheVariants as notes
 use Rattle.display_cli.specs.Ended.{Run, run_of, IsEndedAs, IsRefused, IsRun, IsRunOfWords, HasStatus}
-use Rattle.display_cli.proofs.Headline.{is-run, not-usage, ended-short, reads-none}
+use Rattle.display_cli.proofs.Ends.{reads-none}
+use Rattle.display_cli.proofs.Headline.{is-run, not-usage, ended-short}
 use Rattle.display_cli.proofs.top.run.Goals as goal
 
 none-some : {o : Option Plan} (p : Plan) → o ≡ None → o ≡ Some p → ⊥

@@ -8,7 +8,8 @@ use Rattle.script_runner.specs.declared.outside.Part.TheVariants as parts
 use Rattle.script_runner.specs.Outside.{InputState, count_between}
 use Rattle.display_cli.specs.Ended.{Run, IsEndedAs, HasStatus, ends_at_text, run_of}
 use Rattle.display_cli.specs.inside.Opening.{IsOpenedOn, IsScript, IsTextUnread}
-use Rattle.display_cli.proofs.Headline.{ended-unopened, ended-unread, ended-run, named-text, named-script, reads-text, reads-both, run-behind, script-passed, text-passed, unread-behind}
+use Rattle.display_cli.proofs.Ends.{named-text, named-script, reads-text, reads-both, script-passed, text-passed, unread-behind}
+use Rattle.display_cli.proofs.Headline.{ended-unopened, ended-unread, ended-run, run-behind}
 use Rattle.display_cli.proofs.NameRead.{script-counted, text-counted}
 use Rattle.display_cli.proofs.top.run_named.Goals as goal
 

@@ -1,5 +1,5 @@
 -- A plan is made, and then nothing is read, or it names a text and a script.
-use Rattle.display_cli.proofs.Headline.{reads-none}
+use Rattle.display_cli.proofs.Ends.{reads-none}
 use Rattle.display_cli.proofs.top.run_plan.Goals as goal
 
 pub returns-in-Some-clause-ended : goal.returns-in-Some-clause-ended

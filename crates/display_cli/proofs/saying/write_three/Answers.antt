@@ -4,7 +4,7 @@ use Rattle.std.proofs.Common.{◌++◌, ◌∙◌, [], append_assoc, append-nil}
 use Rattle.script_runner.specs.Outside.{TakesFront}
 use Rattle.script_runner.proofs.Fronts.{takes-more, front-behind}
 use Rattle.script_runner.proofs.Results.{on-err}
-use Rattle.display_cli.proofs.say.write_three.Goals as goal
+use Rattle.display_cli.proofs.saying.write_three.Goals as goal
 
 on_err_weaker : {A E : Type 0} (r : Result A E) (P Q : Type 0) → (P → Q) → OnErr r P → OnErr r Q
 on_err_weaker (Ok x) P Q f h = h
