@@ -71,7 +71,9 @@ static void edits(void) {
 }
 
 static void reading(void) {
+    static displaymap_piece some[256];
     uint32_t rows, kind, offset;
+    size_t count;
     displaymap_place place;
     for (int i = 0; i < 100 * calls; i++) must(displaymap_row_count(&d, &rows));
     print_mean("row_count", 100 * calls);
@@ -81,6 +83,8 @@ static void reading(void) {
     print_mean("50 rows", calls);
     for (int i = 0; i < calls; i++) ask("{\"rows\":[%u,50]}", rows / 2);
     print_mean("50 rows by a line", calls);
+    for (int i = 0; i < calls; i++) must(displaymap_pieces(&d, rows / 2, some, 256, &count));
+    print_mean("pieces of a row", calls);
     for (int i = 0; i < calls; i++) must(displaymap_show(&d, middle, true, &place));
     print_mean("show", calls);
     for (int i = 0; i < calls; i++) must(displaymap_clip(&d, place.row, place.column, true, &place));

@@ -37,6 +37,27 @@ typedef struct displaymap_place {
     uint32_t column;
 } displaymap_place;
 
+/* What a piece of a row comes from. */
+enum displaymap_kind {
+    DISPLAYMAP_TEXT = 0,        /* bytes of the text without a tab */
+    DISPLAYMAP_TAB = 1,         /* one tab of the text */
+    DISPLAYMAP_INLAY = 2,       /* part of an inlay; a tab in it too */
+    DISPLAYMAP_PLACEHOLDER = 3, /* what is shown of a fold, or of folds that are joined */
+    DISPLAYMAP_BLOCK = 4,       /* a line of a block */
+    DISPLAYMAP_INDENT = 5       /* the spaces before a row that goes on with its line */
+};
+
+/* A piece of a row. Its text is the next `bytes` bytes of the row's, in which a tab is as many spaces as it has cells; in a
+ * block's line it is as it was given. */
+typedef struct displaymap_piece {
+    size_t bytes;
+    uint32_t kind;  /* one of displaymap_kind */
+    uint32_t id;    /* of the inlay or the block, else 0 */
+    uint32_t cells;
+    uint32_t start; /* the offsets of the text from which it goes and to which: one offset twice for an inlay and a block, and */
+    uint32_t end;   /* for an indent that of the piece after it; of a placeholder all that is folded */
+} displaymap_piece;
+
 enum displaymap_status {
     DISPLAYMAP_OK = 0,
     /* Refusals, with the numbers that a script prints after `!`. */
@@ -111,6 +132,13 @@ size_t displaymap_answer(displaymap *d, size_t from, uint8_t *out, size_t room);
 uint32_t displaymap_row_count(displaymap *d, uint32_t *count);
 uint32_t displaymap_row(displaymap *d, uint32_t row, uint32_t *kind);
 uint32_t displaymap_rows(displaymap *d, uint32_t first, uint32_t count);
+
+/* Gives the pieces of one row, in order, as it is now: what lies in its cells, and what that comes from. Writes as many as
+ * there are and as fit into `room` pieces; `*count` is how many there are. Pieces of `out` past those stay as they were.
+ * The row's text is kept as the answer, as `row` keeps it; the texts of the pieces lie in it one after another. Neighbours
+ * are never both text, nor of one inlay. A row of text without a letter has no piece.
+ * Fails with NO_MEMORY and NO_ROW. */
+uint32_t displaymap_pieces(displaymap *d, uint32_t row, displaymap_piece *out, size_t room, size_t *count);
 
 /* `show` gives the place where an offset is shown; `clip` the nearest place at which some offset is shown, on the side of
  * the bias; `back` the offset that this place shows, the least for left and the greatest for right.

@@ -303,6 +303,52 @@ static void rows(void) {
     print_to(output, "%s", answer);
 }
 
+/* The texts of a row's pieces, joined, are the row's text, and each of the text is what this program has there. */
+static void pieces_agree(const displaymap_piece *it, size_t count, char kind) {
+    size_t bytes = 0;
+    for (size_t i = 0; i < count; bytes += it[i++].bytes) {
+        size_t size = it[i].end - it[i].start;
+        must(it[i].start <= it[i].end && it[i].end <= length && it[i].bytes <= answer_length - bytes, "the range of a piece");
+        must(i == 0 || it[i].start >= it[i - 1].end || it[i - 1].kind == DISPLAYMAP_INDENT, "a piece begins before the last one's end");
+        must((it[i].kind == DISPLAYMAP_BLOCK) == (kind == 'b') && (it[i].kind != DISPLAYMAP_BLOCK || count == 1), "pieces of a block");
+        switch (it[i].kind) {
+        case DISPLAYMAP_TEXT:
+            must(size == it[i].bytes && !memcmp(text + it[i].start, answer + bytes, size), "a piece of the text");
+            must(i == 0 || it[i - 1].kind != DISPLAYMAP_TEXT, "two neighbours of text");
+            break;
+        case DISPLAYMAP_TAB: must(size == 1 && text[it[i].start] == '\t' && it[i].cells == it[i].bytes, "a tab"); break;
+        case DISPLAYMAP_PLACEHOLDER: must(size > 0 && !memcmp(answer + bytes, "\xe2\x8b\xaf", 3), "a placeholder"); break;
+        case DISPLAYMAP_INDENT: must(i == 0 && kind == 'w' && size == 0 && it[i].cells == it[i].bytes, "an indent"); break;
+        default: must(size == 0 && it[i].id < 12, "an inlay or a block");
+        }
+    }
+    must(bytes == answer_length, "the texts of the pieces, joined");
+}
+
+/* The pieces of a row, for which there may be less room. */
+static void pieces(void) {
+    static displaymap_piece some[4096], all[4096];
+    uint32_t number = draw_row(), kind = UNTOUCHED;
+    size_t room = draw(9), count = UNTOUCHED;
+    memset(some, 0xa5, sizeof some);
+    uint32_t status = displaymap_row(&d, number, &kind);
+    if (!status) answer_is_new();
+    must(displaymap_pieces(&d, number, room || draw(2) ? some : NULL, room, &count) == status, "the status of pieces");
+    answer_stays();
+    for (size_t i = 0; i < sizeof *some; i++) must(((uint8_t *)(some + room))[i] == 0xa5, "pieces writes past its room");
+    if (status) {
+        must(count == UNTOUCHED && ((uint8_t *)some)[0] == 0xa5, "pieces of no row");
+    } else {
+        must(count <= sizeof all / sizeof *all, "too many pieces for this program");
+        must(!displaymap_pieces(&d, number, all, count, &count), "pieces");
+        answer_is(answer, answer_length, "the text of a row by its pieces");
+        for (size_t i = 0; i < room && i < count; i++)
+            must(some[i].bytes == all[i].bytes && some[i].start == all[i].start && some[i].end == all[i].end, "the first pieces");
+        pieces_agree(all, count, (char)kind);
+    }
+    refused += status != 0;
+}
+
 /* A caret or a selection, which only lines ask. */
 static void caret(void) {
     static const char *const motions[6] = {"left", "right", "up", "down", "start", "end"};
@@ -358,6 +404,7 @@ static void closed_handle(void) {
     displaymap closed = {0};
     displaymap_place place = {UNTOUCHED, UNTOUCHED};
     uint32_t number = UNTOUCHED;
+    size_t size = UNTOUCHED;
     uint8_t byte = 0xa5;
     bool waits = true;
     must(displaymap_line(&closed, NULL, 0) == DISPLAYMAP_CLOSED, "line of a closed handle");
@@ -374,6 +421,7 @@ static void closed_handle(void) {
     must(displaymap_mark(&closed, 0, &number) == DISPLAYMAP_CLOSED, "mark of a closed handle");
     must(displaymap_row(&closed, 0, &number) == DISPLAYMAP_CLOSED, "row of a closed handle");
     must(displaymap_rows(&closed, 0, 1) == DISPLAYMAP_CLOSED, "rows of a closed handle");
+    must(displaymap_pieces(&closed, 0, NULL, 0, &size) == DISPLAYMAP_CLOSED && size == UNTOUCHED, "pieces of a closed handle");
     must(displaymap_answer(&closed, 0, &byte, 1) == 0 && byte == 0xa5, "answer of a closed handle");
     must(number == UNTOUCHED && place.row == UNTOUCHED && place.column == UNTOUCHED, "a closed handle wrote a value");
     displaymap_close(&closed);
@@ -408,11 +456,12 @@ static void call(void) {
     else if (it < 18) wrap_some();
     else if (it < 19) other_handle();
     else if (it < 20) draw(8) ? caret() : closed_handle();
+    else if (it < 22) pieces();
     else {
         wrap_all();
-        if (it < 23) show();
-        else if (it < 26) clip_and_back();
-        else if (it < 29) row();
+        if (it < 25) show();
+        else if (it < 27) clip_and_back();
+        else if (it < 30) row();
         else rows();
     }
 }

@@ -18,6 +18,10 @@ const REASONS = {
   18: 'journal is full', 19: 'not UTF-8', 20: 'no such row',
 };
 
+/* What a piece of a row comes from. `fold` is the placeholder of a fold, or of folds that are joined. */
+const KINDS = ['text', 'tab', 'inlay', 'fold', 'block', 'indent'];
+const PIECE_SIZE = 32; // bytes of a displaymap_piece
+
 class Refusal extends Error {
   constructor(status) {
     super(REASONS[status] ?? `status ${status}`);
@@ -105,6 +109,26 @@ class DisplayMap {
     return this.#answer().split('\n').slice(0, -1).map((line, index) => {
       const bar = line.indexOf('|');
       return { number: first + index, kind: line[bar - 1], text: line.slice(bar + 1) };
+    });
+  }
+
+  /** The pieces of a row: each one's kind, text, cells, and the offsets from its start to its end; of an inlay or a block
+   * its id. */
+  pieces(row) {
+    let [count, room] = [64, 0];
+    while (count > room) {
+      room = count;
+      this.#makeRoom(room * PIECE_SIZE);
+      this.#call('pieces', row, this.#buffer, BigInt(room), this.#result);
+      [count] = this.#words();
+    }
+    const pieces = Array.from({ length: count }, (_, index) => this.#piece(index));
+    const texts = this.#answerBytes();
+    let end = 0;
+    return pieces.map(({ bytes, ...piece }) => {
+      const start = end;
+      end += bytes;
+      return { ...piece, text: DisplayMap.#decoder.decode(texts.subarray(start, end)) };
     });
   }
 
@@ -197,10 +221,21 @@ class DisplayMap {
     return [this.#buffer, BigInt(bytes.length)];
   }
 
-  #answer() {
+  // The piece of this number in the buffer. No row has 2^32 bytes.
+  #piece(index) {
+    const at = Number(this.#buffer) + index * PIECE_SIZE;
+    const [bytes, , kind, id, cells, start, end] = new Uint32Array(this.#calls.memory.buffer, at, 7);
+    return { bytes, kind: KINDS[kind], id, cells, start, end };
+  }
+
+  #answerBytes() {
     const length = this.#calls.displaymap_answer(this.#handle, 0n, 0n, 0n);
     this.#makeRoom(Number(length));
     this.#calls.displaymap_answer(this.#handle, 0n, this.#buffer, length);
-    return DisplayMap.#decoder.decode(this.#bytes(this.#buffer, Number(length)));
+    return this.#bytes(this.#buffer, Number(length));
+  }
+
+  #answer() {
+    return DisplayMap.#decoder.decode(this.#answerBytes());
   }
 }

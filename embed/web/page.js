@@ -30,6 +30,7 @@ const ROW = 22; // pixels, as --row
 const WRAP_TIME = 8; // milliseconds of wrapping between two frames
 const FLASH_TIME = 1000; // milliseconds, as of .changed
 const LONGEST = 400; // characters of a row that are drawn
+const SEGMENTER = new Intl.Segmenter();
 
 const $ = id => document.getElementById(id);
 const [view, sheet, keys] = ['view', 'sheet', 'keys'].map($);
@@ -277,8 +278,8 @@ function rowElement(row, selected) {
     it.style.animationDelay = `${-age}ms`; // so that it goes on where the row is drawn again
   }
   const cells = element('div', 'cells');
-  for (const piece of piecesOf(map, { ...row, text: row.text.slice(0, LONGEST) })) {
-    cells.append(element('span', piece.kind, piece.cells ? { width: `${piece.cells}ch` } : {}, piece.text));
+  for (const piece of boxesOf(row.number)) {
+    cells.append(element('span', piece.kind, { width: `${piece.cells}ch` }, piece.text.slice(0, LONGEST)));
   }
   if (selected) {
     const { start, end } = selected;
@@ -286,6 +287,39 @@ function rowElement(row, selected) {
   }
   it.append(cells);
   return it;
+}
+
+// Whether each letter of a text has one cell.
+const isEven = ({ text, cells }) => text.length === cells;
+
+// The pieces of a row, as far as it is drawn. In the text each cluster with more cells than letters is a box of its own.
+function boxesOf(row) {
+  const boxes = [];
+  let length = 0;
+  for (const piece of map.pieces(row)) {
+    if (length > LONGEST) break;
+    length += piece.text.length;
+    if (piece.kind !== 'text' || isEven(piece)) boxes.push(piece);
+    else boxes.push(...clustersOf(piece));
+  }
+  return boxes;
+}
+
+// The clusters of a piece of text, but those that have one cell for each letter joined.
+function clustersOf(piece) {
+  const clusters = [];
+  let [{ start, cells: left }, { column }] = [piece, map.show(piece.start, true)];
+  for (const { segment: text } of SEGMENTER.segment(piece.text.slice(0, LONGEST))) {
+    start += new TextEncoder().encode(text).length;
+    const cells = start < piece.end ? map.show(start, false).column - column : left;
+    [column, left] = [column + cells, left - cells];
+    const last = clusters.at(-1);
+    if (last && isEven(last) && isEven({ text, cells })) {
+      last.text += text;
+      last.cells += cells;
+    } else clusters.push({ kind: 'text', text, cells });
+  }
+  return clusters;
 }
 
 function pinElements() {

@@ -3,4 +3,5 @@ pub mod Biases
 pub mod Calls
 pub mod Handles
 pub mod Held
+pub mod Pieces
 pub mod Statuses

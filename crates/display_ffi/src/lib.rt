@@ -9,6 +9,7 @@ pub mod changing;
 pub mod handle;
 pub mod kept;
 pub mod marking;
+pub mod pieces;
 pub mod reading;
 pub mod status;
 #[cfg(test)]

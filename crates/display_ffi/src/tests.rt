@@ -5,6 +5,7 @@ use crate::changing::{
 };
 use crate::handle::Handle;
 use crate::marking::{displaymap_add_mark, displaymap_mark, displaymap_remove_mark};
+use crate::pieces::{Piece, TAB, TEXT as TEXT_PIECE, displaymap_pieces};
 use crate::reading::{
     Place, displaymap_back, displaymap_clip, displaymap_row, displaymap_row_count, displaymap_rows,
     displaymap_show, displaymap_slice, displaymap_text_len,
@@ -116,6 +117,45 @@ fn a_mark_goes_along_with_what_is_put_in_before_it(rt: HostRuntime) -> Result<()
     assert_eq!(rt; offset, 15);
     assert_eq!(rt; displaymap_remove_mark(alloc, &mut handle, 5), OK);
     assert_eq!(rt; displaymap_remove_mark(alloc, &mut handle, 5), 4);
+    displaymap_close(alloc, &mut handle);
+    Ok(())
+}
+
+/// The second row begins with a tab. There is room for one piece of it.
+#[test]
+fn a_handle_gives_the_pieces_of_a_row(rt: HostRuntime) -> Result<(), Fail> {
+    let alloc = rt.alloc();
+    let mut handle = Handle::closed();
+    let none = Piece {
+        bytes: 0,
+        kind: 7,
+        id: 7,
+        cells: 7,
+        start: 7,
+        end: 7,
+    };
+    let mut out = [none; 2];
+    let mut count = 0;
+    assert_eq!(rt; displaymap_open(alloc, &mut handle, TEXT), OK);
+    assert_eq!(rt;
+        displaymap_pieces(alloc, &mut handle, 1, &mut out[..1], &mut count),
+        OK
+    );
+    assert_eq!(rt; count, 2);
+    assert_eq!(rt; (out[0].kind, out[0].bytes, out[0].end), (TAB, 4, 13));
+    assert_eq!(rt; out[1].kind, 7);
+    assert_eq!(rt;
+        displaymap_pieces(alloc, &mut handle, 1, &mut out, &mut count),
+        OK
+    );
+    assert_eq!(rt;
+        (out[1].kind, out[1].cells, out[1].start),
+        (TEXT_PIECE, 14, 13)
+    );
+    assert_eq!(rt;
+        displaymap_pieces(alloc, &mut handle, 4, &mut out, &mut count),
+        NO_ROW
+    );
     displaymap_close(alloc, &mut handle);
     Ok(())
 }

@@ -62,6 +62,32 @@ pub struct Row {
     pub text: String,
 }
 
+/// What a piece of a row comes from.
+#[derive(Clone, Copy, Debug, PartialEq, Eq)]
+pub enum PieceKind {
+    /// Bytes of the text without a tab.
+    Text,
+    /// One tab of the text.
+    Tab,
+    /// Part of the inlay of this id.
+    Inlay(u32),
+    /// What is shown of a fold, or of folds that are joined.
+    Placeholder,
+    /// A line of the block of this id.
+    Block(u32),
+    /// The spaces before a row that continues a line.
+    Indent,
+}
+
+/// A piece of a row: its text as it is printed, the cells that it takes, and the offsets of the text that it goes over.
+#[derive(Clone, Debug, PartialEq, Eq)]
+pub struct Piece {
+    pub kind: PieceKind,
+    pub text: String,
+    pub cells: u32,
+    pub range: Range<u32>,
+}
+
 /// An open display.
 pub struct DisplayMap {
     handle: Handle,
@@ -74,6 +100,17 @@ fn checked(status: u32) -> Result<(), Error> {
         18 => Err(Error::JournalFull),
         19 => Err(Error::NotUtf8),
         number => Err(Error::Refused(number)),
+    }
+}
+
+fn piece_kind(piece: &raw::Piece) -> PieceKind {
+    match piece.kind {
+        0 => PieceKind::Text,
+        1 => PieceKind::Tab,
+        2 => PieceKind::Inlay(piece.id),
+        3 => PieceKind::Placeholder,
+        4 => PieceKind::Block(piece.id),
+        _ => PieceKind::Indent,
     }
 }
 
@@ -184,6 +221,37 @@ impl DisplayMap {
     pub fn rows(&mut self, first: u32, count: u32) -> Result<String, Error> {
         checked(unsafe { raw::displaymap_rows(&mut self.handle, first, count) })?;
         Ok(self.answer())
+    }
+
+    /// The pieces of the row of this number; `None` past the last.
+    pub fn pieces(&mut self, row: u32) -> Result<Option<Vec<Piece>>, Error> {
+        let mut found: Vec<raw::Piece> = Vec::new();
+        let mut count = 16;
+        while count > found.len() {
+            found.resize(count, raw::Piece::default());
+            let (out, room) = (found.as_mut_ptr(), found.len());
+            let status =
+                unsafe { raw::displaymap_pieces(&mut self.handle, row, out, room, &mut count) };
+            if status == NO_ROW {
+                return Ok(None);
+            }
+            checked(status)?;
+        }
+        found.truncate(count);
+        let answer = self.answer();
+        let mut rest = answer.as_str();
+        let mut pieces = Vec::new();
+        for piece in &found {
+            let (text, after) = rest.split_at(piece.bytes);
+            rest = after;
+            pieces.push(Piece {
+                kind: piece_kind(piece),
+                text: text.to_string(),
+                cells: piece.cells,
+                range: piece.start..piece.end,
+            });
+        }
+        Ok(Some(pieces))
     }
 
     /// Where an offset is shown.

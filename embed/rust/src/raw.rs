@@ -14,6 +14,18 @@ pub struct Place {
     pub column: u32,
 }
 
+/// A piece of a row. Its text is the next `bytes` bytes of the row's.
+#[repr(C)]
+#[derive(Clone, Copy, Default)]
+pub struct Piece {
+    pub bytes: usize,
+    pub kind: u32,
+    pub id: u32,
+    pub cells: u32,
+    pub start: u32,
+    pub end: u32,
+}
+
 pub const OK: u32 = 0;
 pub const UNKNOWN_ID: u32 = 4;
 pub const NO_ROW: u32 = 20;
@@ -39,6 +51,13 @@ extern "C" {
     pub fn displaymap_row_count(d: *mut Handle, count: *mut u32) -> u32;
     pub fn displaymap_row(d: *mut Handle, row: u32, kind: *mut u32) -> u32;
     pub fn displaymap_rows(d: *mut Handle, first: u32, count: u32) -> u32;
+    pub fn displaymap_pieces(
+        d: *mut Handle,
+        row: u32,
+        out: *mut Piece,
+        room: usize,
+        count: *mut usize,
+    ) -> u32;
     pub fn displaymap_show(d: *mut Handle, offset: u32, right: bool, place: *mut Place) -> u32;
     pub fn displaymap_clip(
         d: *mut Handle,

@@ -1,5 +1,5 @@
 //! The sessions of the repository, and worked rows.
-use displaymap::{Bias, DisplayMap, Error, Kind, Row, Spot};
+use displaymap::{Bias, DisplayMap, Error, Kind, Piece, PieceKind, Row, Spot};
 use std::{fs, path::Path};
 
 const TEXT: &[u8] = b"fn main() {\n\tlet total = 1;\n}\n";
@@ -64,6 +64,42 @@ fn offsets_lead_to_spots_and_back() -> Result<(), Error> {
     assert_eq!(map.back(spot, Bias::Right)?, 13);
     assert_eq!(map.clip(Spot { row: 1, column: 2 }, Bias::Right)?, spot);
     assert_eq!(map.show(31, Bias::Left), Err(Error::Refused(2)));
+    Ok(())
+}
+
+fn piece(kind: PieceKind, text: &str, cells: u32, range: std::ops::Range<u32>) -> Piece {
+    let text = text.to_string();
+    Piece {
+        kind,
+        text,
+        cells,
+        range,
+    }
+}
+
+#[test]
+fn a_row_has_pieces() -> Result<(), Error> {
+    let mut map = DisplayMap::open(TEXT)?;
+    map.line(br#"{"inlay":[7,22,"right",": T"]}"#)?;
+    map.line(br#"{"fold":[1,25,26]}"#)?;
+    map.line(br#"{"block":[3,"above",2,["end"]]}"#)?;
+    let wanted = vec![
+        piece(PieceKind::Tab, "    ", 4, 12..13),
+        piece(PieceKind::Text, "let total", 9, 13..22),
+        piece(PieceKind::Inlay(7), ": T", 3, 22..22),
+        piece(PieceKind::Text, " = ", 3, 22..25),
+        piece(PieceKind::Placeholder, "⋯", 1, 25..26),
+        piece(PieceKind::Text, ";", 1, 26..27),
+    ];
+    assert_eq!(map.pieces(1)?, Some(wanted));
+    assert_eq!(
+        map.pieces(2)?,
+        Some(vec![piece(PieceKind::Block(3), "end", 3, 28..28)])
+    );
+    assert_eq!(map.pieces(4)?, Some(Vec::new()));
+    assert_eq!(map.pieces(5)?, None);
+    map.edit(0..0, &"\t".repeat(40))?;
+    assert_eq!(map.pieces(0)?.map(|pieces| pieces.len()), Some(41));
     Ok(())
 }
 
