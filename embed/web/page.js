@@ -289,23 +289,23 @@ function rowElement(row, selected) {
   return it;
 }
 
-// Whether each letter of a text has one cell.
-const isEven = ({ text, cells }) => text.length === cells;
+// Whether each letter of a text has one cell, whatever it is.
+const isAscii = text => /^[ -~]*$/.test(text);
 
-// The pieces of a row, as far as it is drawn. In the text each cluster with more cells than letters is a box of its own.
+// The pieces of a row, as far as it is drawn. In the text a cluster that isn't one letter in one cell is a box of its own.
 function boxesOf(row) {
   const boxes = [];
   let length = 0;
   for (const piece of map.pieces(row)) {
     if (length > LONGEST) break;
     length += piece.text.length;
-    if (piece.kind !== 'text' || isEven(piece)) boxes.push(piece);
+    if (piece.kind !== 'text' || isAscii(piece.text)) boxes.push(piece);
     else boxes.push(...clustersOf(piece));
   }
   return boxes;
 }
 
-// The clusters of a piece of text, but those that have one cell for each letter joined.
+// The clusters of a piece of text, of which neighbours that are one letter in one cell are joined.
 function clustersOf(piece) {
   const clusters = [];
   let [{ start, cells: left }, { column }] = [piece, map.show(piece.start, true)];
@@ -313,11 +313,12 @@ function clustersOf(piece) {
     start += new TextEncoder().encode(text).length;
     const cells = start < piece.end ? map.show(start, false).column - column : left;
     [column, left] = [column + cells, left - cells];
+    const isLetter = cells === 1 && [...text].length === 1;
     const last = clusters.at(-1);
-    if (last && isEven(last) && isEven({ text, cells })) {
+    if (isLetter && last?.isLetter) {
       last.text += text;
-      last.cells += cells;
-    } else clusters.push({ kind: 'text', text, cells });
+      last.cells++;
+    } else clusters.push({ kind: 'text', text, cells, isLetter });
   }
   return clusters;
 }
