@@ -303,50 +303,75 @@ static void rows(void) {
     print_to(output, "%s", answer);
 }
 
-/* The texts of a row's pieces, joined, are the row's text, and each of the text is what this program has there. */
-static void pieces_agree(const displaymap_piece *it, size_t count, char kind) {
+/* What a piece of an inlay or a block shows begins so, as far as it goes. */
+static bool begins_with(const displaymap_piece *it, const char *shown, const char *form) {
+    char wanted[16];
+    size_t size = (size_t)snprintf(wanted, sizeof wanted, form, it->id);
+    return !memcmp(shown, wanted, it->bytes < size ? it->bytes : size);
+}
+
+/* A piece is of this text, of a fold, or of an inlay or a block that this program could have added. */
+static void piece_agrees(const displaymap_piece *it, const char *shown) {
+    uint32_t size = it->end - it->start;
+    switch (it->kind) {
+    case DISPLAYMAP_TEXT: must(size == it->bytes && !memcmp(text + it->start, shown, size), "a piece of the text"); break;
+    case DISPLAYMAP_TAB: must(size == 1 && text[it->start] == '\t' && it->cells == it->bytes, "a tab"); break;
+    case DISPLAYMAP_PLACEHOLDER: must(size && it->cells == 1 && it->bytes == 3 && !memcmp(shown, "\xe2\x8b\xaf", 3), "a placeholder"); break;
+    case DISPLAYMAP_INDENT: must(!size && it->cells == it->bytes, "an indent"); break;
+    case DISPLAYMAP_INLAY: must(!size && it->cells == it->bytes && (*shown != '<' || begins_with(it, shown, "<%u ")), "an inlay"); break;
+    case DISPLAYMAP_BLOCK: must(!size && it->cells == it->bytes && begins_with(it, shown, "-- %u"), "a block"); break;
+    default: must(false, "the kind of a piece");
+    }
+    must(it->kind == DISPLAYMAP_INLAY || it->kind == DISPLAYMAP_BLOCK ? it->id < 12 : it->id == 0, "the id of a piece");
+}
+
+/* The texts of a row's pieces, joined, are the row's text. Each piece follows the one before it in the text and in the row,
+ * and what has bytes is shown where the cells before it end. */
+static void pieces_agree(const displaymap_piece *it, size_t count, uint32_t row, char kind) {
     size_t bytes = 0;
-    for (size_t i = 0; i < count; bytes += it[i++].bytes) {
-        size_t size = it[i].end - it[i].start;
+    displaymap_place place = {row, 0};
+    for (size_t i = 0; i < count; bytes += it[i].bytes, place.column += it[i].cells, i++) {
+        displaymap_place shown;
         must(it[i].start <= it[i].end && it[i].end <= length && it[i].bytes <= answer_length - bytes, "the range of a piece");
-        must(i == 0 || it[i].start >= it[i - 1].end || it[i - 1].kind == DISPLAYMAP_INDENT, "a piece begins before the last one's end");
-        must((it[i].kind == DISPLAYMAP_BLOCK) == (kind == 'b') && (it[i].kind != DISPLAYMAP_BLOCK || count == 1), "pieces of a block");
-        switch (it[i].kind) {
-        case DISPLAYMAP_TEXT:
-            must(size == it[i].bytes && !memcmp(text + it[i].start, answer + bytes, size), "a piece of the text");
-            must(i == 0 || it[i - 1].kind != DISPLAYMAP_TEXT, "two neighbours of text");
-            break;
-        case DISPLAYMAP_TAB: must(size == 1 && text[it[i].start] == '\t' && it[i].cells == it[i].bytes, "a tab"); break;
-        case DISPLAYMAP_PLACEHOLDER: must(size > 0 && !memcmp(answer + bytes, "\xe2\x8b\xaf", 3), "a placeholder"); break;
-        case DISPLAYMAP_INDENT: must(i == 0 && kind == 'w' && size == 0 && it[i].cells == it[i].bytes, "an indent"); break;
-        default: must(size == 0 && it[i].id < 12, "an inlay or a block");
-        }
+        must(it[i].bytes > 0 || kind == 'b', "an empty piece");
+        must(i == 0 || it[i].start == it[i - 1].end, "a piece that doesn't begin at the last one's end");
+        must(i == 0 || it[i].kind != DISPLAYMAP_TEXT || it[i - 1].kind != DISPLAYMAP_TEXT, "two neighbours of text");
+        must((it[i].kind == DISPLAYMAP_BLOCK) == (kind == 'b') && (kind != 'b' || count == 1), "the piece of a block");
+        must(it[i].kind != DISPLAYMAP_INDENT || (i == 0 && kind == 'w'), "an indent that isn't the first of a row that goes on");
+        piece_agrees(it + i, answer + bytes);
+        if (it[i].start == it[i].end) continue;
+        must(!displaymap_show(&d, it[i].start, true, &shown) && !memcmp(&shown, &place, sizeof place), "where a piece is shown");
     }
     must(bytes == answer_length, "the texts of the pieces, joined");
 }
 
+static bool is_same(const displaymap_piece *a, const displaymap_piece *b) {
+    return a->bytes == b->bytes && a->kind == b->kind && a->id == b->id && a->cells == b->cells && a->start == b->start && a->end == b->end;
+}
+
 /* The pieces of a row, for which there may be less room. */
 static void pieces(void) {
-    static displaymap_piece some[4096], all[4096];
+    static displaymap_piece some[16], all[4096];
     uint32_t number = draw_row(), kind = UNTOUCHED;
-    size_t room = draw(9), count = UNTOUCHED;
+    size_t room = draw(9), count = UNTOUCHED, most;
     memset(some, 0xa5, sizeof some);
     uint32_t status = displaymap_row(&d, number, &kind);
     if (!status) answer_is_new();
     must(displaymap_pieces(&d, number, room || draw(2) ? some : NULL, room, &count) == status, "the status of pieces");
     answer_stays();
     for (size_t i = 0; i < sizeof *some; i++) must(((uint8_t *)(some + room))[i] == 0xa5, "pieces writes past its room");
+    refused += status != 0;
     if (status) {
         must(count == UNTOUCHED && ((uint8_t *)some)[0] == 0xa5, "pieces of no row");
-    } else {
-        must(count <= sizeof all / sizeof *all, "too many pieces for this program");
-        must(!displaymap_pieces(&d, number, all, count, &count), "pieces");
-        answer_is(answer, answer_length, "the text of a row by its pieces");
-        for (size_t i = 0; i < room && i < count; i++)
-            must(some[i].bytes == all[i].bytes && some[i].start == all[i].start && some[i].end == all[i].end, "the first pieces");
-        pieces_agree(all, count, (char)kind);
+        return;
     }
-    refused += status != 0;
+    must(count < sizeof all / sizeof *all, "too many pieces for this program");
+    memset(all, 0xa5, sizeof *all * (count + 1));
+    must(!displaymap_pieces(&d, number, all, count + draw(2), &most) && most == count, "pieces");
+    answer_is(answer, answer_length, "the text of a row by its pieces");
+    for (size_t i = 0; i < sizeof *all; i++) must(((uint8_t *)(all + count))[i] == 0xa5, "pieces writes past the last");
+    for (size_t i = 0; i < room && i < count; i++) must(is_same(some + i, all + i), "the first pieces");
+    pieces_agree(all, count, number, (char)kind);
 }
 
 /* A caret or a selection, which only lines ask. */

@@ -31,6 +31,8 @@ static uint32_t call(int number) {
     static const char text[] = "fn main() {\n\tlet total = items.iter().sum();\n\tprintln!(\"{total}\");\n}\n";
     static const char *lines[] = {"{\"width\":24}", "{\"inlay\":[1,22,\"right\",\": u32\"]}", "{\"fold\":[1,11,20]}",
                                   "{\"move\":[0,3,3,\"down\"]}", "{\"select\":[0,3,2,4]}", "{\"rows\":[0,9]}"};
+    static displaymap_piece pieces[9];
+    size_t pieces_count;
     bool waits;
     switch (number) {
     case 0: return displaymap_open(&d, (const uint8_t *)text, sizeof text - 1);
@@ -41,7 +43,8 @@ static uint32_t call(int number) {
     case 7: return displaymap_edit(&d, 3, 7, (const uint8_t *)"run", 3);
     case 8: return displaymap_remove_mark(&d, 2);
     case 9: return displaymap_slice(&d, 3, 43);
-    default: return displaymap_line(&d, (const uint8_t *)lines[number - 7], strlen(lines[number - 7]));
+    case 10: return displaymap_pieces(&d, 1, pieces, 9, &pieces_count);
+    default: return displaymap_line(&d, (const uint8_t *)lines[number - 8], strlen(lines[number - 8]));
     }
 }
 
@@ -49,7 +52,7 @@ static uint32_t call(int number) {
 static bool played(long number) {
     left = number;
     failed = 0;
-    for (int i = 0; i < 13; i++) {
+    for (int i = 0; i < 14; i++) {
         uint32_t status = call(i);
         if (status == DISPLAYMAP_NO_MEMORY && failed == 1) status = call(i);
         if (status) {
