@@ -1,4 +1,7 @@
-/* What calls cost: cost BYTES [WIDTH]. Each figure is the mean of some calls, in processor time. A screen has 50 rows. */
+/* What calls cost: cost BYTES [WIDTH]. Each figure is the mean of some calls, in processor time. A screen has 50 rows.
+ *
+ * `cost BYTES WIDTH LETTERS` types so many letters and does nothing else. It prints how many bytes all screens have, as
+ * crates/bench_session does; bench/session times both. */
 #include "displaymap.h"
 #include <stdarg.h>
 #include <stdio.h>
@@ -12,6 +15,7 @@ static displaymap d;
 static uint32_t middle; /* of the text, where calls edit and look */
 static int calls;       /* of the slower kind */
 static double begun;
+static bool only_types;
 
 static double now(void) {
     struct timespec t;
@@ -20,6 +24,7 @@ static double now(void) {
 }
 
 static void print_mean(const char *what, int count) {
+    if (only_types) return;
     double each = (now() - begun) / count;
     if (each < 10) printf("%-28s %10.1f ns\n", what, each * 1e3);
     else printf("%-28s %10.1f us\n", what, each);
@@ -48,15 +53,23 @@ static void wrap_all(void) {
     must(displaymap_wrap(&d, UINT32_MAX, &waits));
 }
 
-/* Puts a letter in and reads the screen at it, as a host does at a key. */
-static void type_letter(void) {
+/* Puts a letter in and reads the screen at it, as a host does at a key. Returns how many bytes it has. */
+static size_t type_letter(void) {
     static uint8_t screen[1 << 20];
     displaymap_place place;
     put_letter();
     wrap_all();
     must(displaymap_show(&d, middle, true, &place));
     must(displaymap_rows(&d, place.row < 25 ? 0 : place.row - 25, 50));
-    if (displaymap_answer(&d, 0, screen, sizeof screen) > sizeof screen) must(1);
+    size_t length = displaymap_answer(&d, 0, screen, sizeof screen);
+    if (length > sizeof screen) must(1);
+    return length;
+}
+
+static void type_letters(int letters) {
+    size_t bytes = 0;
+    for (int i = 0; i < letters; i++) bytes += type_letter();
+    printf("%zu\n", bytes);
 }
 
 static void edits(void) {
@@ -108,11 +121,20 @@ static void marks(void) {
     print_mean("remove_mark", MARKS);
 }
 
+static void time_calls(void) {
+    edits();
+    reading();
+    marks();
+    for (int i = 0; i < 1000000; i++) displaymap_answer(&d, 0, NULL, 0);
+    print_mean("a call that does nothing", 1000000);
+}
+
 int main(int count, char **words) {
     static const char line[] = "\tlet total = items.iter().map(|it| it.price * it.count).sum::<u64>(); // what all of them cost together\n";
     size_t size = count > 1 ? strtoul(words[1], NULL, 10) : 1000000;
     uint8_t *text = malloc(size + 1);
     if (!text) return 1;
+    only_types = count > 3;
     middle = (uint32_t)(size / 2);
     calls = size > 2000000 ? 5 : 50;
     for (size_t at = 0; at < size; at++) text[at] = (uint8_t)line[at % (sizeof line - 1)];
@@ -123,11 +145,8 @@ int main(int count, char **words) {
     print_mean("width", 1);
     wrap_all();
     print_mean("wrap of all lines", 1);
-    edits();
-    reading();
-    marks();
-    for (int i = 0; i < 1000000; i++) displaymap_answer(&d, 0, NULL, 0);
-    print_mean("a call that does nothing", 1000000);
+    if (only_types) type_letters(atoi(words[3]));
+    else time_calls();
     displaymap_close(&d);
     free(text);
     return 0;

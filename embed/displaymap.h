@@ -136,7 +136,7 @@ uint32_t displaymap_rows(displaymap *d, uint32_t first, uint32_t count);
 /* Gives the pieces of one row, in order, as it is now: what lies in its cells, and what that comes from. Writes as many as
  * there are and as fit into `room` pieces; `*count` is how many there are. Pieces of `out` past those stay as they were.
  * The row's text is kept as the answer, as `row` keeps it; the texts of the pieces lie in it one after another. Neighbours
- * are never both text, nor of one inlay. A row of text without a letter has no piece.
+ * are never both text, nor of one inlay. An empty row of text has no piece.
  * Fails with NO_MEMORY and NO_ROW. */
 uint32_t displaymap_pieces(displaymap *d, uint32_t row, displaymap_piece *out, size_t room, size_t *count);
 

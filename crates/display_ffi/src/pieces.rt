@@ -1,8 +1,8 @@
 //! The call that reads the pieces of a row.
-ghost use Rattle.std.specs.Prelude.{◌≡◌, ◌≤◌, None, length, map, slice_get, string_bytes};
+ghost use Rattle.std.specs.Prelude.{◌≡◌, ◌≤◌, ◌⊎◌, None, length, map, slice_get, string_bytes};
 ghost use Rattle.display_map.specs.Replay.{present_of};
 ghost use Rattle.row_pieces.specs.Pieces.{pieces_in_rows};
-ghost use Rattle.display_ffi.specs.declared.status.TheConstants.{CLOSED, NO_ROW, OK};
+ghost use Rattle.display_ffi.specs.declared.status.TheConstants.{CLOSED, NO_MEMORY, NO_ROW, OK};
 ghost use Rattle.display_ffi.specs.Calls.{Both};
 ghost use Rattle.display_ffi.specs.Handles.{IsHandle};
 ghost use Rattle.display_ffi.specs.Pieces.{AreGiven, as_given, filled, id_of, number_of};
@@ -112,7 +112,9 @@ pub extern "C" fn displaymap_pieces(
     ensures past { result ≡ NO_ROW → Both
         (λ a b. slice_get (pieces_in_rows (present_of a.display)) row ≡ None)
         handle.old.kept.session handle.new.kept.session }
-    ensures failed { 1 ≤ result → handle.new.kept.session ≡ handle.old.kept.session }
+    ensures failed { 1 ≤ result → Both
+        (λ a b. (b ≡ a) × ((result ≡ NO_ROW) ⊎ (result ≡ NO_MEMORY)))
+        handle.old.kept.session handle.new.kept.session }
     ensures untouched { 1 ≤ result → (count.new ≡ count.old) × (out.new ≡ out.old) }
     ensures closed { handle.old.kept.session ≡ None → result ≡ CLOSED }
 {
