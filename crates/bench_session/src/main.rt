@@ -10,7 +10,8 @@ use display_session::{Session, Trouble};
 use std::alloc::{AllocError, Global};
 use std::{env, io};
 
-const LINE: &[u8] = b"\tlet total = items.iter().map(|it| it.price * it.count).sum::<u64>(); // what all of them cost together\n";
+const LINE: &[u8] =
+    b"\tlet total = items.iter().map(|it| it.price * it.count).sum::<u64>(); // what all of them cost together\n";
 
 /// How many bytes of rows are copied out at once.
 const ROOM: usize = 1_048_576;

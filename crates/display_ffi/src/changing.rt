@@ -42,6 +42,7 @@ pub extern "C" fn displaymap_open(alloc: Global, handle: &mut Handle, text: &[u8
     ensures accepted { result ≡ OK → IsAccepted text.now }
     ensures long { result ≡ 5 → TEXT_LIMIT < length text.now }
     ensures not_utf8 { result ≡ NOT_UTF8 → ¬ IsUtf8 text.now }
+    ensures not_closed { ¬ (result ≡ CLOSED) }
 {
     let _old = take(alloc, handle);
     let session = match Session::open(alloc, text) {
@@ -85,6 +86,7 @@ pub extern "C" fn displaymap_line(alloc: Global, handle: &mut Handle, line: &[u8
         (λ a b. IsWrapped a.display b.display × (b.answer ≡ a.answer) × (b.marks ≡ a.marks))
         handle.old.kept.session handle.new.kept.session }
     ensures closed { handle.old.kept.session ≡ None → result ≡ CLOSED }
+    ensures open { result ≡ CLOSED → handle.old.kept.session ≡ None }
 {
     let Some(mut session) = take(alloc, handle) else {
         return CLOSED;
@@ -120,6 +122,7 @@ pub extern "C" fn displaymap_edit(
         handle.old.kept.session handle.new.kept.session }
     ensures failed { 1 ≤ result → handle.new.kept.session ≡ handle.old.kept.session }
     ensures closed { handle.old.kept.session ≡ None → result ≡ CLOSED }
+    ensures open { result ≡ CLOSED → handle.old.kept.session ≡ None }
 {
     let Some(mut session) = take(alloc, handle) else {
         return CLOSED;
@@ -150,6 +153,7 @@ pub extern "C" fn displaymap_wrap(
         handle.old.kept.session handle.new.kept.session }
     ensures untouched { 1 ≤ result → waits.new ≡ waits.old }
     ensures closed { handle.old.kept.session ≡ None → result ≡ CLOSED }
+    ensures open { result ≡ CLOSED → handle.old.kept.session ≡ None }
 {
     let Some(mut session) = take(alloc, handle) else {
         return CLOSED;

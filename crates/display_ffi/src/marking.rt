@@ -39,6 +39,7 @@ pub extern "C" fn displaymap_add_mark(
         handle.old.kept.session handle.new.kept.session }
     ensures failed { 1 ≤ result → handle.new.kept.session ≡ handle.old.kept.session }
     ensures closed { handle.old.kept.session ≡ None → result ≡ CLOSED }
+    ensures open { result ≡ CLOSED → handle.old.kept.session ≡ None }
 {
     let Some(mut session) = take(alloc, handle) else {
         return CLOSED;
@@ -65,6 +66,7 @@ pub extern "C" fn displaymap_remove_mark(alloc: Global, handle: &mut Handle, id:
         handle.old.kept.session handle.new.kept.session }
     ensures failed { 1 ≤ result → handle.new.kept.session ≡ handle.old.kept.session }
     ensures closed { handle.old.kept.session ≡ None → result ≡ CLOSED }
+    ensures open { result ≡ CLOSED → handle.old.kept.session ≡ None }
 {
     let Some(mut session) = take(alloc, handle) else {
         return CLOSED;
@@ -95,6 +97,7 @@ pub extern "C" fn displaymap_mark(
         handle.old.kept.session handle.new.kept.session }
     ensures untouched { 1 ≤ result → offset.new ≡ offset.old }
     ensures closed { handle.old.kept.session ≡ None → result ≡ CLOSED }
+    ensures open { result ≡ CLOSED → handle.old.kept.session ≡ None }
 {
     let Some(session) = take(alloc, handle) else {
         return CLOSED;

@@ -1,5 +1,5 @@
 //! Calls that read a display.
-ghost use Rattle.std.specs.Prelude.{◌≡◌, ◌≤◌, length, option_map, slice_get, slice_range, string_bytes, Some, None};
+ghost use Rattle.std.specs.Prelude.{◌≡◌, ◌≤◌, ◌⊎◌, length, option_map, slice_get, slice_range, string_bytes, Some, None};
 ghost use Rattle.cell_units.specs.Refusal.{number_of};
 ghost use Rattle.plain_rows.specs.Rows.{rows_of};
 ghost use Rattle.plain_rows.specs.Spots.{back, clip, show};
@@ -9,7 +9,7 @@ ghost use Rattle.edit_script.specs.declared.asked.Query.TheVariants.{Rows};
 ghost use Rattle.edit_script.specs.Answers.{lines_of};
 ghost use Rattle.display_session.specs.Answers.{printed};
 ghost use Rattle.display_session.specs.Slices.{slice_refusal};
-ghost use Rattle.display_ffi.specs.declared.status.TheConstants.{CLOSED, NO_ROW, OK};
+ghost use Rattle.display_ffi.specs.declared.status.TheConstants.{CLOSED, NO_MEMORY, NO_ROW, OK};
 ghost use Rattle.display_ffi.specs.Biases.{bias_of};
 ghost use Rattle.display_ffi.specs.Calls.{Both};
 ghost use Rattle.display_ffi.specs.Handles.{IsHandle};
@@ -42,6 +42,8 @@ pub extern "C" fn displaymap_text_len(alloc: Global, handle: &mut Handle, bytes:
     ensures kept { handle.new.kept.session ≡ handle.old.kept.session }
     ensures counted { result ≡ OK → Both
         (λ a b. bytes.new ≡ length (present_of a.display).text)
+        handle.old.kept.session handle.new.kept.session }
+    ensures failed { 1 ≤ result → Both (λ a b. result ≡ NO_MEMORY)
         handle.old.kept.session handle.new.kept.session }
     ensures untouched { 1 ≤ result → bytes.new ≡ bytes.old }
     ensures closed { handle.old.kept.session ≡ None → result ≡ CLOSED }
@@ -76,6 +78,7 @@ pub extern "C" fn displaymap_slice(alloc: Global, handle: &mut Handle, start: u3
         handle.old.kept.session handle.new.kept.session }
     ensures failed { 1 ≤ result → handle.new.kept.session ≡ handle.old.kept.session }
     ensures closed { handle.old.kept.session ≡ None → result ≡ CLOSED }
+    ensures open { result ≡ CLOSED → handle.old.kept.session ≡ None }
 {
     let Some(mut session) = take(alloc, handle) else {
         return CLOSED;
@@ -96,6 +99,8 @@ pub extern "C" fn displaymap_row_count(alloc: Global, handle: &mut Handle, count
     ensures kept { handle.new.kept.session ≡ handle.old.kept.session }
     ensures counted { result ≡ OK → Both
         (λ a b. count.new ≡ length (rows_of (present_of a.display)))
+        handle.old.kept.session handle.new.kept.session }
+    ensures failed { 1 ≤ result → Both (λ a b. result ≡ NO_MEMORY)
         handle.old.kept.session handle.new.kept.session }
     ensures untouched { 1 ≤ result → count.new ≡ count.old }
     ensures closed { handle.old.kept.session ≡ None → result ≡ CLOSED }
@@ -132,8 +137,10 @@ pub extern "C" fn displaymap_row(
     ensures past { result ≡ NO_ROW → Both
         (λ a b. slice_get (rows_of (present_of a.display)) row ≡ None)
         handle.old.kept.session handle.new.kept.session }
-    ensures failed { 1 ≤ result → (handle.new.kept.session ≡ handle.old.kept.session)
-        × (kind.new ≡ kind.old) }
+    ensures failed { 1 ≤ result → Both
+        (λ a b. (b ≡ a) × ((result ≡ NO_ROW) ⊎ (result ≡ NO_MEMORY)))
+        handle.old.kept.session handle.new.kept.session }
+    ensures untouched { 1 ≤ result → kind.new ≡ kind.old }
     ensures closed { handle.old.kept.session ≡ None → result ≡ CLOSED }
 {
     let Some(mut session) = take(alloc, handle) else {
@@ -160,7 +167,8 @@ pub extern "C" fn displaymap_rows(alloc: Global, handle: &mut Handle, first: u32
         (λ a b. (b.display ≡ a.display) × (b.marks ≡ a.marks)
         × (string_bytes b.answer ≡ printed (lines_of a.display (Rows first count))))
         handle.old.kept.session handle.new.kept.session }
-    ensures failed { 1 ≤ result → handle.new.kept.session ≡ handle.old.kept.session }
+    ensures failed { 1 ≤ result → Both (λ a b. (b ≡ a) × (result ≡ NO_MEMORY))
+        handle.old.kept.session handle.new.kept.session }
     ensures closed { handle.old.kept.session ≡ None → result ≡ CLOSED }
 {
     let Some(mut session) = take(alloc, handle) else {
@@ -195,6 +203,7 @@ pub extern "C" fn displaymap_show(
         handle.old.kept.session handle.new.kept.session }
     ensures untouched { 1 ≤ result → place.new ≡ place.old }
     ensures closed { handle.old.kept.session ≡ None → result ≡ CLOSED }
+    ensures open { result ≡ CLOSED → handle.old.kept.session ≡ None }
 {
     let Some(session) = take(alloc, handle) else {
         return CLOSED;
@@ -227,6 +236,8 @@ pub extern "C" fn displaymap_clip(
     ensures nearest { result ≡ OK → Both
         (λ a b. record { row = place.new.row; col = place.new.column }
         ≡ clip (present_of a.display) (record { row = row; col = column }) (bias_of right))
+        handle.old.kept.session handle.new.kept.session }
+    ensures failed { 1 ≤ result → Both (λ a b. result ≡ NO_MEMORY)
         handle.old.kept.session handle.new.kept.session }
     ensures untouched { 1 ≤ result → place.new ≡ place.old }
     ensures closed { handle.old.kept.session ≡ None → result ≡ CLOSED }
@@ -262,6 +273,8 @@ pub extern "C" fn displaymap_back(
     ensures offset { result ≡ OK → Both
         (λ a b. offset.new
         ≡ back (present_of a.display) (record { row = row; col = column }) (bias_of right))
+        handle.old.kept.session handle.new.kept.session }
+    ensures failed { 1 ≤ result → Both (λ a b. result ≡ NO_MEMORY)
         handle.old.kept.session handle.new.kept.session }
     ensures untouched { 1 ≤ result → offset.new ≡ offset.old }
     ensures closed { handle.old.kept.session ≡ None → result ≡ CLOSED }

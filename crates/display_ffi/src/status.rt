@@ -1,6 +1,7 @@
 //! What a call returns, as numbers.
 ghost use Rattle.std.specs.Prelude.{◌≡◌, ◌≤◌};
 ghost use Rattle.plain_rows.specs.ShownRows.{letter_of};
+ghost use Rattle.display_ffi.specs.declared.status.TheConstants.{CLOSED};
 ghost use Rattle.display_ffi.specs.Statuses.{status_of, text_status_of};
 
 use cell_units::{Refusal, TextFault};
@@ -29,6 +30,7 @@ pub const NO_ROW: u32 = 20;
 pub(crate) fn status_of(trouble: Trouble) -> u32
     ensures value { result ≡ status_of trouble }
     ensures some { 1 ≤ result }
+    ensures not_closed { ¬ (result ≡ CLOSED) }
 {
     match trouble {
         Trouble::Refused(refusal) => u32::from(refusal.number()),
@@ -42,6 +44,7 @@ pub(crate) fn status_of(trouble: Trouble) -> u32
 pub(crate) fn text_status_of(fault: TextFault) -> u32
     ensures value { result ≡ text_status_of fault }
     ensures some { 1 ≤ result }
+    ensures not_closed { ¬ (result ≡ CLOSED) }
 {
     match fault {
         TextFault::NotUtf8 { at: _ } => NOT_UTF8,

@@ -27,6 +27,9 @@ fn an_edit_of_the_longest_text_is_undone(rt: HostRuntime) -> Result<(), Fail> {
     let text = longest(alloc)?;
     let written = written_by(&rt, alloc, 1, text.as_str(), SCRIPT)?;
     let letters = "a".repeat(alloc, 62)?;
-    assert_eq!(rt; written.as_str(), format!(in alloc; "0 ! 5\n0 0 t|x{letters}\n")?.as_str());
+    assert_eq!(rt;
+        written.as_str(),
+        format!(in alloc; "0 ! 5\n0 0 t|x{letters}\n")?.as_str()
+    );
     Ok(())
 }
