@@ -3,7 +3,7 @@ use cell_units::NoMemory;
 use display_cli::{
     FileInputs, Inputs, ListSink, MapInputs, Note, Part, Sink, StreamSink, SureInputs, SureSink,
 };
-use split_cli::program;
+use split_cli::{Topped, program, top};
 use std::alloc::Global;
 use std::fs;
 use std::io::{Error, ErrorKind, Write};
@@ -196,6 +196,27 @@ fn a_program_with_views_answers_with_their_digits(rt: HostRuntime) -> Result<(),
     let mut inputs = inputs_of(alloc, b"a", script, &[])?;
     let said = run_program(&rt, alloc, &["--views", "2", "a", "b"], &mut inputs)?;
     assert_said(&rt, &said, 1, "1 0 t|ab\n0 0 t|a\n! 8\n", "");
+    Ok(())
+}
+
+/// Each view opens, wraps its line and ends: 1, 3 and 1 events. The last one has the line, its operation and a version, and
+/// wraps its line again.
+#[test]
+fn a_session_has_a_history_for_each_view(rt: HostRuntime) -> Result<(), Fail> {
+    let alloc = rt.alloc();
+    let mut inputs = inputs_of(alloc, b"abc", b"2 {\"width\":2}", &[])?;
+    let mut out = SureSink::new();
+    let words = strings(alloc, &["--views", "3", "a", "b"])?;
+    let words = words.as_slice();
+    let topped = top(&rt, alloc, words, &mut inputs, &mut out, &FreeGate);
+    assert_eq!(rt; (topped.note(), topped.status()), (Note::Fine, 0));
+    match &topped {
+        Topped::Session(closed) => {
+            let lengths: Vec<u32> = closed.histories.iter().map(|h| h.len()).collect(alloc)?;
+            assert_eq!(rt; lengths.as_slice(), [5, 5, 11].as_slice());
+        }
+        Topped::Plain(_) => panic!(rt; "it is a run on one display"),
+    }
     Ok(())
 }
 
