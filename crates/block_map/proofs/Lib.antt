@@ -19,6 +19,7 @@ pub mod LineStarts
 pub mod MarksAfter
 pub mod MovedMarks
 pub mod PairedSides
+pub mod PlacesOfIds
 pub mod RisingStops
 pub mod RowBounds
 pub mod RowRuns

@@ -1,5 +1,5 @@
 -- What a block map is seen as, and what its calls make of it.
-use Rattle.std.specs.Prelude.{◌≡◌, ℕ, ◌+◌, ◌<◌, ◌==◌, ◌&&◌, ◌||◌, not, nat_lt, nat_le, Bool, if◌then◌else◌, List, [], ◌++◌, filter, length, map, slice_get, Option, Some, None}
+use Rattle.std.specs.Prelude.{◌≡◌, ℕ, ◌+◌, ◌<◌, ◌==◌, ◌&&◌, ◌||◌, not, nat_lt, nat_le, option_map, Bool, false, if◌then◌else◌, List, [], ◌++◌, filter, length, map, slice_get, Option, Some, None}
 use Rattle.std.specs.List.{All, list_any}
 use Rattle.cell_units.specs.declared.limits.TheConstants.{BLOCK_LINES_LIMIT, BLOCK_LINE_LIMIT, ENTRY_LIMIT}
 use Rattle.cell_units.specs.declared.fault.Fault.{Fault}
@@ -174,6 +174,11 @@ on_side Below s = s.below
 -- the block at a place among these has this offset, id and lines
 abbrev pub IsBlockAt : List Kept → ℕ → ℕ → ℕ → List (List ℕ) → Type 0
 IsBlockAt ks at offset id lines = (k : Kept) × (slice_get ks at ≡ Some k) × (k.offset ≡ offset) × (k.id ≡ id) × (k.lines ≡ lines)
+
+-- the block of an id is at this place among these. None of them has the id where there is no place
+abbrev pub IsPlaceOf : List Kept → ℕ → Option ℕ → Type 0
+IsPlaceOf ks id None = list_any (λ k. k.id == id) ks ≡ false
+IsPlaceOf ks id (Some at) = option_map (λ k. k.id) (slice_get ks at) ≡ Some id
 
 -- Stops at the lines of blocks show what a record with these blocks shows.
 abbrev pub RowsAgree : Type 0

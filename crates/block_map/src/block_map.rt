@@ -3,9 +3,9 @@ ghost use Rattle.std.specs.Prelude.{◌≡◌, ◌==◌, ◌+◌, ◌<◌, ◌�
 ghost use Rattle.std.specs.List.{list_any};
 ghost use Rattle.cell_units.specs.declared.limits.TheConstants.{ENTRY_LIMIT};
 ghost use Rattle.cell_units.specs.Lawful.{AreBlockLines};
-ghost use Rattle.sum_tree.specs.Bounds.{TakesAtMost, way};
+ghost use Rattle.sum_tree.specs.Bounds.{Searches, TakesAtMost, way};
 ghost use Rattle.block_map.specs.Bounds.{SearchesBoth, SearchesTwice, TakesOneEach, altering, altering_side};
-ghost use Rattle.block_map.specs.Maps.{IsBlockAt, IsOwed, add_refusal, added, fresh, has_block, on_side, remove_refusal, removed, state_of};
+ghost use Rattle.block_map.specs.Maps.{IsBlockAt, IsOwed, IsPlaceOf, add_refusal, added, fresh, has_block, on_side, remove_refusal, removed, state_of};
 ghost use Rattle.block_map.specs.inside.TwoSides.{is_kept};
 
 use crate::block_lines::BlockLines;
@@ -94,6 +94,18 @@ impl<R: Rows> BlockMap<R> {
         match side {
             Side::Above => self.above.get(at, steps),
             Side::Below => self.below.get(at, steps),
+        }
+    }
+
+    /// The place of the block of this id among those of a side, counted from 0. `None` exactly where there is none.
+    pub fn find_id(&self, side: Side, id: u32, steps: &mut Steps) -> Option<u32>
+        ensures place { IsPlaceOf (on_side side self.now) id result }
+        ensures counted { steps.old ≤ steps.new }
+        ensures steps { Searches (length (on_side side self.now)) steps.old steps.new }
+    {
+        match side {
+            Side::Above => self.above.find_id(id, steps),
+            Side::Below => self.below.find_id(id, steps),
         }
     }
 

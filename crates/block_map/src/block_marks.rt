@@ -1,5 +1,5 @@
 //! The marks of one side's blocks, which may have a replacement of the text yet to follow.
-ghost use Rattle.std.specs.Prelude.{◌≡◌, ◌≤◌, [], Some, length, slice_get, IfOk, MatchOption};
+ghost use Rattle.std.specs.Prelude.{◌≡◌, ◌≤◌, [], Some, false, length, option_map, slice_get, IfOk, MatchOption};
 ghost use Rattle.std.specs.List.{list_any};
 ghost use Rattle.mark_tree.specs.Bounds.{moving};
 ghost use Rattle.mark_tree.specs.Marks.{has_id, mark_with};
@@ -114,6 +114,18 @@ impl BlockMarks {
             None => Some((offset, bias, id, lines)),
             Some(shift) => Some((moved_offset(offset, bias, &shift), bias, id, lines)),
         }
+    }
+
+    /// The place of the mark of this id, counted from 0, which no replacement changes. `None` exactly where there is none.
+    pub(crate) fn find(&self, id: u32, steps: &mut Steps) -> Option<u32>
+        ensures place { MatchOption result (list_any (has_id id) self.now ≡ false) (λ at.
+            option_map (λ m. m.id) (slice_get self.now at) ≡ Some id) }
+        ensures counted { steps.old ≤ steps.new }
+        ensures steps { Searches (length self.now) steps.old steps.new }
+    {
+        // For the proof: marks are in order.
+        let _count = self.marks.len();
+        self.marks.find(id, steps)
     }
 
     /// Whether there is a mark of this id, which no replacement changes.

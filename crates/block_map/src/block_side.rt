@@ -6,7 +6,7 @@ ghost use Rattle.cell_units.specs.Lawful.{AreBlockLines};
 ghost use Rattle.cell_units.specs.Sorting.{insert_by};
 ghost use Rattle.sum_tree.specs.Bounds.{Searches, TakesAtMost, way};
 ghost use Rattle.block_map.specs.Bounds.{SearchesTwice, altering_side};
-ghost use Rattle.block_map.specs.Maps.{IsBlockAt, fresh, kept_le, without};
+ghost use Rattle.block_map.specs.Maps.{IsBlockAt, IsPlaceOf, fresh, kept_le, without};
 ghost use Rattle.cell_units.specs.declared.place.Bias.TheVariants.{Right};
 ghost use Rattle.mark_tree.specs.Marks.{mark_with};
 
@@ -92,6 +92,15 @@ impl BlockSide {
     {
         let (offset, _bias, id, lines) = self.marks.get(at, steps)?;
         Some((offset, id, lines.texts()))
+    }
+
+    /// The place, counted from 0, of the block of this id. `None` exactly where there is none.
+    pub(crate) fn find_id(&self, id: u32, steps: &mut Steps) -> Option<u32>
+        ensures place { IsPlaceOf self.now id result }
+        ensures counted { steps.old ≤ steps.new }
+        ensures steps { Searches (length self.now) steps.old steps.new }
+    {
+        self.marks.find(id, steps)
     }
 
     /// Whether there is a block of this id.

@@ -1,11 +1,11 @@
 //! Blocks between rows, all of them shown.
 ghost use Rattle.std.specs.Prelude.{◌≡◌, ◌+◌, ◌≤◌, [], None, length, IfErr, IfOk, MatchOption, OnOk};
 ghost use Rattle.cell_units.specs.Layers.{shown_lines};
-ghost use Rattle.sum_tree.specs.Bounds.{TakesAtMost, way};
+ghost use Rattle.sum_tree.specs.Bounds.{Searches, TakesAtMost, way};
 ghost use Rattle.block_map.specs.Bounds.{TakesOneEach, syncing};
 ghost use Rattle.block_map.specs.Carried.{SyncsAtMost};
 ghost use Rattle.block_map.specs.Follows.{IsFollowed};
-ghost use Rattle.block_map.specs.Maps.{IsBlockAt, IsOwed, add_refusal, on_side, remove_refusal, removed, state_of, synced};
+ghost use Rattle.block_map.specs.Maps.{IsBlockAt, IsOwed, IsPlaceOf, add_refusal, on_side, remove_refusal, removed, state_of, synced};
 ghost use Rattle.block_map.specs.inside.ShownStops.{shown_between};
 ghost use Rattle.blocked_rows.specs.Bounds.{adding, taking};
 ghost use Rattle.blocked_rows.specs.Standing.{ArePlaced, with_block};
@@ -216,6 +216,15 @@ impl<R: Rows> BlockedRows<R> {
         ensures steps { TakesAtMost way (length (on_side side self.now)) steps.old steps.new }
     {
         self.blocks.get(side, at, steps)
+    }
+
+    /// The place of the block of this id among those of a side, counted from 0. `None` exactly where there is none.
+    pub fn find_id(&self, side: Side, id: u32, steps: &mut Steps) -> Option<u32>
+        ensures place { IsPlaceOf (on_side side self.now) id result }
+        ensures counted { steps.old ≤ steps.new }
+        ensures steps { Searches (length (on_side side self.now)) steps.old steps.new }
+    {
+        self.blocks.find_id(side, id, steps)
     }
 
     /// Equal ones, which no later change reaches. It allocates nothing, and fails with `NoMemory` only where the count

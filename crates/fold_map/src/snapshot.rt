@@ -1,5 +1,5 @@
 //! What a fold map shows at one moment.
-ghost use Rattle.std.specs.Prelude.{◌≡◌, ◌==◌, ◌≤◌, [], length, option_map, slice_get, IfOk};
+ghost use Rattle.std.specs.Prelude.{◌≡◌, ◌==◌, ◌≤◌, [], length, option_map, position, slice_get, IfOk};
 ghost use Rattle.std.specs.List.{list_any};
 ghost use Rattle.cell_units.specs.Layers.{place_of};
 ghost use Rattle.cell_units.specs.Text.{IsBoundary, is_boundary};
@@ -81,6 +81,15 @@ impl<L: Layer> FoldSnapshot<L> {
         ensures lawful { IsLawful self.now }
     {
         self.layer.buffer_len()
+    }
+
+    /// The place of the fold of this id among them, counted from 0. `None` exactly where there is none.
+    pub fn find_id(&self, id: u32, steps: &mut Steps) -> Option<u32>
+        ensures place { result ≡ position (λ f. f.id == id) self.now.folds }
+        ensures counted { steps.old ≤ steps.new }
+        ensures steps { Searches (length self.now.folds) steps.old steps.new }
+    {
+        self.folds.find(id, steps)
     }
 
     /// Whether there is a fold of this id.

@@ -99,8 +99,8 @@ impl InlaySnapshot {
         self.inlaid.get(at, steps)
     }
 
-    /// The index of the inlay of an id, if there is one.
-    pub(crate) fn find_id(&self, id: u32, steps: &mut Steps) -> Option<u32>
+    /// The place of the inlay of this id among them, counted from 0. `None` exactly where there is none.
+    pub fn find_id(&self, id: u32, steps: &mut Steps) -> Option<u32>
         ensures index { result ≡ position (λ i. i.id == id) self.now.inlays }
         ensures counted { steps.old ≤ steps.new }
         ensures steps { Searches (length self.now.inlays) steps.old steps.new }

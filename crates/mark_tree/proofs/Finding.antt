@@ -1,10 +1,10 @@
 -- What loops over the places of a list find.
-use Rattle.std.proofs.Common.{◌≡◌, ℕ, ◌+◌, ◌-◌, ◌*◌, ◌/◌, ◌^◌, ◌<◌, ◌≤◌, ◌||◌, zero, suc, Bool, true, false, not, List, [], ◌∷◌, ◌++◌, length, take, drop, get_or, Some, None, position, refl, sym, ap, subst, ◌∙◌, arith, cond, nat_lt}
+use Rattle.std.proofs.Common.{◌≡◌, ℕ, ◌+◌, ◌-◌, ◌*◌, ◌/◌, ◌^◌, ◌<◌, ◌≤◌, ◌||◌, zero, suc, Bool, true, false, not, List, [], ◌∷◌, ◌++◌, length, map, take, drop, get_or, Some, None, position, refl, sym, ap, subst, ◌∙◌, arith, cond, nat_lt}
 use Rattle.std.specs.List.{Contains, slice_get, position_or_len, list_any}
 use Rattle.std.specs.Option.{is_some}
 use Rattle.cell_units.specs.Sorting.{insert_by}
 use Rattle.std.proofs.Math.Nat.{mul-le-mul_left}
-use Rattle.std.proofs.lemmas.List.{take_more, get_or-drop, length-drop}
+use Rattle.std.proofs.lemmas.List.{take_more, get_or-drop, length-drop, length-map}
 use Rattle.std.proofs.lemmas.List.Sums.{position_or_len_is, passes_at_first}
 use Rattle.std.proofs.lemmas.Option.{get_or_from_slice_get, slice_get_within}
 use Rattle.std.proofs.lemmas.Bool.Decides.{nat_tests}
@@ -72,6 +72,13 @@ position-any p xs = some (nat_lt (position_or_len p xs) (length xs)) (position_o
     first : (b : Bool) → nat_lt (position_or_len q ys) (length ys) ≡ list_any q ys → nat_lt (cond (not b) (1 + position_or_len q ys) 0) (length (y ∷ ys)) ≡ (b || list_any q ys)
     first true e = none_before (length ys)
     first false e = one_more (position_or_len q ys) (length ys) ∙ e
+
+-- the first place that passes among the images
+pub position-map : {X Y : Type 0} (f : X → Y) (p : X → Bool) (q : Y → Bool) → ((x : X) → p x ≡ q (f x)) → (xs : List X) → position p xs ≡ position q (map f xs)
+position-map {X = X} f p q same xs = λ i. cond (nat_lt (go xs i) (sym (length-map xs f) i)) (Some (go xs i)) None where
+  go : (xs : List X) → position_or_len p xs ≡ position_or_len q (map f xs)
+  go [] = refl
+  go (x ∷ xs) = λ i. cond (not (same x i)) (1 + go xs i) 0
 
 -- where one is inserted that is above all before a place, and not above the one there
 pub place-at : {X : Type 0} (le : X → X → Bool) (x : X) (xs : List X) (at : ℕ) → at ≤ length xs → ((k : ℕ) (d : X) → k < at → le x (get_or xs k d) ≡ false) → ((d : X) → at < length xs → le x (get_or xs at d) ≡ true)

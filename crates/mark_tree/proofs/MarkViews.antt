@@ -17,7 +17,7 @@ use Rattle.mark_tree.specs.Order.{key_le, key_of, placed_le, has_placed_id, lack
 use Rattle.mark_tree.specs.Views.{mark_of, AreMarks}
 use Rattle.mark_tree.proofs.Sorting.{Every, count-cons, every-insert, every-sort, insert-map, sort-map}
 use Rattle.mark_tree.proofs.Changing.{every-from_all, all-from_every}
-use Rattle.mark_tree.proofs.Finding.{position-found, position-none}
+use Rattle.mark_tree.proofs.Finding.{position-found, position-map, position-none}
 use Rattle.mark_tree.proofs.Moved.{length-map}
 
 level : (a b : ℕ) (r : Bool) → a ≡ 0 → b ≡ 0 → in_order a b r ≡ r
@@ -60,10 +60,7 @@ module _ {P : Type 0} where
   any-of id (p ∷ ps) = ap (λ b. (p.id == id) || b) (any-of id ps)
 
   pub position-of : (id : ℕ) (ps : List (Placed P)) → position (has_placed_id id) ps ≡ position (has_id id) (map mark_of ps)
-  position-of id ps = λ i. cond (nat_lt (go ps i) (sym (length-map mark_of ps) i)) (Some (go ps i)) None where
-    go : (qs : List (Placed P)) → position_or_len (has_placed_id id) qs ≡ position_or_len (has_id id) (map mark_of qs)
-    go [] = refl
-    go (q ∷ qs) = ap (λ k. cond (not (q.id == id)) (1 + k) 0) (go qs)
+  position-of id ps = position-map mark_of (has_placed_id id) (has_id id) (λ p. refl) ps
 
   pub filter-of : (id : ℕ) (ps : List (Placed P)) → map mark_of (filter (lacks_placed_id id) ps) ≡ filter (lacks_id id) (map mark_of ps)
   filter-of id [] = refl

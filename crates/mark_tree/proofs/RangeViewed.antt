@@ -1,5 +1,5 @@
 -- Lists of ranges, as views of things that are ranges.
-use Rattle.std.proofs.Common.{◌≡◌, ℕ, zero, suc, ◌+◌, ◌<◌, ◌≤◌, ◌^◌, ◌==◌, ◌&&◌, ◌||◌, nat_lt, nat_le, not, Bool, true, false, cond, List, [], ◌∷◌, length, map, filter, count_by, get_or, refl, sym, ap, subst, ◌∙◌, arith}
+use Rattle.std.proofs.Common.{◌≡◌, ℕ, zero, suc, ◌+◌, ◌<◌, ◌≤◌, ◌^◌, ◌==◌, ◌&&◌, ◌||◌, nat_lt, nat_le, not, Bool, true, false, cond, List, [], ◌∷◌, length, map, filter, count_by, get_or, position, refl, sym, ap, subst, ◌∙◌, arith}
 use Rattle.std.specs.List.{All, Contains, list_any}
 use Rattle.std.proofs.lemmas.List.Elements.{All-nil, All-cons, All-head, All-tail}
 use Rattle.std.proofs.lemmas.Bool.Decides.{nat_tests}
@@ -13,6 +13,7 @@ use Rattle.mark_tree.specs.Order.{placed_le, has_placed_id, lacks_placed_id}
 use Rattle.mark_tree.specs.RangeViews.{range_of, IsRange, AreRanges, meets_extent}
 use Rattle.mark_tree.proofs.Sorting.{count-cons, every-insert, insert-map, sort-map}
 use Rattle.mark_tree.proofs.Changing.{every-from_all, all-from_every}
+use Rattle.mark_tree.proofs.Finding.{position-map}
 use Rattle.mark_tree.proofs.Moved.{length-map}
 
 lt-add : (s a b : ℕ) → nat_lt (s + a) (s + b) ≡ nat_lt a b
@@ -56,6 +57,9 @@ module _ {P : Type 0} where
   pub any-range : (id : ℕ) (ps : List (Placed P)) → list_any (has_placed_id id) ps ≡ list_any (has_range_id id) (map range_of ps)
   any-range id [] = refl
   any-range id (p ∷ ps) = ap (λ b. (p.id == id) || b) (any-range id ps)
+
+  pub position-range : (id : ℕ) (ps : List (Placed P)) → position (has_placed_id id) ps ≡ position (has_range_id id) (map range_of ps)
+  position-range id ps = position-map range_of (has_placed_id id) (has_range_id id) (λ p. refl) ps
 
   pub filter-range : (id : ℕ) (ps : List (Placed P)) → map range_of (filter (lacks_placed_id id) ps) ≡ filter (lacks_range_id id) (map range_of ps)
   filter-range id [] = refl

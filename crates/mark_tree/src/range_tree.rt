@@ -1,5 +1,5 @@
 //! The tree of ranges: adding, removing, finding and moving them.
-ghost use Rattle.std.specs.Prelude.{◌≡◌, ℕ, ◌+◌, ◌*◌, ◌^◌, ◌<◌, ◌≤◌, [], not, false, length, map, filter, count_by, slice_get, All, Contains, IfOk, IfErr, OnOk, OnErr};
+ghost use Rattle.std.specs.Prelude.{◌≡◌, ℕ, ◌+◌, ◌*◌, ◌^◌, ◌<◌, ◌≤◌, [], not, false, length, map, filter, count_by, position, slice_get, All, Contains, IfOk, IfErr, OnOk, OnErr};
 ghost use Rattle.std.specs.List.{list_any};
 ghost use Rattle.cell_units.specs.Sorting.{insert_by};
 ghost use Rattle.sum_tree.specs.Bounds.{Searches, TakesAtMost, way};
@@ -83,6 +83,15 @@ impl RangeTree {
             end: found.offset + found.entry.length,
             id: found.entry.id,
         })
+    }
+
+    /// The place, counted from 0, of the range of this id. `None` exactly where there is none.
+    pub fn find(&self, id: u32, steps: &mut Steps) -> Option<u32>
+        ensures place { result ≡ position (has_range_id id) self.now }
+        ensures counted { steps.old ≤ steps.new }
+        ensures steps { Searches (length self.now) steps.old steps.new }
+    {
+        self.ranges.find_id(id, steps)
     }
 
     /// Whether there is a range of this id.

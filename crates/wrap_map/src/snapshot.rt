@@ -2,7 +2,9 @@
 ghost use Rattle.std.specs.Prelude.{◌≡◌, ◌+◌, ◌*◌, ◌^◌, ◌<◌, ◌≤◌, length, IfOk};
 ghost use Rattle.sum_tree.specs.Bounds.{TakesAtMost, way};
 ghost use Rattle.wrap_map.specs.Bounds.{ListsAtMost};
-ghost use Rattle.wrap_map.specs.Standing.{cuts_at, mark_at, shown_rows};
+ghost use Rattle.wrap_map.specs.Standing.{cuts_at, mark_at, shown_rows, stood_of};
+ghost use Rattle.wrap_map.specs.Stood.{IsOtherIfAny};
+ghost use Rattle.wrap_map.specs.inside.Bounds.{two_ways};
 ghost use Rattle.cell_line.specs.MarkRuns.{runs_from};
 
 use crate::stretches::Stretches;
@@ -45,6 +47,15 @@ impl<N: Lines> WrapSnapshot<N> {
         ensures steps { TakesAtMost way (length self.now.lines) steps.old steps.new }
     {
         self.stretches.mark(line, steps)
+    }
+
+    /// The first line from `line` on whose mark is another than `width`, and `None` exactly where there is none.
+    pub fn next_other(&self, line: u32, width: u32, steps: &mut Steps) -> Option<u32>
+        ensures other { IsOtherIfAny (stood_of self.now) line width result }
+        ensures counted { steps.old ≤ steps.new }
+        ensures steps { TakesAtMost two_ways (length self.now.lines) steps.old steps.new }
+    {
+        self.stretches.next_other(line, width, steps)
     }
 
     /// Where a line is cut at its mark.
