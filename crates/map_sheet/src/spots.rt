@@ -1,10 +1,19 @@
 //! What offsets and spots are looked up in.
-use crate::sheet::MapSheet;
+use crate::sheet::{Layered, MapSheet};
 use blocked_rows::blocked_laws;
 use cell_line::Lines;
 use cell_units::{Bias, Layer, NoMemory, Steps, folding_laws, layer_laws, text_laws};
 use plain_rows::{Joined, RowLine, SpotRows};
 use std::alloc::Global;
+
+/// The place at which a display line begins, in bytes of what is shown, and after the last line the end.
+fn start_of(layer: &Layered, line: u32) -> u32 {
+    if line < layer.lines() {
+        layer.line_start(line)
+    } else {
+        layer.length()
+    }
+}
 
 impl SpotRows for MapSheet {
     ghost kept = { λ s. s };
@@ -62,6 +71,22 @@ impl SpotRows for MapSheet {
         let elements = self.wrapped().lines().elements(alloc, line)?;
         let width = self.wrapped().rows().mark(line, steps);
         RowLine::new(alloc, elements, width)
+    }
+
+    fn near(&self, line: u32, byte: u32, _steps: &mut Steps) -> (u32, u32) {
+        let layer = self.text().layer();
+        let start = start_of(layer, line);
+        let place = start.saturating_add(byte);
+        let least = layer.back(place, Bias::Left);
+        let greatest = layer.back(place, Bias::Right);
+        if let (Some(from), Some(to)) = (least, greatest) {
+            return (from, to);
+        }
+        // Within an inlay or a placeholder: all offsets of the line.
+        let next = start_of(layer, line.saturating_add(1));
+        let from = layer.back(start, Bias::Left);
+        let to = layer.back(next, Bias::Right);
+        (from.unwrap_or(0), to.unwrap_or(layer.buffer_len()))
     }
 
     fn first_row(&self, line: u32, steps: &mut Steps) -> u32 {

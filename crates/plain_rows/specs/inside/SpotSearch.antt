@@ -27,10 +27,20 @@ pub record IsAim (r : Record) (aim : Aim) : Type 0 where
   pub begins : 0 < aim.number → rows_before r aim.number ≤ aim.spot.row
   pub ends : (line : ℕ) → aim.number < line → line < length r.marks → aim.spot.row < rows_before r line
 
+-- the boundaries below n are shown on that side of the spot
+abbrev pub AreBefore : Record → Bias → Bias → Spot → ℕ → Type 0
+AreBefore r bias side d n =
+    (o : ℕ) → o < n → is_boundary r.text o ≡ true → stands_before side (show r o bias) d ≡ true
+
+-- no others are
+abbrev pub NoneIsBefore : Record → Bias → Bias → Spot → ℕ → Type 0
+NoneIsBefore r bias side d n =
+    (o : ℕ) → n ≤ o → is_boundary r.text o ≡ true → stands_before side (show r o bias) d ≡ false
+
 -- the boundaries below n, and no others, are shown on that side of the spot
 pub record IsPartedAt (r : Record) (bias side : Bias) (d : Spot) (n : ℕ) : Type 0 where
-  pub before : (o : ℕ) → o < n → is_boundary r.text o ≡ true → stands_before side (show r o bias) d ≡ true
-  pub behind : (o : ℕ) → n ≤ o → is_boundary r.text o ≡ true → stands_before side (show r o bias) d ≡ false
+  pub before : AreBefore r bias side d n
+  pub behind : NoneIsBefore r bias side d n
 
 abbrev pub IsLastBoundary : List ℕ → ℕ → Option ℕ → Type 0
 IsLastBoundary text n None = (o : ℕ) → o < n → is_boundary text o ≡ false

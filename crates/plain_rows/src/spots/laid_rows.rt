@@ -77,6 +77,10 @@ impl SpotRows for LaidRows<'_> {
         RowLine::new(alloc, elements, self.widths[line as usize])
     }
 
+    fn near(&self, _line: u32, _byte: u32, _steps: &mut Steps) -> (u32, u32) {
+        (0, self.source.text.len() as u32)
+    }
+
     fn first_row(&self, line: u32, _steps: &mut Steps) -> u32 {
         self.first_rows[line as usize]
     }

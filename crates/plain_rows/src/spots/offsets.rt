@@ -7,7 +7,7 @@ ghost use Rattle.plain_rows.specs.Spots.{back, clip, is_open};
 ghost use Rattle.plain_rows.specs.inside.SpotSearch.{IsAim};
 ghost use Rattle.plain_rows.specs.inside.SpotOffsets.{IsFirstOffset, IsLastOffset, greater, lesser};
 
-use super::searching::{Aim, aim_at, clip_in, count_before};
+use super::searching::{Aim, aim_again, aim_at, count_before, nearest};
 use super::spot_rows::SpotRows;
 use cell_units::{Bias, NoMemory, Spot, Steps};
 use std::alloc::Global;
@@ -125,7 +125,8 @@ pub fn back_in<R: SpotRows>(
     ensures offset { IfOk result (λ offset. offset ≡ back (R.kept rows.now) spot bias) }
     ensures counted { steps.old ≤ steps.new }
 {
-    let nearest = clip_in(alloc, rows, spot, bias, steps)?;
-    let aim = aim_at(alloc, rows, nearest, steps)?;
+    let aim = aim_at(alloc, rows, spot, steps)?;
+    let nearest = nearest(alloc, rows, &aim, bias, steps)?;
+    let aim = aim_again(alloc, rows, aim, nearest, steps)?;
     Ok(offset_at(rows, &aim, bias, steps))
 }

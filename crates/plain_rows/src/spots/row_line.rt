@@ -116,6 +116,40 @@ impl RowLine {
         }
     }
 
+    /// The elements of a row of the line, from the first to the one after the last, and the cells before them.
+    fn row_elements(&self, row: u32) -> (usize, usize, u32) {
+        let cuts = self.cuts.as_slice();
+        let row = (row as usize).min(cuts.len());
+        let end = if row < cuts.len() {
+            cuts[row] as usize
+        } else {
+            self.elements.len()
+        };
+        if row == 0 {
+            (0, end, 0)
+        } else {
+            (cuts[row - 1] as usize, end, self.indent)
+        }
+    }
+
+    /// About how many bytes of the line are before a spot, whose row is counted from the line's first one: those of the
+    /// elements that end at or before it. A search begins there.
+    pub(crate) fn bytes_upto(&self, spot: Spot) -> u32 {
+        let (start, end, indent) = self.row_elements(spot.row);
+        let mut left = spot.col.saturating_sub(indent);
+        let mut bytes: usize = 0;
+        for (number, element) in self.elements.iter().enumerate() {
+            if number >= end || (number >= start && element.cells > left) {
+                break;
+            }
+            if number >= start {
+                left -= element.cells;
+            }
+            bytes = bytes.saturating_add(element.text.as_str().len());
+        }
+        bytes.min(u32::MAX as usize) as u32
+    }
+
     /// Whether a byte is strictly inside an element of the line.
     pub(crate) fn is_within(&self, byte: u32) -> bool
         ensures { result ≡ is_within self.now.elements.items byte }

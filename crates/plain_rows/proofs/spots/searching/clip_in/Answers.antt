@@ -1,33 +1,9 @@
-use Rattle.std.proofs.Common.{sym, ◌∙◌}
+use Rattle.std.proofs.Common.{◌≡◌, subst}
+use Rattle.std.specs.Result.{IfOk}
+use Rattle.cell_units.specs.declared.place.Spot.{Spot}
 use Rattle.plain_rows.specs.Spots.{clip}
-use Rattle.plain_rows.specs.inside.SpotSearch.{IsGreatestUpto, IsLeastFrom, earlier, later, nearest_left, nearest_right}
-use Rattle.plain_rows.proofs.SpotClips.{clip-left, clip-right, greatest-both, least-both}
 use Rattle.plain_rows.proofs.spots.searching.clip_in.Goals as goal
-
-pub returns-in-Left-clause-nearest : goal.returns-in-Left-clause-nearest
-returns-in-Left-clause-nearest g c =
-    let r = g.R.SpotRows.kept c.args.rows.now in
-    let aim = c.in_ok-aim.aim in
-    let at = c.in_ok-aim.ensures.spot in
-    let before = later c.in_ok-left.left c.in_ok-right.right in
-    let after = earlier c.in_ok-left-2.left c.in_ok-right-2.right in
-    let greatest : IsGreatestUpto r aim.spot before = greatest-both r aim.spot c.in_ok-left.left c.in_ok-right.right c.in_ok-left.ensures.spot c.in_ok-right.ensures.spot in
-    let least : IsLeastFrom r aim.spot after = least-both r aim.spot c.in_ok-left-2.left c.in_ok-right-2.right c.in_ok-left-2.ensures.spot c.in_ok-right-2.ensures.spot in
-    c.nearest_left.ensures
-    ∙ (λ i. nearest_left (sym at i) (c.later-before.ensures i) (c.earlier-after.ensures i))
-    ∙ clip-left r aim.spot before after greatest least
-    ∙ (λ i. clip r (at i) (sym c.in-Left.is i))
 
 pub returns-clause-nearest : goal.returns-clause-nearest
 returns-clause-nearest g c =
-    let r = g.R.SpotRows.kept c.args.rows.now in
-    let aim = c.in_ok-aim.aim in
-    let at = c.in_ok-aim.ensures.spot in
-    let before = later c.in_ok-left.left c.in_ok-right.right in
-    let after = earlier c.in_ok-left-2.left c.in_ok-right-2.right in
-    let greatest : IsGreatestUpto r aim.spot before = greatest-both r aim.spot c.in_ok-left.left c.in_ok-right.right c.in_ok-left.ensures.spot c.in_ok-right.ensures.spot in
-    let least : IsLeastFrom r aim.spot after = least-both r aim.spot c.in_ok-left-2.left c.in_ok-right-2.right c.in_ok-left-2.ensures.spot c.in_ok-right-2.ensures.spot in
-    c.nearest_right.ensures
-    ∙ (λ i. nearest_right (sym at i) (c.later-before.ensures i) (c.earlier-after.ensures i))
-    ∙ clip-right r aim.spot before after greatest least
-    ∙ (λ i. clip r (at i) (sym c.in-Right.is i))
+    subst (λ (s : Spot). IfOk c.nearest.result (λ nearest. nearest ≡ clip (g.R.SpotRows.kept c.args.rows.now) s c.args.bias)) c.in_ok-aim.ensures.spot c.nearest.ensures.nearest
