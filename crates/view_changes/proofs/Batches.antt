@@ -1,6 +1,5 @@
 -- A batch as it is done once more, from its last replacement to its first.
-use Rattle.std.proofs.Common.{◌≡◌, ℕ, ◌+◌, ◌-◌, ◌<◌, ◌≤◌, ◌&&◌, leb, not, zero, suc, cond, Bool, true, false, List, [], ◌∷◌, ◌++◌, length, map, take, drop, get_or, slice_range, refl, sym, ap, subst, ◌∙◌, inl, inr, arith, append-nil, length-append}
-use Rattle.std.specs.Str.{IsUtf8}
+use Rattle.std.proofs.Common.{◌≡◌, ℕ, ◌-◌, ◌<◌, ◌≤◌, ◌&&◌, leb, not, zero, suc, cond, Bool, true, false, List, [], ◌∷◌, ◌++◌, length, take, drop, get_or, slice_range, refl, sym, ap, subst, ◌∙◌, inl, inr, arith, append-nil, length-append}
 use Rattle.std.specs.Prelude.{Option, None, Some}
 use Rattle.std.proofs.lemmas.Bool.{and_parts, cases_lt}
 use Rattle.std.proofs.lemmas.Option.{none-some}
@@ -14,7 +13,7 @@ use Rattle.cell_units.specs.Record.{Record}
 use Rattle.cell_units.specs.Text.{clean, is_boundary}
 use Rattle.display_sheet.specs.declared.change.Splice.{Splice}
 use Rattle.display_sheet.specs.declared.sheet.LineSplice.{LineSplice}
-use Rattle.display_sheet.specs.Changes.{are_ranges, batch, edit_refusal, is_operation, replacement}
+use Rattle.display_sheet.specs.Changes.{are_ranges, edit_refusal, is_operation, replacement}
 use Rattle.display_sheet.specs.LineStep.{line_step}
 use Rattle.display_sheet.specs.Sheets.{IsOperated}
 use Rattle.display_sheet.specs.Shown.{unstamped}

@@ -1,6 +1,6 @@
 -- An operation on blocks leaves all of a record but the blocks.
-use Rattle.std.proofs.Common.{◌≡◌, ℕ, ◌+◌, ◌==◌, Bool, not, List, [], ◌∷◌, ◌++◌, filter, take, drop, refl, sym, ap, ◌∙◌, arith, eq-eqb}
-use Rattle.std.specs.Prelude.{Option, None}
+use Rattle.std.proofs.Common.{◌≡◌, ℕ, ◌+◌, ◌==◌, Bool, List, ◌++◌, filter, take, drop, refl, ap, ◌∙◌, arith, eq-eqb}
+use Rattle.std.specs.Prelude.{None}
 use Rattle.std.specs.List.{find}
 use Rattle.std.proofs.lemmas.List.{nil_from_length, take-append-drop}
 use Rattle.std.proofs.lemmas.List.Sums.{length-filter}
@@ -8,7 +8,7 @@ use Rattle.cell_units.specs.declared.place.Side.{Side}
 use Rattle.cell_units.specs.Lawful.{IsAllowed, IsLawful}
 use Rattle.cell_units.specs.LineCounts.{TouchesOneRun}
 use Rattle.cell_units.specs.Operation.{AddBlock, Operation, RemoveBlock, block_at_row, operated, without_block}
-use Rattle.cell_units.specs.Record.{Block, Mark, Record, block_le, plain_marks}
+use Rattle.cell_units.specs.Record.{Block, Record, block_le, plain_marks}
 use Rattle.cell_units.specs.Sorting.{insert_by}
 use Rattle.cell_units.specs.Touched.{NoLine, touched}
 use Rattle.cell_units.proofs.OperatedLines.{keeps_lines}

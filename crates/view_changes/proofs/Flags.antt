@@ -1,5 +1,5 @@
 -- The lines that an operation replaces are its run of touched lines.
-use Rattle.std.proofs.Common.{◌≡◌, ℕ, ◌+◌, ◌-◌, ◌<◌, ◌≤◌, not, zero, suc, Bool, true, false, cond, List, [], ◌∷◌, ◌++◌, length, replicate, refl, sym, ap, subst, ◌∙◌, arith}
+use Rattle.std.proofs.Common.{◌≡◌, ℕ, ◌+◌, ◌-◌, ◌<◌, not, zero, suc, Bool, true, false, cond, List, length, refl, sym, ap, subst, ◌∙◌, arith}
 use Rattle.std.specs.List.{count_by, list_any, prefix_len}
 use Rattle.cell_units.specs.declared.place.Bias.TheVariants.{Left}
 use Rattle.cell_units.specs.Lawful.{IsAllowed, IsLawful}
@@ -8,10 +8,8 @@ use Rattle.cell_units.specs.Operation.{Operation, operated}
 use Rattle.cell_units.specs.Record.{Record}
 use Rattle.cell_units.specs.Touched.{Touched, one_run, touched, touched_before}
 use Rattle.cell_units.specs.Folded.{display_lines}
-use Rattle.cell_units.proofs.OperatedLines.{keeps_lines}
 use Rattle.cell_units.proofs.TouchedRuns.{rows_are_one_run}
 use Rattle.plain_rows.proofs.SpotFronts.{line_of-within}
-use Rattle.display_sheet.specs.LineStep.{flags_after, flags_before}
 use Rattle.display_sheet.proofs.StepRuns.{count_true}
 use Rattle.row_pieces.specs.declared.row_change.RowChange.{RowChange}
 use Rattle.row_pieces.specs.Changed.{change, no_change}

@@ -6,7 +6,7 @@ use Rattle.cell_units.specs.declared.place.Side.{Side}
 use Rattle.cell_units.specs.declared.place.Side.TheVariants.{Above, Below}
 use Rattle.cell_units.specs.Lawful.{IsLawful}
 use Rattle.cell_units.specs.Record.{Block, Record}
-use Rattle.plain_rows.specs.Rows.{is_above, is_on, line_of_block, rows_of}
+use Rattle.plain_rows.specs.Rows.{is_on, line_of_block, rows_of}
 use Rattle.map_sheet.specs.Listed.{side_blocks}
 use Rattle.view_changes.specs.Operations.{at_line, rows_in, side_start}
 use Rattle.view_changes.specs.inside.OwnRows.{AreOwnRows, AreRowsOfBlock, AreRowsOn}

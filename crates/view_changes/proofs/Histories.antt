@@ -1,6 +1,6 @@
 -- A view's history, and what is shown after further events.
-use Rattle.std.proofs.Common.{◌≡◌, ℕ, ◌+◌, ◌<◌, ◌≤◌, ◌^◌, ◌++◌, Bool, true, false, cond, List, [], ◌∷◌, length, refl, sym, ap, subst, ◌∙◌, arith}
-use Rattle.cell_units.specs.Lawful.{IsAllowed, IsLawful}
+use Rattle.std.proofs.Common.{◌≡◌, ℕ, ◌+◌, ◌<◌, ◌≤◌, ◌^◌, Bool, true, false, cond, List, [], ◌∷◌, length, refl, sym, ap, subst, ◌∙◌, arith}
+use Rattle.cell_units.specs.Lawful.{IsAllowed}
 use Rattle.cell_units.specs.Operation.{Operation}
 use Rattle.cell_units.specs.Record.{Record}
 use Rattle.display_sheet.specs.declared.change.Change.TheVariants as changes
@@ -12,7 +12,7 @@ use Rattle.display_sheet.specs.LineStep.{line_step}
 use Rattle.display_sheet.specs.Shown.{unstamped}
 use Rattle.display_map.specs.Events.{Did, Event, Landed}
 use Rattle.display_map.specs.LawfulStates.{EventsFit, IsLawfulHistory}
-use Rattle.display_map.specs.Replay.{History, State, appended, begun, happens, job_numbered, landed_on, present_of, state_of}
+use Rattle.display_map.specs.Replay.{History, State, appended, begun, job_numbered, landed_on, present_of, state_of}
 use Rattle.display_map.specs.Splicing.{did_events}
 use Rattle.display_map.proofs.DidEvents.{did-cons}
 use Rattle.display_map.proofs.Replays.{state_of-one_more}

@@ -7,6 +7,7 @@ pub mod Found
 pub mod FoundRows
 pub mod Histories
 pub mod Inserted
+pub mod LandedRuns
 pub mod Lengths
 pub mod Marks
 pub mod Meaning
@@ -20,3 +21,4 @@ pub mod Stamps
 pub mod TrueNothing
 pub mod TrueRows
 pub mod Unique
+pub mod WidthRuns

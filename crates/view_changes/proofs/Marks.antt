@@ -1,8 +1,8 @@
 -- Marks that a landing leaves: where no width is another, they are the same.
-use Rattle.std.proofs.Common.{◌≡◌, ℕ, ◌+◌, ◌-◌, ◌<◌, ◌≤◌, ◌==◌, not, zero, suc, cond, eqb, Bool, true, false, List, [], ◌∷◌, length, map, take, drop, get_or, zip, refl, sym, ap, subst, ◌∙◌, inl, inr, arith, length-drop}
+use Rattle.std.proofs.Common.{◌≡◌, ℕ, ◌-◌, ◌<◌, ◌≤◌, ◌==◌, not, zero, suc, cond, Bool, true, false, List, [], ◌∷◌, length, map, take, drop, get_or, zip, refl, sym, ap, subst, ◌∙◌, inl, inr, arith}
 use Rattle.std.specs.Prelude.{Option, Some, None}
 use Rattle.std.proofs.lemmas.Bool.{cases_lt, eq-eqb, eqb-true, false≢true, not-false}
-use Rattle.std.proofs.lemmas.List.{get_or-drop, get_or-map, length-map}
+use Rattle.std.proofs.lemmas.List.{get_or-map, length-map}
 use Rattle.std.proofs.lemmas.Slice.Zip.{get_or-zip}
 use Rattle.cell_units.specs.Record.{Mark, Record, plain_mark}
 use Rattle.cell_units.specs.Lawful.{IsMarked}
@@ -10,10 +10,10 @@ use Rattle.display_map.specs.Replay.{SentJob, holds, landed_on, lines_landed_on,
 use Rattle.display_map.proofs.Jobs.{landed_marks, landed_on-is, landed_stamps}
 use Rattle.display_map.proofs.Stamps.{stamps}
 use Rattle.row_pieces.specs.declared.row_change.RowChange.{RowChange}
-use Rattle.row_pieces.specs.Changed.{IsLanded, IsTrue, change, looks, looks_by_line, no_change, rows_of_lines}
+use Rattle.row_pieces.specs.Changed.{IsLanded, IsTrue, change, looks, looks_by_line, rows_of_lines}
 use Rattle.row_pieces.proofs.LandedLooks.{landed-between}
 use Rattle.view_changes.specs.Events.{lines_flagged, rewrapped, rows_landed}
-use Rattle.view_changes.specs.inside.Flags.{AreUnset, GoFromFirstToLast, IsFirstFlag, IsLastFlag}
+use Rattle.view_changes.specs.inside.Flags.{GoFromFirstToLast}
 use Rattle.view_changes.proofs.Runs.{flagged-go}
 
 -- ---- lists that agree from a place on, or up to one
@@ -61,40 +61,6 @@ flag-within (f ∷ fs) (suc k) e = omega (arith, flag-within fs k e)
 unset : (b : Bool) → (b ≡ true → ⊥) → b ≡ false
 unset true h = absurd (h refl)
 unset false h = refl
-
-pub past-unset : (flags : List Bool) (k : ℕ) → length flags ≤ k → get_or flags k false ≡ false
-past-unset [] k le = refl
-past-unset (f ∷ fs) zero le = absurd (omega (arith, le))
-past-unset (f ∷ fs) (suc k) le = past-unset fs k (omega (arith, le))
-
--- ---- the lines from the first flag to the last
-
-pub go-nowhere : (flags : List Bool) → AreUnset flags → GoFromFirstToLast flags no_change
-go-nowhere flags none = record {
-  as_many = refl;
-  within = λ k on. absurd (false≢true (sym (none k) ∙ on));
-  first = λ lt. absurd (omega (arith, lt));
-  last = λ lt. absurd (omega (arith, lt));
-  none = λ le. refl;
-}
-
-pub go-between : (flags : List Bool) (first last : ℕ) → IsFirstFlag flags (Some first) → IsLastFlag flags (Some last) →
-    GoFromFirstToLast flags (change first (last + 1) (last + 1 - first))
-go-between flags first last f l = record {
-  as_many = refl;
-  within = inside;
-  first = λ lt. f.0;
-  last = λ lt. let at : last + 1 - 1 ≡ last = omega arith in ap (λ (n : ℕ). get_or flags n false) at ∙ l.1;
-  none = λ le. let there = inside first f.0 in absurd (omega (arith, le, there.1));
-} where
-  from : (k : ℕ) → get_or flags k false ≡ true → first ≤ k
-  from k on = elim (cases_lt k first) [ inl lt ↦ absurd (false≢true (sym (f.1 k lt) ∙ on)) | inr ge ↦ ge ]
-
-  to : (k : ℕ) → get_or flags k false ≡ true → k < last + 1
-  to k on = elim (cases_lt last k) [ inl lt ↦ absurd (false≢true (sym (l.2 k lt) ∙ on)) | inr ge ↦ omega (arith, ge) ]
-
-  inside : (k : ℕ) → get_or flags k false ≡ true → (first ≤ k) × (k < last + 1)
-  inside k on = (from k on, to k on)
 
 -- ---- a landing
 

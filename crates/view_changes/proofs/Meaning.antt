@@ -1,5 +1,5 @@
 -- What the rows that an operation replaces are, and that they are replaced truly.
-use Rattle.std.proofs.Common.{◌≡◌, ℕ, ◌==◌, refl, sym, subst}
+use Rattle.std.proofs.Common.{◌≡◌, ◌==◌, refl, sym, subst}
 use Rattle.std.specs.Prelude.{Option, None, Some}
 use Rattle.std.specs.List.{find}
 use Rattle.cell_units.specs.Lawful.{IsAllowed, IsLawful}
@@ -7,7 +7,7 @@ use Rattle.cell_units.specs.Operation.{AddBlock, AddFold, AddInlay, Operation, R
 use Rattle.cell_units.specs.Record.{Block, Record}
 use Rattle.display_sheet.specs.LineStep.{line_step}
 use Rattle.row_pieces.specs.declared.row_change.RowChange.{RowChange}
-use Rattle.row_pieces.specs.Changed.{IsTrue, looks, no_change}
+use Rattle.row_pieces.specs.Changed.{IsTrue, looks}
 use Rattle.row_pieces.proofs.TrueChanges.{true-rows}
 use Rattle.view_changes.specs.Operations.{AreRowsReplaced, TakesIfAny, lines_replaced, rows_replaced}
 use Rattle.view_changes.proofs.BlockRows.{brings-always, takes}

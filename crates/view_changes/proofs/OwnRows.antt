@@ -1,9 +1,8 @@
 -- The rows of a block are its own: they come, or go, where its line and the blocks before it there say.
-use Rattle.std.proofs.Common.{◌≡◌, ◌⊎◌, ℕ, ◌+◌, ◌-◌, ◌<◌, ◌≤◌, ◌==◌, ◌&&◌, not, zero, suc, cond, eqb, Bool, true, false, List, [], ◌∷◌, ◌++◌, length, filter, flat_map, take, drop, get_or, slice_range, refl, sym, ap, subst, ◌∙◌, inl, inr, arith, append_assoc, append-nil, length-append, eq-eqb}
-use Rattle.std.specs.Prelude.{Option, Some, None, slice_get}
+use Rattle.std.proofs.Common.{◌≡◌, ℕ, ◌+◌, ◌<◌, ◌≤◌, ◌==◌, ◌&&◌, not, suc, cond, eqb, Bool, true, false, List, [], ◌∷◌, ◌++◌, length, filter, flat_map, take, drop, get_or, slice_range, refl, sym, ap, subst, ◌∙◌, arith, append_assoc, length-append, eq-eqb}
+use Rattle.std.specs.Prelude.{Some}
 use Rattle.std.specs.List.{find}
 use Rattle.std.proofs.Math.Seq.{drop-cons}
-use Rattle.std.proofs.lemmas.Bool.{eqb-true}
 use Rattle.std.proofs.lemmas.List.{take-append-drop}
 use Rattle.std.proofs.lemmas.List.Concat.{flat_map-append}
 use Rattle.std.proofs.lemmas.List.Elements.{filter-append}
@@ -19,7 +18,7 @@ use Rattle.cell_units.specs.Text.{row_end, row_start}
 use Rattle.display_sheet.specs.LineStep.{line_step}
 use Rattle.display_sheet.proofs.StepLaws.{IsLawful-step}
 use Rattle.map_sheet.specs.Listed.{side_blocks}
-use Rattle.plain_rows.specs.Rows.{blocks_at, is_on, line_of_block, rows_by_line}
+use Rattle.plain_rows.specs.Rows.{is_on, line_of_block, rows_by_line}
 use Rattle.plain_rows.specs.inside.BuiltRows.{block_at, no_block}
 use Rattle.plain_rows.proofs.RisingLines.{row_end-within, row_start-le}
 use Rattle.plain_rows.proofs.SpotFronts.{line_of-within}

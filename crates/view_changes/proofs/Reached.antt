@@ -1,12 +1,11 @@
 -- The lines that an operation replaces, by what it reaches, and their rows.
-use Rattle.std.proofs.Common.{◌≡◌, ℕ, ◌+◌, ◌-◌, ◌<◌, ◌≤◌, List, [], ◌∷◌, length, find, refl, sym, ap, subst, ◌∙◌, arith}
+use Rattle.std.proofs.Common.{◌≡◌, ℕ, ◌+◌, ◌-◌, ◌≤◌, List, length, refl, sym, ap, subst, ◌∙◌, arith}
 use Rattle.cell_units.specs.Lawful.{IsAllowed, IsLawful}
 use Rattle.cell_units.specs.LineCounts.{line_of_row_end, line_of_row_start}
 use Rattle.cell_units.specs.Operation.{AddBlock, AddFold, AddInlay, Operation, RemoveBlock, RemoveFold, RemoveInlay, Replace, SetTab, SetWidth}
 use Rattle.cell_units.specs.Record.{Record}
 use Rattle.cell_units.specs.Touched.{EachLine, NoLine, touched}
 use Rattle.display_sheet.specs.LineStep.{line_step}
-use Rattle.display_sheet.specs.Shown.{unstamped}
 use Rattle.row_pieces.specs.declared.row_change.RowChange.{RowChange}
 use Rattle.row_pieces.specs.Changed.{IsTrue, RowLook, change, looks_by_line, no_change, rows_of_lines}
 use Rattle.row_pieces.specs.Laws.{LeavesBlocks}

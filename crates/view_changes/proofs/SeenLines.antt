@@ -1,5 +1,5 @@
 -- What a host sees of the rows of a display line: those of the blocks above it, of its text, and of the blocks below.
-use Rattle.std.proofs.Common.{◌≡◌, ℕ, ◌+◌, ◌<◌, ◌≤◌, zero, suc, List, [], ◌∷◌, ◌++◌, length, map, filter, flat_map, take, get_or, zip, refl, sym, ap, ◌∙◌, arith, append_assoc, length-append}
+use Rattle.std.proofs.Common.{◌≡◌, ℕ, ◌<◌, suc, List, [], ◌∷◌, ◌++◌, length, map, filter, flat_map, get_or, zip, refl, sym, ap, ◌∙◌, arith, length-append}
 use Rattle.std.proofs.lemmas.List.{get_or-map, length-map, map-append}
 use Rattle.std.proofs.lemmas.Slice.Zip.{get_or-zip}
 use Rattle.cell_units.specs.declared.place.Side.{Side}
@@ -13,7 +13,7 @@ use Rattle.plain_rows.specs.Spots.{mark_at}
 use Rattle.plain_rows.proofs.RowsInOrder.{length-text_rows}
 use Rattle.plain_rows.proofs.RowsOfLines.{elements-at, length-rows_by_line, line_rows-at, rows_by_line-at}
 use Rattle.row_pieces.specs.declared.row_piece.RowPiece.{RowPiece}
-use Rattle.row_pieces.specs.Changed.{Look, RowLook, look_of, looks_by_line}
+use Rattle.row_pieces.specs.Changed.{RowLook, look_of, looks_by_line}
 use Rattle.row_pieces.specs.Laws.{block_looks, pieces_at}
 use Rattle.row_pieces.specs.Pieces.{block_piece, block_pieces_at, pieces_by_line, pieces_by_row, pieces_of_block}
 use Rattle.row_pieces.proofs.BlockLooks.{seen_blocks}

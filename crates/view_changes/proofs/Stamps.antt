@@ -11,11 +11,11 @@ use Rattle.cell_units.specs.Lawful.{IsAllowed, IsLawful}
 use Rattle.cell_units.specs.LineCounts.{TouchesOneRun}
 use Rattle.cell_units.specs.Operation.{AddBlock, AddFold, AddInlay, Operation, RemoveBlock, RemoveFold, RemoveInlay, Replace, SetTab, SetWidth, block_at_row, operated}
 use Rattle.cell_units.specs.Pieces.{folded_lines}
-use Rattle.cell_units.specs.Record.{Block, Mark, Record, plain_mark, plain_marks}
+use Rattle.cell_units.specs.Record.{Block, Mark, Record, plain_mark}
 use Rattle.cell_units.specs.Touched.{EachLine, NoLine, Rows, Touched, touched, touched_after, touched_before}
 use Rattle.cell_units.proofs.OperatedLines.{keeps_lines}
 use Rattle.plain_rows.specs.Plain.{marks_of}
-use Rattle.plain_rows.specs.Rows.{blocks_at, line_of_block, rows_by_line}
+use Rattle.plain_rows.specs.Rows.{blocks_at, line_of_block}
 use Rattle.plain_rows.specs.Spots.{mark_at}
 use Rattle.display_sheet.specs.LineSplices.{spliced}
 use Rattle.display_sheet.specs.LineStep.{line_step}

@@ -146,9 +146,8 @@ pub fn changed_since(
 /// The rows that a change replaced, which led from the view to the record that is shown after it: what covers those of
 /// its operations, in turn (*Changed rows*).
 ///
-/// A batch of replacements is done once more, for the rows between them; nothing else takes memory. What removes an
-/// inlay, a fold or a block looks it up by one pass over those that are there, and what adds a block by one over the
-/// blocks.
+/// A batch of replacements is done once more, for the rows between them; nothing else takes memory. An inlay, a fold or a
+/// block that is removed is looked up by its id, and so is a block that is added.
 pub fn changed_rows(
     alloc: Global,
     before: &View,
@@ -177,7 +176,7 @@ pub fn changed_rows(
 /// The rows that a landing replaced, which led from the view to the record that is shown after it: those of the lines
 /// from the first that is wrapped at another width to the last, with those of the blocks at them (*Changed rows*).
 ///
-/// It goes over the lines before the first of these and after the last.
+/// It goes over the runs of lines that are at one width both before and after.
 pub fn landed_rows(before: &View, after: &MapSheet, steps: &mut Steps) -> RowChange
     requires { (job : ℕ) × (after.now ≡ shown_after before.now (Landed job ∷ [])) }
     ensures rows { (job : ℕ) → after.now ≡ shown_after before.now (Landed job ∷ []) →

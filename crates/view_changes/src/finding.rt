@@ -1,4 +1,4 @@
-//! Looking for what an operation removes, by its id: one pass over the inlays, the folds or the blocks of a side.
+//! Looking for what an operation removes, by its id.
 ghost use Rattle.std.specs.Prelude.{◌≡◌, ◌≤◌, ◌==◌, find, option_map};
 ghost use Rattle.view_changes.specs.inside.OwnRows.{IsNumbered};
 
@@ -12,15 +12,11 @@ pub(crate) fn inlay_offset(sheet: &MapSheet, id: u32, steps: &mut Steps) -> Opti
     ensures counted { steps.old ≤ steps.new }
 {
     let inlaid = sheet.text().inlaid();
-    'inlays: for at in 0..inlaid.count() {
-        let Some((offset, _bias, found, _text)) = inlaid.get(at, steps) else {
-            unreachable!()
-        };
-        if found == id {
-            return Some(offset);
-        }
-    }
-    None
+    let at = inlaid.find_id(id, steps)?;
+    let Some((offset, _bias, _id, _text)) = inlaid.get(at, steps) else {
+        unreachable!()
+    };
+    Some(offset)
 }
 
 /// The range of the fold of this id, if there is one.
@@ -30,15 +26,11 @@ pub(crate) fn fold_range(sheet: &MapSheet, id: u32, steps: &mut Steps) -> Option
     ensures counted { steps.old ≤ steps.new }
 {
     let layer = sheet.text().layer();
-    'folds: for at in 0..layer.count() {
-        let Some(fold) = layer.get(at, steps) else {
-            unreachable!()
-        };
-        if fold.id == id {
-            return Some((fold.start, fold.end));
-        }
-    }
-    None
+    let at = layer.find_id(id, steps)?;
+    let Some(fold) = layer.get(at, steps) else {
+        unreachable!()
+    };
+    Some((fold.start, fold.end))
 }
 
 /// The number of the block of this id among those of a side, if there is one.
@@ -46,15 +38,5 @@ pub(crate) fn block_number(sheet: &MapSheet, side: Side, id: u32, steps: &mut St
     ensures number { IsNumbered sheet.now side id result }
     ensures counted { steps.old ≤ steps.new }
 {
-    // For the proof: the record is lawful.
-    sheet.lawful();
-    'numbers: for number in 0..sheet.blocked().len() {
-        let Some((_offset, found, _lines)) = sheet.blocked().block(side, number, steps) else {
-            return None;
-        };
-        if found == id {
-            return Some(number);
-        }
-    }
-    None
+    sheet.blocked().find_id(side, id, steps)
 }

@@ -1,74 +1,58 @@
-//! The display lines that a landing wrapped: one pass over the lines from each end.
-ghost use Rattle.std.specs.Prelude.{◌≡◌, ◌<◌, ◌≤◌, false, length, slice_index_or};
+//! The display lines that a landing wrapped: one pass over the runs of lines that are wrapped at one width.
+ghost use Rattle.std.specs.Prelude.{◌≡◌, ◌<◌, ◌≤◌, ℕ, length};
+ghost use Rattle.plain_rows.specs.Spots.{mark_at};
 ghost use Rattle.view_changes.specs.Events.{rewrapped};
-ghost use Rattle.view_changes.specs.inside.Flags.{GoFromFirstToLast, IsFirstFlag, IsLastFlag};
+ghost use Rattle.view_changes.specs.inside.Flags.{GoFromFirstToLast};
 
-use crate::in_turn::NO_ROW;
 use cell_units::Steps;
 use kept_sheet::Sheet;
 use map_sheet::MapSheet;
 use row_pieces::RowChange;
 
-/// Whether a line is wrapped at another width than before.
-fn is_rewrapped(before: &MapSheet, after: &MapSheet, line: u32, steps: &mut Steps) -> bool
-    requires as_many { length before.now.marks ≡ length after.now.marks }
-    requires within { line < length before.now.marks }
-    ensures flag { result ≡ slice_index_or (rewrapped before.now after.now) line false }
+/// The width in cells at which a line is wrapped, 0 where it is in one row, and the end of the lines from it on that are
+/// wrapped at it.
+fn width_run(sheet: &MapSheet, line: u32, steps: &mut Steps) -> (u32, u32)
+    requires { line < length sheet.now.marks }
+    ensures some { line < result.1 }
+    ensures within { result.1 ≤ length sheet.now.marks }
+    ensures width { (k : ℕ) → line ≤ k → k < result.1 → (mark_at sheet.now k).width ≡ result.0 }
     ensures counted { steps.old ≤ steps.new }
 {
-    // For the proof: the records are lawful.
-    before.lawful();
-    after.lawful();
-    let width = before.wrapped().rows().mark(line, steps);
-    width != after.wrapped().rows().mark(line, steps)
-}
-
-/// The first line that is wrapped at another width than before.
-fn first_rewrapped(before: &MapSheet, after: &MapSheet, steps: &mut Steps) -> Option<u32>
-    requires { length before.now.marks ≡ length after.now.marks }
-    ensures first { IsFirstFlag (rewrapped before.now after.now) result }
-    ensures counted { steps.old ≤ steps.new }
-{
-    'lines: for line in 0..before.lines() {
-        if is_rewrapped(before, after, line, steps) {
-            return Some(line);
-        }
-    }
-    None
-}
-
-/// The last line that is wrapped at another width than before.
-fn last_rewrapped(before: &MapSheet, after: &MapSheet, steps: &mut Steps) -> Option<u32>
-    requires { length before.now.marks ≡ length after.now.marks }
-    ensures last { IsLastFlag (rewrapped before.now after.now) result }
-    ensures counted { steps.old ≤ steps.new }
-{
-    'lines: for line in (0..before.lines()).rev() {
-        if is_rewrapped(before, after, line, steps) {
-            return Some(line);
-        }
-    }
-    None
+    // For the proof: the record is lawful.
+    sheet.lawful();
+    let rows = sheet.wrapped().rows();
+    let width = rows.mark(line, steps);
+    let end = rows.next_other(line, width, steps).unwrap_or(sheet.lines());
+    (width, end)
 }
 
 /// The lines from the first that landed to the last make place for as many. None does where none landed.
+///
+/// It goes over the runs of lines that are at one width both before and after.
 pub(crate) fn landed_lines(before: &MapSheet, after: &MapSheet, steps: &mut Steps) -> RowChange
     requires { length before.now.marks ≡ length after.now.marks }
     ensures lines { GoFromFirstToLast (rewrapped before.now after.now) result }
     ensures counted { steps.old ≤ steps.new }
 {
-    // For the proof: the lines are as many as a u32 counts.
-    let _count = before.lines();
-    let Some(first) = first_rewrapped(before, after, steps) else {
-        return NO_ROW;
-    };
-    let Some(last) = last_rewrapped(before, after, steps) else {
-        return NO_ROW;
-    };
-    let to = last + 1;
+    let count = before.lines();
+    let mut from = 0;
+    let mut to = 0;
+    let mut line = 0;
+    'runs: while line < count {
+        let (old, old_end) = width_run(before, line, steps);
+        let (new, new_end) = width_run(after, line, steps);
+        let end = old_end.min(new_end);
+        if old != new {
+            if to == 0 {
+                from = line;
+            }
+            to = end;
+        }
+        line = end;
+    }
     RowChange {
-        from: first,
+        from,
         to,
-        count: to - first,
+        count: to - from,
     }
 }

@@ -1,10 +1,6 @@
-use Rattle.std.proofs.Common.{◌≡◌, ℕ, ◌-◌, List, drop, length, sym, ap, subst, ◌∙◌, refl, arith}
-use Rattle.cell_units.specs.Lawful.{IsLawful}
-use Rattle.display_sheet.specs.declared.change.Splice.{Splice}
-use Rattle.display_sheet.specs.Changes.{batch}
+use Rattle.std.proofs.Common.{◌≡◌, ℕ, List, drop, length, sym, ap, ◌∙◌, arith}
 use Rattle.display_sheet.specs.Shown.{unstamped}
 use Rattle.display_map.specs.Events.{Event}
-use Rattle.display_map.specs.LawfulStates.{EventsFit}
 use Rattle.display_map.specs.Replay.{replayed, state_of}
 use Rattle.display_map.specs.Splicing.{did_events}
 use Rattle.view_changes.specs.Events.{covered}

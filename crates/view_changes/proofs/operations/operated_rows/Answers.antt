@@ -1,10 +1,7 @@
-use Rattle.std.proofs.Common.{◌≡◌, ◌+◌, ◌≤◌, sym, ap, ◌∙◌}
-use Rattle.cell_units.specs.Lawful.{IsAllowed}
+use Rattle.std.proofs.Common.{sym, ap, ◌∙◌}
 use Rattle.cell_units.specs.Operation.{Operation}
 use Rattle.display_sheet.specs.Changes.{operation_of}
-use Rattle.row_pieces.specs.Changed.{change, no_change}
 use Rattle.view_changes.specs.Operations.{rows_replaced}
-use Rattle.view_changes.specs.inside.Reaches.{IsAfter}
 use Rattle.view_changes.proofs.BlockRows.{brought-by, new-there-by, taken, taken-none}
 use Rattle.view_changes.proofs.Reached.{found-came, found-within, replaces-all, replaces-found, replaces-none}
 use Rattle.view_changes.proofs.operations.operated_rows.Goals as goal

@@ -1,5 +1,4 @@
-use Rattle.std.proofs.Common.{◌≡◌, ℕ, ◌+◌, ◌-◌, ◌*◌, ◌<◌, ◌≤◌, List, length, drop, take, refl, sym, ap, ◌∙◌, arith}
-use Rattle.cell_units.specs.Record.{Block}
+use Rattle.std.proofs.Common.{◌≡◌, ℕ, ◌+◌, ◌-◌, ◌<◌, drop, take, sym, ap, ◌∙◌, arith}
 use Rattle.map_sheet.specs.Listed.{side_blocks}
 use Rattle.view_changes.specs.Operations.{at_line, rows_in}
 use Rattle.view_changes.proofs.Ahead.{all-ahead, few-before, few-lines, none-ahead, one-ahead}
