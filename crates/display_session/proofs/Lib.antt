@@ -5,4 +5,5 @@ pub mod MovedMarks
 pub mod PlacedMarks
 pub mod SameSessions
 pub mod Slices
+pub mod Watches
 pub mod Wrapping

@@ -4,7 +4,6 @@ use Rattle.std.specs.List.{find, list_all, list_any}
 use Rattle.sum_core.specs.declared.load.NoLoad.{NoLoad}
 use Rattle.cell_units.specs.declared.fault.Refusal.{Refusal}
 use Rattle.cell_units.specs.declared.fault.Refusal.TheVariants.{BadRange, IdInUse, TooLong, UnknownId}
-use Rattle.cell_units.specs.declared.place.Bias.{Bias}
 use Rattle.cell_units.specs.Anchor.{move}
 use Rattle.cell_units.specs.Operation.{Operation, Replace}
 use Rattle.cell_units.specs.Sorting.{sort_by}

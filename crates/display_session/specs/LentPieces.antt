@@ -1,5 +1,5 @@
 -- How the pieces of a row are lent: the row's text once, and of each piece how much of it is its own.
-use Rattle.std.specs.Prelude.{◌≡◌, List, length, map, Option, Some, None}
+use Rattle.std.specs.Prelude.{List, length, Option, Some, None}
 use Rattle.std.specs.declared.vec.Vec.{Vec}
 use Rattle.row_pieces.specs.declared.row_piece.RowPiece.{RowPiece}
 use Rattle.display_session.specs.declared.lent_pieces.LentPiece.{LentPiece}

@@ -7,4 +7,5 @@ pub mod Lines
 pub mod LoneDisplays
 pub mod Slices
 pub mod Troubles
+pub mod Watches
 pub mod Wrapping

@@ -14,8 +14,11 @@ mod marking;
 mod session;
 mod text_parts;
 mod trouble;
+mod watch;
+mod watching;
 
 pub use lent_pieces::LentPiece;
 pub use row_pieces::RowPieceKind;
 pub use session::Session;
 pub use trouble::Trouble;
+pub use view_changes::RowChange;

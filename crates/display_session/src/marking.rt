@@ -5,6 +5,7 @@ ghost use Rattle.mark_tree.specs.Marks.{lacks_id, mark_le, mark_with};
 ghost use Rattle.display_map.specs.Replay.{present_of};
 ghost use Rattle.display_session.specs.HostMarks.{mark_refusal, offset_of, unmark_refusal};
 ghost use Rattle.display_session.specs.Troubles.{IsOwed};
+ghost use Rattle.display_session.specs.Watches.{asked_at};
 
 use crate::session::Session;
 use crate::trouble::Trouble;
@@ -57,6 +58,7 @@ impl Session {
         // What stays.
         ensures display { self.new.display ≡ self.old.display }
         ensures kept { self.new.answer ≡ self.old.answer }
+        ensures asked { asked_at self.new.watch ≡ asked_at self.old.watch }
     {
         self.judge_mark(alloc, id, offset)?;
         let mark = Mark {
@@ -82,6 +84,7 @@ impl Session {
         // What stays.
         ensures display { self.new.display ≡ self.old.display }
         ensures kept { self.new.answer ≡ self.old.answer }
+        ensures asked { asked_at self.new.watch ≡ asked_at self.old.watch }
     {
         self.marks.remove(alloc, id, &mut Steps::new())?;
         Ok(())

@@ -21,6 +21,7 @@ ghost use Rattle.display_session.specs.LentPieces.{lent_items, lent_piece};
 ghost use Rattle.display_session.specs.Lines.{HasDone, HasDoneAt, HasFailedAt, IsReady, IsSettled, query_verdict, verdict_on};
 ghost use Rattle.display_session.specs.Slices.{slice_refusal};
 ghost use Rattle.display_session.specs.Troubles.{IsEditRefused, IsOwed, IsUnwrapped};
+ghost use Rattle.display_session.specs.Watches.{asked_at, is_watched};
 ghost use Rattle.display_session.specs.Wrapping.{IsWrapped};
 
 use crate::answering::{answer_text, wants_settled};
@@ -30,6 +31,7 @@ use crate::lent_pieces::{LentPiece, joined_text, lent_pieces};
 use crate::lone::LoneDisplay;
 use crate::text_parts::{text_between, text_len};
 use crate::trouble::Trouble;
+use crate::watch::Watch;
 use cell_units::{Bias, NoMemory, Refusal, Spot, Steps, Text, TextFault};
 use display_map::{Change, Kind, Op, Splice};
 use edit_script::laws::verdict_laws;
@@ -46,7 +48,10 @@ pub struct Session {
     pub(crate) display: LoneDisplay,
     answer: String,
     pub(crate) marks: HostMarks,
+    /// What is kept since a host last asked for the rows that changed, if it did.
+    pub(crate) watch: Option<Watch>,
     ghost placed: { are_placed (present_of display).text marks ≡ true },
+    ghost watched: { is_watched display watch ≡ true },
 }
 
 impl Drop for Session {
@@ -55,6 +60,7 @@ impl Drop for Session {
             display: _,
             answer: _,
             marks: _,
+            watch: _,
         } = self;
     }
 }
@@ -67,11 +73,13 @@ impl Session {
             (IsTextRefused bytes.now) }
         ensures accepted { OnOk result (IsAccepted bytes.now) }
         ensures marks { IfOk result (λ session. session.marks ≡ []) }
+        ensures asked { IfOk result (λ session. asked_at session.watch ≡ None) }
     {
         Ok(Session {
             display: LoneDisplay::open(alloc, bytes)?,
             answer: String::new(alloc),
             marks: MarkTree::new(alloc),
+            watch: None,
         })
     }
 
@@ -79,14 +87,18 @@ impl Session {
     /// feed after it; a line that isn't a question keeps none. A refused line does nothing. Where there is no memory or no
     /// room in the journal, lines may have been wrapped. After either the last answer is still kept.
     pub fn apply(&mut self, alloc: Global, line: &[u8]) -> Result<(), Trouble>
+        // What it does and keeps, and what a line that fails does.
         ensures done { OnOk result (HasDoneAt (verdict_on self.old.display line.now)
             self.old.display self.new.display (string_bytes self.new.answer)) }
         ensures failed { IfErr result (HasFailedAt (verdict_on self.old.display line.now)
             self.old.display self.new.display) }
-        ensures kept { OnErr result (self.new.answer ≡ self.old.answer) }
         ensures moved { OnOk result
             (self.new.marks ≡ marks_at (verdict_on self.old.display line.now) self.old.marks) }
+
+        // What stays.
+        ensures kept { OnErr result (self.new.answer ≡ self.old.answer) }
         ensures marks { OnErr result (self.new.marks ≡ self.old.marks) }
+        ensures asked { asked_at self.new.watch ≡ asked_at self.old.watch }
     {
         match self.read(alloc, line)? {
             Asked::Change(change) => {
@@ -136,13 +148,14 @@ impl Session {
             (IsOwed (change_refusal (present_of self.old.display) change.now)) }
         ensures unchanged { OnErr result (self.new ≡ self.old) }
 
-        // The last answer.
+        // The last answer, and when the rows that changed were asked for.
         ensures kept { self.new.answer ≡ self.old.answer }
+        ensures asked { asked_at self.new.watch ≡ asked_at self.old.watch }
     {
         // For the proof: no mark is past the text.
         self.display.lawful();
         let marks = moved(alloc, &self.marks, change)?;
-        self.display.apply(alloc, change)?;
+        self.display.apply(alloc, change, &mut self.watch)?;
         // For the proof: each operation was allowed where it was done, so marks are at boundaries after it.
         self.display.lawful();
         self.marks = marks;
@@ -166,8 +179,9 @@ impl Session {
             (edit_refusal (present_of self.old.display) (splice_of start end bytes.now ∷ []))) }
         ensures unchanged { OnErr result (self.new ≡ self.old) }
 
-        // The last answer.
+        // The last answer, and when the rows that changed were asked for.
         ensures kept { self.new.answer ≡ self.old.answer }
+        ensures asked { asked_at self.new.watch ≡ asked_at self.old.watch }
     {
         let Ok(text) = str::from_utf8(bytes) else {
             return Err(Trouble::NotUtf8);
@@ -190,12 +204,16 @@ impl Session {
 
     /// Wraps all lines that wait, where a question is put to such lines alone.
     fn prepare(&mut self, alloc: Global, query: &Query) -> Result<(), Trouble>
+        // The display is ready, or not.
         ensures ready { OnOk result
             (IsReady (query_wants_settled query.now) self.old.display self.new.display) }
         ensures wrapped { IsWrapped self.old.display self.new.display }
         ensures failed { IfErr result (IsUnwrapped self.new.display) }
+
+        // What stays.
         ensures kept { self.new.answer ≡ self.old.answer }
         ensures marks { self.new.marks ≡ self.old.marks }
+        ensures asked { asked_at self.new.watch ≡ asked_at self.old.watch }
     {
         if wants_settled(query) {
             self.settle(alloc)?;
@@ -216,12 +234,16 @@ impl Session {
     /// Answers a question that isn't refused.
     fn ask_accepted(&mut self, alloc: Global, query: &Query) -> Result<(), Trouble>
         requires { query_refusal (present_of self.old.display) query.now ≡ None }
+        // What it does and keeps, and what it does where it fails.
         ensures done { OnOk result (HasDone (Ask query.now)
             self.old.display self.new.display (string_bytes self.new.answer)) }
         ensures failed { IfErr result (HasFailedAt (Accepted (Ask query.now))
             self.old.display self.new.display) }
+
+        // What stays.
         ensures kept { OnErr result (self.new.answer ≡ self.old.answer) }
         ensures marks { self.new.marks ≡ self.old.marks }
+        ensures asked { asked_at self.new.watch ≡ asked_at self.old.watch }
     {
         self.prepare(alloc, query)?;
         self.answer = self.answer_now(alloc, query)?;
@@ -230,12 +252,16 @@ impl Session {
 
     /// Answers a question, or refuses it.
     fn ask(&mut self, alloc: Global, query: &Query) -> Result<(), Trouble>
+        // What it does and keeps, and what it does where it fails.
         ensures done { OnOk result (HasDoneAt (query_verdict self.old.display query.now)
             self.old.display self.new.display (string_bytes self.new.answer)) }
         ensures failed { IfErr result (HasFailedAt (query_verdict self.old.display query.now)
             self.old.display self.new.display) }
+
+        // What stays.
         ensures kept { OnErr result (self.new.answer ≡ self.old.answer) }
         ensures marks { self.new.marks ≡ self.old.marks }
+        ensures asked { asked_at self.new.watch ≡ asked_at self.old.watch }
     {
         match self.refusal(alloc, query)? {
             Some(refusal) => Err(Trouble::Refused(refusal)),
@@ -254,12 +280,16 @@ impl Session {
 
     /// Answers a question about a caret, which is never refused.
     fn ask_caret(&mut self, alloc: Global, query: &CaretQuery) -> Result<(), Trouble>
+        // What it does and keeps, and what it does where it fails.
         ensures done { OnOk result (HasDone (AskCaret query.now)
             self.old.display self.new.display (string_bytes self.new.answer)) }
         ensures failed { IfErr result (HasFailedAt (Accepted (AskCaret query.now))
             self.old.display self.new.display) }
+
+        // What stays.
         ensures kept { OnErr result (self.new.answer ≡ self.old.answer) }
         ensures marks { self.new.marks ≡ self.old.marks }
+        ensures asked { asked_at self.new.watch ≡ asked_at self.old.watch }
     {
         self.settle(alloc)?;
         self.answer = self.caret_now(alloc, query)?;
@@ -268,25 +298,33 @@ impl Session {
 
     /// Wraps up to so many runs of lines that wait, of 128 lines at most each, and returns whether a line may still wait.
     pub fn wrap(&mut self, alloc: Global, runs: u32) -> Result<bool, Trouble>
+        // What is wrapped, and why it fails.
         ensures wrapped { IsWrapped self.old.display self.new.display }
         ensures settled { IfOk result (λ waits. waits ≡ false
             → is_settled (present_of self.new.display) ≡ true) }
         ensures failed { IfErr result (IsUnwrapped self.new.display) }
+
+        // What stays.
         ensures kept { self.new.answer ≡ self.old.answer }
         ensures marks { self.new.marks ≡ self.old.marks }
+        ensures asked { asked_at self.new.watch ≡ asked_at self.old.watch }
     {
-        self.display.wrap(alloc, runs)
+        self.display.wrap(alloc, runs, &mut self.watch)
     }
 
     /// Wraps all lines that wait.
     pub fn settle(&mut self, alloc: Global) -> Result<(), Trouble>
+        // What is wrapped, and why it fails.
         ensures settled { OnOk result (IsSettled self.old.display self.new.display) }
         ensures wrapped { IsWrapped self.old.display self.new.display }
         ensures failed { IfErr result (IsUnwrapped self.new.display) }
+
+        // What stays.
         ensures kept { self.new.answer ≡ self.old.answer }
         ensures marks { self.new.marks ≡ self.old.marks }
+        ensures asked { asked_at self.new.watch ≡ asked_at self.old.watch }
     {
-        self.display.settle(alloc)
+        self.display.settle(alloc, &mut self.watch)
     }
 
     /// The last answer.
@@ -328,6 +366,7 @@ impl Session {
             ≡ slice_range (present_of self.old.display).text start end) }
         ensures display { self.new.display ≡ self.old.display }
         ensures marks { self.new.marks ≡ self.old.marks }
+        ensures asked { asked_at self.new.watch ≡ asked_at self.old.watch }
 
         // Why it is refused, and that nothing is changed then.
         ensures refused { IfErr result
@@ -351,11 +390,15 @@ impl Session {
     /// The kind of the row of this number, counted from 0, whose text is kept as the answer. `None` past the last row,
     /// where the last answer is still kept, as where there is no memory.
     pub fn row(&mut self, alloc: Global, row: u32) -> Result<Option<Kind>, NoMemory>
+        // The row.
         ensures row { IfOk result (λ kind. option_map (row_of (string_bytes self.new.answer)) kind
             ≡ slice_get (rows_of (present_of self.old.display)) row) }
+
+        // What stays.
         ensures past { IfOk result (λ kind. IfNone kind (self.new ≡ self.old)) }
         ensures display { self.new.display ≡ self.old.display }
         ensures marks { self.new.marks ≡ self.old.marks }
+        ensures asked { asked_at self.new.watch ≡ asked_at self.old.watch }
         ensures unchanged { OnErr result (self.new ≡ self.old) }
     {
         let view = self.display.view()?;
@@ -379,6 +422,7 @@ impl Session {
         ensures past { IfOk result (λ lent. IfNone lent (self.new ≡ self.old)) }
         ensures display { self.new.display ≡ self.old.display }
         ensures marks { self.new.marks ≡ self.old.marks }
+        ensures asked { asked_at self.new.watch ≡ asked_at self.old.watch }
         ensures unchanged { OnErr result (self.new ≡ self.old) }
     {
         let view = self.display.view()?;
@@ -393,10 +437,14 @@ impl Session {
     /// Keeps the rows from number `first` on, as many as there are up to `count`, as the lines that answer `rows` on the
     /// display as it is. Where there is no memory, the last answer is still kept.
     pub fn rows(&mut self, alloc: Global, first: u32, count: u32) -> Result<(), NoMemory>
+        // The rows.
         ensures rows { OnOk result (string_bytes self.new.answer
             ≡ printed (lines_of self.old.display (Rows first count))) }
+
+        // What stays.
         ensures display { self.new.display ≡ self.old.display }
         ensures marks { self.new.marks ≡ self.old.marks }
+        ensures asked { asked_at self.new.watch ≡ asked_at self.old.watch }
         ensures unchanged { OnErr result (self.new ≡ self.old) }
     {
         self.answer = self.answer_now(alloc, &Query::Rows { first, count })?;

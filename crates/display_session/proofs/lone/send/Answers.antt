@@ -1,5 +1,6 @@
 -- The run that is sent is out, and no other; or no line waits.
 use Rattle.display_session.proofs.LoneDisplays.{none-sent, one-sent}
+use Rattle.display_session.proofs.Watches.{watched-sent}
 use Rattle.display_map.proofs.Sent.{display_sent}
 use Rattle.display_session.proofs.lone.send.Goals as goal
 
@@ -16,3 +17,6 @@ take_run-requires-send-S-Held _ _ = search display_sent depth 12 fits 4000
 
 pub take_run-requires-sync-S-Held : goal.take_run-requires-sync-S-Held
 take_run-requires-sync-S-Held _ _ = search display_sent depth 12 fits 4000
+
+pub returns-in-Some-clause-watched : goal.returns-in-Some-clause-watched
+returns-in-Some-clause-watched c = watched-sent c.args.display.now c.take_run.new.self c.in_ok-job.field-0 c.in_ok-job.ensures.taken

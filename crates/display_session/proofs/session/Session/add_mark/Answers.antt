@@ -1,5 +1,4 @@
 -- The new mark is at a boundary, as the others are.
-use Rattle.std.specs.Prelude.{List}
 use Rattle.cell_units.specs.Sorting.{insert_by}
 use Rattle.mark_tree.specs.Marks.{mark_le, mark_with}
 use Rattle.display_map.specs.Replay.{present_of}
@@ -16,4 +15,5 @@ invariant_of-self c =
     let at = accepted-at text s.marks c.args.id c.args.offset c.in_ok-judge_mark.ensures.accepted in
     record {
       placed = placed-either text s.marks (insert_by mark_le m s.marks) c.put.new.self c.put.result c.put.ensures.ok c.put.ensures.unchanged s.placed (placed-added text m s.marks at s.placed);
+      watched = s.watched;
     }

@@ -28,4 +28,5 @@ invariant_of-self c =
     record {
       placed = placed-either text s.marks (filter (lacks_id c.args.id) s.marks) c.remove.new.self c.remove.result c.remove.ensures.ok c.remove.ensures.unchanged s.placed
           (placed-kept text (lacks_id c.args.id) s.marks s.placed);
+      watched = s.watched;
     }

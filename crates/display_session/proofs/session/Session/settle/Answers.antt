@@ -6,4 +6,5 @@ pub invariant_of-self : goal.invariant_of-self
 invariant_of-self c = record {
   placed = placed-wrapped c.args.self.now.display c.settle.new.self c.args.self.now.marks
       (settled-wrapped c.args.self.now.display c.settle.new.self c.settle.result c.settle.ensures.settled c.settle.ensures.wrapped) c.args.self.now.placed;
+  watched = c.settle.ensures.watched;
 }
