@@ -11,7 +11,7 @@ ghost use Rattle.display_session.specs.HostMarks.{marks_at, marks_moved};
 ghost use Rattle.display_session.specs.Lines.{HasDoneAt, verdict_on};
 ghost use Rattle.display_session.specs.Wrapping.{IsWrapped};
 ghost use Rattle.display_ffi.specs.declared.status.TheConstants.{CLOSED, NOT_UTF8, OK};
-ghost use Rattle.display_ffi.specs.Calls.{Both, IsOpened};
+ghost use Rattle.display_ffi.specs.Calls.{AskStays, Both, IsOpened};
 ghost use Rattle.display_ffi.specs.Handles.{IsHandle};
 ghost use Rattle.display_ffi.specs.Statuses.{verdict_status};
 
@@ -72,6 +72,8 @@ pub extern "C" fn displaymap_close(alloc: Global, handle: &mut Handle)
 #[unsafe(no_mangle)]
 pub extern "C" fn displaymap_line(alloc: Global, handle: &mut Handle, line: &[u8]) -> u32
     requires { IsHandle handle.old }
+
+    // What the handle holds then.
     ensures handle { IsHandle handle.new }
     ensures done { result ≡ OK → Both
         (λ a b. HasDoneAt (verdict_on a.display line.now) a.display b.display (string_bytes b.answer))
@@ -79,6 +81,9 @@ pub extern "C" fn displaymap_line(alloc: Global, handle: &mut Handle, line: &[u8
     ensures moved { result ≡ OK → Both
         (λ a b. b.marks ≡ marks_at (verdict_on a.display line.now) a.marks)
         handle.old.kept.session handle.new.kept.session }
+    ensures asked { AskStays handle.old.kept.session handle.new.kept.session }
+
+    // Why it fails, and what stays then.
     ensures refused { 1 ≤ result → result ≤ 8 → Both
         (λ a b. (result ≡ verdict_status (verdict_on a.display line.now)) × (b.display ≡ a.display))
         handle.old.kept.session handle.new.kept.session }
@@ -109,6 +114,8 @@ pub extern "C" fn displaymap_edit(
     text: &[u8],
 ) -> u32
     requires { IsHandle handle.old }
+
+    // What the handle holds then.
     ensures handle { IsHandle handle.new }
     ensures done { result ≡ OK → Both
         (λ a b. (edit_refusal (present_of a.display) (splice_of start end text.now ∷ []) ≡ None)
@@ -116,6 +123,9 @@ pub extern "C" fn displaymap_edit(
         × (b.marks ≡ marks_moved (batch (splice_of start end text.now ∷ [])) a.marks)
         × (b.answer ≡ a.answer))
         handle.old.kept.session handle.new.kept.session }
+    ensures asked { AskStays handle.old.kept.session handle.new.kept.session }
+
+    // Why it fails, and what stays then.
     ensures refused { 1 ≤ result → result ≤ 8 → Both
         (λ a b. option_map number_of
         (edit_refusal (present_of a.display) (splice_of start end text.now ∷ [])) ≡ Some result)
@@ -144,6 +154,8 @@ pub extern "C" fn displaymap_wrap(
     waits: &mut bool,
 ) -> u32
     requires { IsHandle handle.old }
+
+    // What the handle holds then, and whether a line waits.
     ensures handle { IsHandle handle.new }
     ensures wrapped { Both
         (λ a b. IsWrapped a.display b.display × (b.answer ≡ a.answer) × (b.marks ≡ a.marks))
@@ -151,6 +163,9 @@ pub extern "C" fn displaymap_wrap(
     ensures settled { result ≡ OK → waits.new ≡ false → Both
         (λ a b. is_settled (present_of b.display) ≡ true)
         handle.old.kept.session handle.new.kept.session }
+    ensures asked { AskStays handle.old.kept.session handle.new.kept.session }
+
+    // When it fails, and that nothing is written then.
     ensures untouched { 1 ≤ result → waits.new ≡ waits.old }
     ensures closed { handle.old.kept.session ≡ None → result ≡ CLOSED }
     ensures open { result ≡ CLOSED → handle.old.kept.session ≡ None }

@@ -14,3 +14,4 @@ pub mod reading;
 pub mod status;
 #[cfg(test)]
 mod tests;
+pub mod watching;

@@ -7,7 +7,7 @@ ghost use Rattle.display_map.specs.Replay.{present_of};
 ghost use Rattle.display_session.specs.HostMarks.{mark_refusal, offset_of, unmark_refusal};
 ghost use Rattle.display_ffi.specs.declared.status.TheConstants.{CLOSED, OK};
 ghost use Rattle.display_ffi.specs.Biases.{bias_of};
-ghost use Rattle.display_ffi.specs.Calls.{Both};
+ghost use Rattle.display_ffi.specs.Calls.{AskStays, Both};
 ghost use Rattle.display_ffi.specs.Handles.{IsHandle};
 
 use crate::handle::{Handle, put, take};
@@ -27,12 +27,17 @@ pub extern "C" fn displaymap_add_mark(
     right: bool,
 ) -> u32
     requires { IsHandle handle.old }
+
+    // What the handle holds then.
     ensures handle { IsHandle handle.new }
     ensures added { result ≡ OK → Both
         (λ a b. (mark_refusal (present_of a.display).text a.marks id offset ≡ None)
         × (b.marks ≡ insert_by mark_le (mark_with offset (bias_of right) id (record {})) a.marks)
         × (b.display ≡ a.display) × (b.answer ≡ a.answer))
         handle.old.kept.session handle.new.kept.session }
+    ensures asked { AskStays handle.old.kept.session handle.new.kept.session }
+
+    // Why it fails, and what stays then.
     ensures refused { 1 ≤ result → result ≤ 8 → Both
         (λ a b. option_map number_of (mark_refusal (present_of a.display).text a.marks id offset)
         ≡ Some result)
@@ -56,11 +61,16 @@ pub extern "C" fn displaymap_add_mark(
 #[unsafe(no_mangle)]
 pub extern "C" fn displaymap_remove_mark(alloc: Global, handle: &mut Handle, id: u32) -> u32
     requires { IsHandle handle.old }
+
+    // What the handle holds then.
     ensures handle { IsHandle handle.new }
     ensures removed { result ≡ OK → Both
         (λ a b. (unmark_refusal a.marks id ≡ None) × (b.marks ≡ filter (lacks_id id) a.marks)
         × (b.display ≡ a.display) × (b.answer ≡ a.answer))
         handle.old.kept.session handle.new.kept.session }
+    ensures asked { AskStays handle.old.kept.session handle.new.kept.session }
+
+    // Why it fails, and what stays then.
     ensures refused { 1 ≤ result → result ≤ 8 → Both
         (λ a b. option_map number_of (unmark_refusal a.marks id) ≡ Some result)
         handle.old.kept.session handle.new.kept.session }

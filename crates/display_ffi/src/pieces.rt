@@ -3,7 +3,7 @@ ghost use Rattle.std.specs.Prelude.{◌≡◌, ◌≤◌, ◌⊎◌, None, lengt
 ghost use Rattle.display_map.specs.Replay.{present_of};
 ghost use Rattle.row_pieces.specs.Pieces.{pieces_in_rows};
 ghost use Rattle.display_ffi.specs.declared.status.TheConstants.{CLOSED, NO_MEMORY, NO_ROW, OK};
-ghost use Rattle.display_ffi.specs.Calls.{Both};
+ghost use Rattle.display_ffi.specs.Calls.{AskStays, Both};
 ghost use Rattle.display_ffi.specs.Handles.{IsHandle};
 ghost use Rattle.display_ffi.specs.Pieces.{AreGiven, as_given, filled, id_of, number_of};
 
@@ -103,12 +103,17 @@ pub extern "C" fn displaymap_pieces(
     count: &mut usize,
 ) -> u32
     requires { IsHandle handle.old }
+
+    // What the handle holds then, and what is written.
     ensures handle { IsHandle handle.new }
     ensures pieces { result ≡ OK → Both
         (λ a b. (b.display ≡ a.display) × (b.marks ≡ a.marks)
         × AreGiven (slice_get (pieces_in_rows (present_of a.display)) row)
         (string_bytes b.answer) count.new out.old out.new)
         handle.old.kept.session handle.new.kept.session }
+    ensures asked { AskStays handle.old.kept.session handle.new.kept.session }
+
+    // Why it fails, and what stays then.
     ensures past { result ≡ NO_ROW → Both
         (λ a b. slice_get (pieces_in_rows (present_of a.display)) row ≡ None)
         handle.old.kept.session handle.new.kept.session }

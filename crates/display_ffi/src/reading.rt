@@ -11,7 +11,7 @@ ghost use Rattle.display_session.specs.Answers.{printed};
 ghost use Rattle.display_session.specs.Slices.{slice_refusal};
 ghost use Rattle.display_ffi.specs.declared.status.TheConstants.{CLOSED, NO_MEMORY, NO_ROW, OK};
 ghost use Rattle.display_ffi.specs.Biases.{bias_of};
-ghost use Rattle.display_ffi.specs.Calls.{Both};
+ghost use Rattle.display_ffi.specs.Calls.{AskStays, Both};
 ghost use Rattle.display_ffi.specs.Handles.{IsHandle};
 
 use crate::handle::{Handle, put, take};
@@ -66,12 +66,17 @@ pub extern "C" fn displaymap_text_len(alloc: Global, handle: &mut Handle, bytes:
 #[unsafe(no_mangle)]
 pub extern "C" fn displaymap_slice(alloc: Global, handle: &mut Handle, start: u32, end: u32) -> u32
     requires { IsHandle handle.old }
+
+    // What the handle holds then.
     ensures handle { IsHandle handle.new }
     ensures sliced { result ≡ OK → Both
         (λ a b. (b.display ≡ a.display) × (b.marks ≡ a.marks)
         × (slice_refusal (present_of a.display).text start end ≡ None)
         × (string_bytes b.answer ≡ slice_range (present_of a.display).text start end))
         handle.old.kept.session handle.new.kept.session }
+    ensures asked { AskStays handle.old.kept.session handle.new.kept.session }
+
+    // Why it fails, and what stays then.
     ensures refused { 1 ≤ result → result ≤ 8 → Both
         (λ a b. option_map number_of (slice_refusal (present_of a.display).text start end)
         ≡ Some result)
@@ -128,12 +133,17 @@ pub extern "C" fn displaymap_row(
     kind: &mut u32,
 ) -> u32
     requires { IsHandle handle.old }
+
+    // What the handle holds then, and what is written.
     ensures handle { IsHandle handle.new }
     ensures row { result ≡ OK → Both
         (λ a b. (b.display ≡ a.display) × (b.marks ≡ a.marks)
         × (slice_get (rows_of (present_of a.display)) row
         ≡ Some (record { kind = kind.new; text = string_bytes b.answer })))
         handle.old.kept.session handle.new.kept.session }
+    ensures asked { AskStays handle.old.kept.session handle.new.kept.session }
+
+    // Why it fails, and what stays then.
     ensures past { result ≡ NO_ROW → Both
         (λ a b. slice_get (rows_of (present_of a.display)) row ≡ None)
         handle.old.kept.session handle.new.kept.session }
@@ -162,11 +172,16 @@ pub extern "C" fn displaymap_row(
 #[unsafe(no_mangle)]
 pub extern "C" fn displaymap_rows(alloc: Global, handle: &mut Handle, first: u32, count: u32) -> u32
     requires { IsHandle handle.old }
+
+    // What the handle holds then.
     ensures handle { IsHandle handle.new }
     ensures rows { result ≡ OK → Both
         (λ a b. (b.display ≡ a.display) × (b.marks ≡ a.marks)
         × (string_bytes b.answer ≡ printed (lines_of a.display (Rows first count))))
         handle.old.kept.session handle.new.kept.session }
+    ensures asked { AskStays handle.old.kept.session handle.new.kept.session }
+
+    // Why it fails, and what stays then.
     ensures failed { 1 ≤ result → Both (λ a b. (b ≡ a) × (result ≡ NO_MEMORY))
         handle.old.kept.session handle.new.kept.session }
     ensures closed { handle.old.kept.session ≡ None → result ≡ CLOSED }

@@ -11,6 +11,7 @@ use crate::reading::{
     displaymap_show, displaymap_slice, displaymap_text_len,
 };
 use crate::status::{CLOSED, NO_ROW, OK};
+use crate::watching::{Change, displaymap_changed_rows};
 use std::test::Fail;
 
 /// Three lines, of 11, 15 and 1 bytes, with a line feed after each. A tab has 4 cells.
@@ -156,6 +157,42 @@ fn a_handle_gives_the_pieces_of_a_row(rt: HostRuntime) -> Result<(), Fail> {
         displaymap_pieces(alloc, &mut handle, 4, &mut out, &mut count),
         NO_ROW
     );
+    displaymap_close(alloc, &mut handle);
+    Ok(())
+}
+
+/// Each of the four lines is one row. A letter is put into the second.
+#[test]
+fn a_handle_says_which_rows_changed(rt: HostRuntime) -> Result<(), Fail> {
+    let alloc = rt.alloc();
+    let mut handle = Handle::closed();
+    let mut change = Change {
+        from: 7,
+        to: 7,
+        count: 7,
+    };
+    assert_eq!(rt;
+        displaymap_changed_rows(alloc, &mut handle, &mut change),
+        CLOSED
+    );
+    assert_eq!(rt; (change.from, change.to, change.count), (7, 7, 7));
+    assert_eq!(rt; displaymap_open(alloc, &mut handle, TEXT), OK);
+    assert_eq!(rt;
+        displaymap_changed_rows(alloc, &mut handle, &mut change),
+        OK
+    );
+    assert_eq!(rt; (change.from, change.to, change.count), (0, 0, 4));
+    assert_eq!(rt; displaymap_edit(alloc, &mut handle, 13, 13, b"x"), OK);
+    assert_eq!(rt;
+        displaymap_changed_rows(alloc, &mut handle, &mut change),
+        OK
+    );
+    assert_eq!(rt; (change.from, change.to, change.count), (1, 2, 1));
+    assert_eq!(rt;
+        displaymap_changed_rows(alloc, &mut handle, &mut change),
+        OK
+    );
+    assert_eq!(rt; (change.from, change.to, change.count), (0, 0, 0));
     displaymap_close(alloc, &mut handle);
     Ok(())
 }
