@@ -1,4 +1,4 @@
-/* Opens a text, adds an inlay, a block, a fold and a mark, edits, and prints rows. */
+/* Opens a text, adds an inlay, a block, a fold and a mark, edits, and prints rows and which of them changed. */
 #include "displaymap.h"
 #include <stdio.h>
 #include <stdlib.h>
@@ -29,6 +29,7 @@ int main(void) {
     const char *text = "fn main() {\n\tlet total = items.iter().sum();\n\tprintln!(\"{total}\");\n}\n";
     displaymap d = {0};
     displaymap_place place;
+    displaymap_change change;
     uint32_t count, kind, offset, status;
     bool waits;
     must(displaymap_open(&d, (const uint8_t *)text, strlen(text)), "open");
@@ -38,6 +39,8 @@ int main(void) {
     must(displaymap_wrap(&d, UINT32_MAX, &waits), "wrap");
     must(displaymap_rows(&d, 0, 9), "rows");
     print_answer(&d);
+    must(displaymap_changed_rows(&d, &change), "changed_rows");
+    printf("at first %u rows make place for %u\n", change.to - change.from, change.count);
     must(displaymap_show(&d, 25, false, &place), "show");
     printf("byte 25 is shown in row %u, column %u\n", place.row, place.column);
     ask(&d, "{\"fold\":[1,11,67]}");
@@ -46,6 +49,8 @@ int main(void) {
     must(displaymap_mark(&d, 1, &offset), "mark");
     printf("the mark at byte 25 is now at byte %u\n", offset);
     must(displaymap_wrap(&d, UINT32_MAX, &waits), "wrap");
+    must(displaymap_changed_rows(&d, &change), "changed_rows");
+    printf("then rows %u to %u make place for %u\n", change.from, change.to, change.count);
     must(displaymap_row_count(&d, &count), "row_count");
     for (uint32_t row = 0; row < count; row++) {
         must(displaymap_row(&d, row, &kind), "row");

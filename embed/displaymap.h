@@ -58,6 +58,14 @@ typedef struct displaymap_piece {
     uint32_t end;   /* for an indent that of the piece after it; of a placeholder all that is folded */
 } displaymap_piece;
 
+/* The rows from number `from` up to `to`, without the latter, made place for `count` others, which begin at `from` too. Where
+ * `from` is `to` and `count` is 0, no row changed. */
+typedef struct displaymap_change {
+    uint32_t from;
+    uint32_t to;
+    uint32_t count;
+} displaymap_change;
+
 enum displaymap_status {
     DISPLAYMAP_OK = 0,
     /* Refusals, with the numbers that a script prints after `!`. */
@@ -115,8 +123,9 @@ uint32_t displaymap_add_mark(displaymap *d, uint32_t id, uint32_t offset, bool r
 uint32_t displaymap_remove_mark(displaymap *d, uint32_t id);
 uint32_t displaymap_mark(displaymap *d, uint32_t id, uint32_t *offset);
 
-/* Wraps lines. A line that a change touched is one row until it is wrapped; so is every line after a change of the width.
- * Wraps up to `runs` runs of such lines, of 128 lines at most each. `*waits` is false where no line waits any more.
+/* Wraps lines. A line that a change touched is one row until it is wrapped. After a change of the width each line keeps its
+ * rows until it is wrapped anew. Wraps up to `runs` runs of lines that wait, of 128 lines at most each. `*waits` is false where
+ * no line waits any more.
  * Fails with NO_MEMORY and JOURNAL_FULL. */
 uint32_t displaymap_wrap(displaymap *d, uint32_t runs, bool *waits);
 
@@ -139,6 +148,15 @@ uint32_t displaymap_rows(displaymap *d, uint32_t first, uint32_t count);
  * are never both text, nor of one inlay. An empty row of text has no piece.
  * Fails with NO_MEMORY and NO_ROW. */
 uint32_t displaymap_pieces(displaymap *d, uint32_t row, displaymap_piece *out, size_t room, size_t *count);
+
+/* Gives the rows that changed since this was last asked of the handle, by changes and by wrapping: what covers all of them, in
+ * one piece. `from` and `to` count the rows of then, and `count` rows of now. Each row before `from` is as it was in its kind,
+ * its text and its pieces, but for the offsets of these. So is each one from `to` on, which now begin at `from + count`. A row
+ * within may also look as before.
+ * Asking begins anew: the next time it gives what changed from now on. After `open`, the first time no row makes place for all.
+ * A display that was never asked keeps nothing for it. The last answer is kept.
+ * Fails with NO_MEMORY; then the same may be asked again. */
+uint32_t displaymap_changed_rows(displaymap *d, displaymap_change *change);
 
 /* `show` gives the place where an offset is shown; `clip` the nearest place at which some offset is shown, on the side of
  * the bias; `back` the offset that this place shows, the least for left and the greatest for right.

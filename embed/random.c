@@ -30,6 +30,15 @@ static uint8_t too_many[33554432 + 1];
 static char answer[1 << 18]; /* the last answer, with a NUL after it */
 static size_t answer_length;
 
+#define ROWS 16384
+
+/* All rows as an answer has them: each starts with its kind, and ends with a LF. */
+static struct rows {
+    char bytes[sizeof answer];
+    const char *starts[ROWS];
+    uint32_t count;
+} both[2], *seen = both, *now = both + 1; /* when it was last asked which rows changed, and now */
+
 static const char *const sides[2] = {"left", "right"};
 
 /* What edits put in: as bytes, in a line of a script, and as the text has it. */
@@ -423,11 +432,59 @@ static void wrap_some(void) {
     must(!displaymap_clip(&d, draw_row(), draw(90), draw(2), &place) && place.row < count, "clip while lines wait");
 }
 
+/* ---- the rows that changed */
+
+/* Reads all rows as they are, which become the answer. Each is there as `number kind|text`. */
+static void read_rows(struct rows *rows) {
+    must(!displaymap_rows(&d, 0, UINT32_MAX), "all rows");
+    answer_is_new();
+    memcpy(rows->bytes, answer, answer_length + 1);
+    rows->count = 0;
+    for (const char *at = rows->bytes; *at; at = strchr(at, '\n') + 1) {
+        must(rows->count < ROWS, "too many rows for this program");
+        rows->starts[rows->count++] = at = strchr(at, ' ') + 1;
+    }
+}
+
+static bool is_same_row(const char *a, const char *b) {
+    return !strncmp(a, b, (size_t)(strchr(a, '\n') + 1 - a));
+}
+
+/* The rows before those that changed and the rows after them are as they were, and none changes by asking. At first no row
+ * was seen, so all have to be new. */
+static void changed_rows(void) {
+    displaymap_change it, none;
+    struct rows *last = seen;
+    read_rows(now);
+    must(!displaymap_changed_rows(&d, &it), "changed_rows");
+    must(it.from <= it.to && it.to <= last->count && it.from <= now->count, "the rows that changed aren't there");
+    uint32_t after = last->count - it.to;
+    must(now->count - it.from >= it.count && now->count - it.from - it.count == after, "how many rows changed");
+    for (uint32_t i = 0; i < it.from; i++)
+        must(is_same_row(last->starts[i], now->starts[i]), "a row before those that changed");
+    for (uint32_t i = 1; i <= after; i++)
+        must(is_same_row(last->starts[last->count - i], now->starts[now->count - i]), "a row after those that changed");
+    answer_stays();
+    must(!displaymap_changed_rows(&d, &none) && none.from == none.to && none.count == 0, "rows that change by asking");
+    seen = now;
+    now = last;
+}
+
+/* Asks before a change or some wrapping, and after it. */
+static void change_rows(void) {
+    changed_rows();
+    if (draw(3) == 0) wrap_some();
+    else if (draw(2)) edit();
+    else change();
+    changed_rows();
+}
+
 /* ---- handles */
 
 static void closed_handle(void) {
     displaymap closed = {0};
     displaymap_place place = {UNTOUCHED, UNTOUCHED};
+    displaymap_change change = {UNTOUCHED, UNTOUCHED, UNTOUCHED}, untouched = change;
     uint32_t number = UNTOUCHED;
     size_t size = UNTOUCHED;
     uint8_t byte = 0xa5;
@@ -447,6 +504,8 @@ static void closed_handle(void) {
     must(displaymap_row(&closed, 0, &number) == DISPLAYMAP_CLOSED, "row of a closed handle");
     must(displaymap_rows(&closed, 0, 1) == DISPLAYMAP_CLOSED, "rows of a closed handle");
     must(displaymap_pieces(&closed, 0, NULL, 0, &size) == DISPLAYMAP_CLOSED && size == UNTOUCHED, "pieces of a closed handle");
+    must(displaymap_changed_rows(&closed, &change) == DISPLAYMAP_CLOSED, "changed_rows of a closed handle");
+    must(!memcmp(&change, &untouched, sizeof change), "changed_rows of a closed handle wrote a value");
     must(displaymap_answer(&closed, 0, &byte, 1) == 0 && byte == 0xa5, "answer of a closed handle");
     must(number == UNTOUCHED && place.row == UNTOUCHED && place.column == UNTOUCHED, "a closed handle wrote a value");
     displaymap_close(&closed);
@@ -481,7 +540,8 @@ static void call(void) {
     else if (it < 18) wrap_some();
     else if (it < 19) other_handle();
     else if (it < 20) draw(8) ? caret() : closed_handle();
-    else if (it < 22) pieces();
+    else if (it < 21) pieces();
+    else if (it < 22) draw(2) ? change_rows() : changed_rows();
     else {
         wrap_all();
         if (it < 25) show();

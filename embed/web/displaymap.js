@@ -34,7 +34,7 @@ class DisplayMap {
   static #decoder = new TextDecoder('utf-8', { ignoreBOM: true });
   #calls;
   #handle; // two words of the module's memory, zeroed: a closed handle
-  #result; // two numbers, for what a call returns by pointer
+  #result; // three numbers, for what a call returns by pointer
   #buffer; // for bytes that are passed in or out
   #room = 0;
 
@@ -132,6 +132,14 @@ class DisplayMap {
     });
   }
 
+  /** The rows that changed since this was last asked: those from `from` up to `to` then, for which there are `count` now. No
+   * other row looks another, but the rows after these may be further on. At first no row makes place for all. */
+  changedRows() {
+    this.#call('changed_rows', this.#result);
+    const [from, to, count] = this.#words();
+    return { from, to, count };
+  }
+
   // Offsets and places
 
   /** Where an offset is shown. */
@@ -191,7 +199,7 @@ class DisplayMap {
   }
 
   #words() {
-    return new Uint32Array(this.#calls.memory.buffer, Number(this.#result), 2);
+    return new Uint32Array(this.#calls.memory.buffer, Number(this.#result), 3);
   }
 
   // A view is made anew each time: the memory is another object once it grew.

@@ -30,6 +30,7 @@ const ROW = 22; // pixels, as --row
 const WRAP_TIME = 8; // milliseconds of wrapping between two frames
 const FLASH_TIME = 1000; // milliseconds, as of .changed
 const LONGEST = 400; // characters of a row that are drawn
+const NOTHING = { from: 0, to: 0, begun: 0 };
 const SEGMENTER = new Intl.Segmenter();
 
 const $ = id => document.getElementById(id);
@@ -41,8 +42,7 @@ let caret; // { offset, right, row, column, goal }: an offset and its bias, wher
 let anchor; // where the selection begins, likewise
 let things; // what was added: { kind, id, label }
 let nextId;
-let drawn; // the rows as they were last drawn: how many there were, and those in view by number
-let flash; // the numbers of the rows that flash, and since when
+let flash; // the rows that flash, from one up to another, and since when
 let said = ''; // why the last change was refused
 let took = 0; // milliseconds of the last change
 let wrapping = 0; // the frame in which wrapping goes on, 0 where no line waits
@@ -118,7 +118,7 @@ function change(make) {
   took = performance.now() - begun;
   settle();
   reveal();
-  draw(true);
+  draw();
 }
 
 // Wraps lines that wait, for some milliseconds now and the rest in the next frames, so that keys come in between.
@@ -128,7 +128,7 @@ function settle(milliseconds = WRAP_TIME) {
   while (waits && performance.now() < end) waits = map.wrap(8);
   [caret, anchor] = [caret, anchor].map(it => spotAt(it.offset, it.right));
   cancelAnimationFrame(wrapping);
-  wrapping = waits ? requestAnimationFrame(() => { settle(); draw(true); }) : 0;
+  wrapping = waits ? requestAnimationFrame(() => { settle(); draw(); }) : 0;
 }
 
 // Puts a text in place of the selection. A CR LF in it becomes a LF.
@@ -184,12 +184,13 @@ function openText(text) {
   map = opened;
   things = [];
   nextId = 1;
-  drawn = { count: 0, rows: new Map() };
-  flash = { rows: new Set(), begun: 0 };
+  flash = NOTHING;
   caret = anchor = spotAt(0, false);
   view.scrollTop = 0;
   setTab();
   setWidth();
+  flash = NOTHING; // else all rows would, as they are new
+  draw();
   showThings();
 }
 
@@ -215,32 +216,19 @@ function reveal() {
   if (top + ROW > view.scrollTop + view.clientHeight) view.scrollTop = top + ROW - view.clientHeight;
 }
 
-// Draws the rows in view. After a change those that aren't as before flash.
-function draw(isChange = false) {
+// Draws the rows in view. Those that changed since they were last drawn flash.
+function draw() {
   if (wrapping && isSelected()) settle(Infinity);
   const begun = performance.now();
   const count = map.rowCount();
   sheet.style.height = `${count * ROW}px`;
   const rows = map.rows(Math.floor(view.scrollTop / ROW), Math.ceil(view.clientHeight / ROW) + 1);
-  if (isChange) flash = { rows: changedRows(rows, count), begun };
+  const changed = map.changedRows();
+  if (changed.to > changed.from || changed.count > 0) flash = { from: changed.from, to: changed.from + changed.count, begun };
   const spans = selectedColumns(rows);
   sheet.replaceChildren(...rows.map(row => rowElement(row, spans.get(row.number))), ...pinElements(), caretElement());
   Object.assign(keys.style, placed(caret));
-  drawn = { count, rows: new Map(rows.map(it => [it.number, it])) };
   showStatus(count, performance.now() - begun);
-}
-
-// The numbers of the rows in view that changed: all but those at the start and at the end that are as they were drawn.
-function changedRows(rows, count) {
-  const isSame = (row, number) => {
-    const old = drawn.rows.get(number);
-    return !old || (old.kind === row.kind && old.text === row.text);
-  };
-  const shift = count - drawn.count;
-  let [from, to] = [0, rows.length];
-  while (from < to && isSame(rows[from], rows[from].number)) from++;
-  while (to > from && isSame(rows[to - 1], rows[to - 1].number - shift)) to--;
-  return new Set(rows.slice(from, to).map(it => it.number));
 }
 
 // The columns that are selected in the rows in view, by their number, as `select` of a script says.
@@ -273,7 +261,7 @@ function rowElement(row, selected) {
   it.dataset.number = row.number;
   it.dataset.kind = row.kind;
   const age = performance.now() - flash.begun;
-  if (flash.rows.has(row.number) && age < FLASH_TIME) {
+  if (row.number >= flash.from && row.number < flash.to && age < FLASH_TIME) {
     it.classList.add('changed');
     it.style.animationDelay = `${-age}ms`; // so that it goes on where the row is drawn again
   }

@@ -54,6 +54,7 @@ const NARROW = [
 
 async function opens(p) {
   check('the first rows', await p.rows(), FIRST);
+  check('none of which flashes but what was folded last', await p.changed(), [5]);
   const withInlay = ['tab:    ', 'text:let total', 'inlay:: u64', 'text: = items.iter().map(|it| it.price * '];
   check('an inlay lies in its row', await p.pieces(2), withInlay);
   check('a row that goes on is indented', await p.pieces(3), ['indent:    ', 'text:it.count).sum();']);
@@ -252,7 +253,11 @@ async function layingOut(p) {
   await p.click(2, 43);
   await p.slide('width', 24);
   check('rows at a width of 24', await p.rows(), NARROW);
+  check('all flash, since each line is wrapped anew', await p.changed(), NARROW.map((_, row) => row));
   check('the caret is at the same letter', await p.caret(), [6, 6]);
+  await p.type('x');
+  check('after a letter only the rows of its line flash', await p.changed(), [4, 5, 6, 7]);
+  await p.press('Backspace');
   await p.clickOn('#wraps');
   check('rows without a width', await p.rows(1, 4), [FIRST[1], FIRST[2] + FIRST[3].slice(6), FIRST[4]]);
   await p.clickOn('#wraps');

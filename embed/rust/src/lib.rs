@@ -4,7 +4,7 @@
 //! does. Offsets count bytes of the text, columns cells, and rows count from 0.
 mod raw;
 
-use raw::{Handle, Place, NO_ROW, OK, UNKNOWN_ID};
+use raw::{Change, Handle, Place, NO_ROW, OK, UNKNOWN_ID};
 use std::{fmt, ops::Range, ptr};
 
 /// Why a call did nothing.
@@ -86,6 +86,20 @@ pub struct Piece {
     pub text: String,
     pub cells: u32,
     pub range: Range<u32>,
+}
+
+/// The rows in a range made place for `count` others, which begin where the range does.
+#[derive(Clone, Debug, PartialEq, Eq)]
+pub struct RowChange {
+    pub replaced: Range<u32>,
+    pub count: u32,
+}
+
+impl RowChange {
+    /// Whether no row changed.
+    pub fn is_nothing(&self) -> bool {
+        self.replaced.is_empty() && self.count == 0
+    }
 }
 
 /// An open display.
@@ -252,6 +266,20 @@ impl DisplayMap {
             });
         }
         Ok(Some(pieces))
+    }
+
+    /// The rows that changed since this was last asked, by changes and by wrapping, in one piece. The range counts the rows
+    /// of then. Rows outside of it look as they did, but may be further on by now. At first no row makes place for all.
+    pub fn changed_rows(&mut self) -> Result<RowChange, Error> {
+        let mut change = Change {
+            from: 0,
+            to: 0,
+            count: 0,
+        };
+        checked(unsafe { raw::displaymap_changed_rows(&mut self.handle, &mut change) })?;
+        let Change { from, to, count } = change;
+        let replaced = from..to;
+        Ok(RowChange { replaced, count })
     }
 
     /// Where an offset is shown.

@@ -26,6 +26,13 @@ pub struct Piece {
     pub end: u32,
 }
 
+#[repr(C)]
+pub struct Change {
+    pub from: u32,
+    pub to: u32,
+    pub count: u32,
+}
+
 pub const OK: u32 = 0;
 pub const UNKNOWN_ID: u32 = 4;
 pub const NO_ROW: u32 = 20;
@@ -58,6 +65,7 @@ extern "C" {
         room: usize,
         count: *mut usize,
     ) -> u32;
+    pub fn displaymap_changed_rows(d: *mut Handle, change: *mut Change) -> u32;
     pub fn displaymap_show(d: *mut Handle, offset: u32, right: bool, place: *mut Place) -> u32;
     pub fn displaymap_clip(
         d: *mut Handle,

@@ -1,5 +1,5 @@
 //! The sessions of the repository, and worked rows.
-use displaymap::{Bias, DisplayMap, Error, Kind, Piece, PieceKind, Row, Spot};
+use displaymap::{Bias, DisplayMap, Error, Kind, Piece, PieceKind, Row, RowChange, Spot};
 use std::{fs, path::Path};
 
 const TEXT: &[u8] = b"fn main() {\n\tlet total = 1;\n}\n";
@@ -100,6 +100,50 @@ fn a_row_has_pieces() -> Result<(), Error> {
     assert_eq!(map.pieces(5)?, None);
     map.edit(0..0, &"\t".repeat(40))?;
     assert_eq!(map.pieces(0)?.map(|pieces| pieces.len()), Some(41));
+    Ok(())
+}
+
+/// What a host has drawn: it reads the rows that changed, and keeps the others.
+fn redraw(map: &mut DisplayMap, drawn: &mut Vec<String>) -> Result<RowChange, Error> {
+    let change = map.changed_rows()?;
+    let RowChange { replaced, count } = change.clone();
+    let rows = map.rows(replaced.start, count)?;
+    let texts = rows.lines().filter_map(|row| row.split_once('|'));
+    let texts: Vec<String> = texts.map(|(_, text)| text.to_string()).collect();
+    assert_eq!(texts.len(), count as usize);
+    drawn.splice(replaced.start as usize..replaced.end as usize, texts);
+    Ok(change)
+}
+
+#[test]
+fn a_host_draws_the_rows_that_changed() -> Result<(), Error> {
+    let mut map = DisplayMap::open(b"one\ntwo three four\nfive\nsix")?;
+    let mut drawn = Vec::new();
+    let replaced = |replaced, count| RowChange { replaced, count };
+    map.wrap(9)?;
+    assert_eq!(redraw(&mut map, &mut drawn)?, replaced(0..0, 4));
+    assert_eq!(drawn, ["one", "two three four", "five", "six"]);
+    assert!(redraw(&mut map, &mut drawn)?.is_nothing());
+    map.edit(4..7, "2")?;
+    map.wrap(9)?;
+    assert_eq!(redraw(&mut map, &mut drawn)?, replaced(1..2, 1));
+    assert_eq!(drawn, ["one", "2 three four", "five", "six"]);
+    map.line(br#"{"block":[1,"below",1,["a","b"]]}"#)?;
+    assert_eq!(redraw(&mut map, &mut drawn)?, replaced(2..2, 2));
+    assert_eq!(drawn, ["one", "2 three four", "a", "b", "five", "six"]);
+    map.line(br#"{"width":6}"#)?;
+    assert!(redraw(&mut map, &mut drawn)?.is_nothing());
+    map.wrap(9)?;
+    assert_eq!(redraw(&mut map, &mut drawn)?, replaced(0..6, 8));
+    let narrow = ["one", "2 ", "three ", "four", "a", "b", "five", "six"];
+    assert_eq!(drawn, narrow);
+    map.line(br#"{"fold":[1,17,21]}"#)?;
+    map.wrap(9)?;
+    assert_eq!(redraw(&mut map, &mut drawn)?, replaced(6..7, 1));
+    assert_eq!(drawn[6..], ["⋯", "six"]);
+    map.line(br#"{"unblock":1}"#)?;
+    assert_eq!(redraw(&mut map, &mut drawn)?, replaced(4..6, 0));
+    assert_eq!(drawn, ["one", "2 ", "three ", "four", "⋯", "six"]);
     Ok(())
 }
 
