@@ -121,10 +121,29 @@ static void marks(void) {
     print_mean("remove_mark", MARKS);
 }
 
+static void letters_and_wrap(const char *what) {
+    for (int i = 0; i < calls; i++) {
+        put_letter();
+        wrap_all();
+    }
+    print_mean(what, calls);
+}
+
+/* What an edit and its wrapping cost before it was asked which rows changed, and from then on. */
+static void changes(void) {
+    displaymap_change change;
+    letters_and_wrap("edit and wrap");
+    must(displaymap_changed_rows(&d, &change));
+    letters_and_wrap("edit and wrap, once asked");
+    for (int i = 0; i < 100 * calls; i++) must(displaymap_changed_rows(&d, &change));
+    print_mean("changed_rows", 100 * calls);
+}
+
 static void time_calls(void) {
     edits();
     reading();
     marks();
+    changes();
     for (int i = 0; i < 1000000; i++) displaymap_answer(&d, 0, NULL, 0);
     print_mean("a call that does nothing", 1000000);
 }

@@ -1,6 +1,6 @@
 /* Has each allocation of some calls fail in turn, or each STEP-th, and repeats the call that says so: starve [STEP]. The rows
- * at the end, and the offset of a mark, have to be those of a run in which none fails. It is linked with --wrap=malloc and
- * --wrap=realloc. */
+ * at the end, which of them changed, and the offset of a mark, have to be those of a run in which none fails. It is linked
+ * with --wrap=malloc and --wrap=realloc. */
 #include "displaymap.h"
 #include <stdio.h>
 #include <stdlib.h>
@@ -25,6 +25,7 @@ void *__wrap_realloc(void *old, size_t size) { return fails() ? NULL : __real_re
 
 static displaymap d;
 static char rows[1 << 16], wanted[1 << 16];
+static displaymap_change change, wanted_change;
 
 /* The calls, by number. */
 static uint32_t call(int number) {
@@ -36,15 +37,16 @@ static uint32_t call(int number) {
     bool waits;
     switch (number) {
     case 0: return displaymap_open(&d, (const uint8_t *)text, sizeof text - 1);
-    case 1: case 2: case 3: return displaymap_line(&d, (const uint8_t *)lines[number - 1], strlen(lines[number - 1]));
-    case 4: return displaymap_wrap(&d, UINT32_MAX, &waits);
-    case 5: return displaymap_add_mark(&d, 1, 44, true);
-    case 6: return displaymap_add_mark(&d, 2, 5, true);
-    case 7: return displaymap_edit(&d, 3, 7, (const uint8_t *)"run", 3);
-    case 8: return displaymap_remove_mark(&d, 2);
-    case 9: return displaymap_slice(&d, 3, 43);
-    case 10: return displaymap_pieces(&d, 1, pieces, 9, &pieces_count);
-    default: return displaymap_line(&d, (const uint8_t *)lines[number - 8], strlen(lines[number - 8]));
+    case 1: case 12: return displaymap_changed_rows(&d, &change);
+    case 2: case 3: case 4: return displaymap_line(&d, (const uint8_t *)lines[number - 2], strlen(lines[number - 2]));
+    case 5: return displaymap_wrap(&d, UINT32_MAX, &waits);
+    case 6: return displaymap_add_mark(&d, 1, 44, true);
+    case 7: return displaymap_add_mark(&d, 2, 5, true);
+    case 8: return displaymap_edit(&d, 3, 7, (const uint8_t *)"run", 3);
+    case 9: return displaymap_remove_mark(&d, 2);
+    case 10: return displaymap_slice(&d, 3, 43);
+    case 11: return displaymap_pieces(&d, 1, pieces, 9, &pieces_count);
+    default: return displaymap_line(&d, (const uint8_t *)lines[number - 10], strlen(lines[number - 10]));
     }
 }
 
@@ -52,7 +54,7 @@ static uint32_t call(int number) {
 static bool played(long number) {
     left = number;
     failed = 0;
-    for (int i = 0; i < 14; i++) {
+    for (int i = 0; i < 16; i++) {
         uint32_t status = call(i);
         if (status == DISPLAYMAP_NO_MEMORY && failed == 1) status = call(i);
         if (status) {
@@ -76,8 +78,9 @@ int main(int count, char **words) {
     if (step < 1) return 2;
     played(-1);
     strcpy(wanted, rows);
+    wanted_change = change;
     while (played(number)) {
-        if (strcmp(rows, wanted)) {
+        if (strcmp(rows, wanted) || memcmp(&change, &wanted_change, sizeof change)) {
             fprintf(stderr, "starve: allocation %ld: other rows\n%s", number, rows);
             return 1;
         }
