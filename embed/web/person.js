@@ -355,12 +355,12 @@ async function plays(p, folder) {
   check(`line ${line + 1} of the session in ${folder}`, [got.length, got[line]], [wanted.length, wanted[line]]);
 }
 
-// What page.png shows: one of each kind, a selection, and a row that has just changed.
+// What page.png shows: one of each kind, a selection, and a row that has just come.
 async function shows(p, file) {
   await p.slide('width', 52);
   await p.drag([1, 8], [2, 13]);
-  await p.clickOn('#wraps');
-  await p.clickOn('#wraps');
+  await p.note('    // in cents');
+  await p.clickOn('#block');
   fs.writeFileSync(file, await p.browser.picture());
 }
 
