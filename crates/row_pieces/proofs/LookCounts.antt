@@ -11,10 +11,10 @@ use Rattle.plain_rows.specs.Rows.{Row, blocks_at, line_rows, rows_by_line, rows_
 use Rattle.plain_rows.proofs.RowsInOrder.{rows_upto}
 use Rattle.plain_rows.proofs.RowsOfLines.{length-rows_by_line}
 use Rattle.row_pieces.specs.declared.row_piece.RowPiece.{RowPiece}
-use Rattle.row_pieces.specs.Changed.{Look, RowLook, look_of, looks_by_line, rows_to}
+use Rattle.row_pieces.specs.Changed.{RowLook, look_of, looks_by_line, rows_to}
 use Rattle.row_pieces.specs.Pieces.{block_pieces_at, line_pieces, pieces_by_line}
 use Rattle.row_pieces.proofs.PieceTexts.{AreAlike, lines_alike}
-use Rattle.row_pieces.proofs.ShownPieces.{alike-length, length-blocks}
+use Rattle.row_pieces.proofs.ShownPieces.{alike-length, length-blocks, length-by_line}
 
 -- lines of as many rows
 abbrev EachLong : List (List Row) → List (List (List RowPiece)) → Type 0
@@ -43,15 +43,16 @@ each-long r n (x ∷ xs) (y ∷ ys) h = (
   each-long r (n + 1) xs ys h.1,
 )
 
-abbrev seen : List Row × List (List RowPiece) → List RowLook
+-- rows with their pieces, as they are seen
+abbrev pub seen : List Row × List (List RowPiece) → List RowLook
 seen l = zip (map (λ row. row.kind) l.0) (map (map look_of) l.1)
 
-zip-long : (xs : List ℕ) (ys : List (List Look)) → length xs ≡ length ys → length (zip xs ys) ≡ length xs
+pub zip-long : {X Y : Type 0} (xs : List X) (ys : List Y) → length xs ≡ length ys → length (zip xs ys) ≡ length xs
 zip-long [] ys h = refl
 zip-long (x ∷ xs) [] h = absurd (omega (arith, h))
 zip-long (x ∷ xs) (y ∷ ys) h = ap suc (zip-long xs ys (omega (arith, h)))
 
-seen-long : (rows : List Row) (pieces : List (List RowPiece)) → length rows ≡ length pieces → length (seen (rows, pieces)) ≡ length rows
+pub seen-long : (rows : List Row) (pieces : List (List RowPiece)) → length rows ≡ length pieces → length (seen (rows, pieces)) ≡ length rows
 seen-long rows pieces h =
     zip-long (map (λ row. row.kind) rows) (map (map look_of) pieces) (length-map rows (λ row. row.kind) ∙ h ∙ sym (length-map pieces (map look_of)))
     ∙ length-map rows (λ row. row.kind)
@@ -80,6 +81,13 @@ unfolding rows_of
 all-rows r lawful =
     ap (λ (lines : List (List Row)). length (flat_map (λ rows. rows) lines))
     (sym (take_all (length r.marks) (rows_by_line r) (omega (arith, length-rows_by_line r lawful.marked))))
+
+-- ... and of as many lines as there are
+pub count-looks : (r : Record) → IsLawful r → length (looks_by_line r) ≡ length r.marks
+count-looks r lawful =
+    length-map (zip (rows_by_line r) (pieces_by_line r)) seen
+    ∙ zip-long (rows_by_line r) (pieces_by_line r) (length-rows_by_line r lawful.marked ∙ sym (length-by_line r lawful))
+    ∙ length-rows_by_line r lawful.marked
 
 pub length-pairs : (rows : List Row) → length (row_pairs rows) ≡ length rows
 length-pairs [] = refl

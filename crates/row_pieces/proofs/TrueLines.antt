@@ -23,6 +23,7 @@ use Rattle.row_pieces.specs.Changed.{IsTrue, Look, RowLook, change, look_of, loo
 use Rattle.row_pieces.specs.Laws.{KeepsBlocks, KeepsLooks, LeavesBlocks, block_looks, line_looks, pieces_at}
 use Rattle.row_pieces.specs.Pieces.{block_pieces_at, pieces_by_line, pieces_by_row}
 use Rattle.row_pieces.proofs.Columns.{length-line}
+use Rattle.row_pieces.proofs.LookCounts.{count-looks, seen, zip-long}
 use Rattle.row_pieces.proofs.OperatedBlocks.{blocks-kept}
 use Rattle.row_pieces.proofs.OperatedLooks.{looks-kept, marks-long, marks-stepped}
 use Rattle.row_pieces.proofs.ShownPieces.{length-blocks, length-by_line, line-at, whole-line}
@@ -30,22 +31,17 @@ use Rattle.row_pieces.proofs.ShownPieces.{length-blocks, length-by_line, line-at
 -- ---- lists that agree from a place on, or up to one
 
 module _ {X : Type 0} (d : X) where
-  take-same : (n : ℕ) (xs ys : List X) → n ≤ length xs → n ≤ length ys → ((k : ℕ) → k < n → get_or xs k d ≡ get_or ys k d) → take n xs ≡ take n ys
-  take-same zero xs ys l m h = refl
-  take-same (suc n) [] ys l m h = absurd (omega (arith, l))
-  take-same (suc n) (x ∷ xs) [] l m h = absurd (omega (arith, m))
-  take-same (suc n) (x ∷ xs) (y ∷ ys) l m h = λ i. h 0 (omega arith) i ∷ take-same n xs ys (omega (arith, l)) (omega (arith, m)) (λ k lt. h (suc k) (omega (arith, lt))) i
+  pub take-agreeing : (n : ℕ) (xs ys : List X) → n ≤ length xs → n ≤ length ys → ((k : ℕ) → k < n → get_or xs k d ≡ get_or ys k d) → take n xs ≡ take n ys
+  take-agreeing zero xs ys l m h = refl
+  take-agreeing (suc n) [] ys l m h = absurd (omega (arith, l))
+  take-agreeing (suc n) (x ∷ xs) [] l m h = absurd (omega (arith, m))
+  take-agreeing (suc n) (x ∷ xs) (y ∷ ys) l m h = λ i. h 0 (omega arith) i ∷ take-agreeing n xs ys (omega (arith, l)) (omega (arith, m)) (λ k lt. h (suc k) (omega (arith, lt))) i
 
   all-same : (xs ys : List X) → length xs ≡ length ys → ((k : ℕ) → k < length xs → get_or xs k d ≡ get_or ys k d) → xs ≡ ys
   all-same [] [] l h = refl
   all-same [] (y ∷ ys) l h = absurd (omega (arith, l))
   all-same (x ∷ xs) [] l h = absurd (omega (arith, l))
   all-same (x ∷ xs) (y ∷ ys) l h = λ i. h 0 (omega arith) i ∷ all-same xs ys (omega (arith, l)) (λ k lt. h (suc k) (omega (arith, lt))) i
-
-zip-count : {X Y : Type 0} (xs : List X) (ys : List Y) → length xs ≡ length ys → length (zip xs ys) ≡ length xs
-zip-count [] ys h = refl
-zip-count (x ∷ xs) [] h = absurd (omega (arith, h))
-zip-count (x ∷ xs) (y ∷ ys) h = ap suc (zip-count xs ys (omega (arith, h)))
 
 zip-append : {X Y : Type 0} (xs xs' : List X) (ys ys' : List Y) → length xs ≡ length ys → zip (xs ++ xs') (ys ++ ys') ≡ zip xs ys ++ zip xs' ys'
 zip-append [] xs' [] ys' h = refl
@@ -57,9 +53,6 @@ zip-append (x ∷ xs) xs' (y ∷ ys) ys' h = λ i. (x, y) ∷ zip-append xs xs' 
 
 abbrev kinds : List Row → List ℕ
 kinds rows = map (λ row. row.kind) rows
-
-abbrev seen : List Row × List (List RowPiece) → List RowLook
-seen l = zip (kinds l.0) (map (map look_of) l.1)
 
 seen-append : (p q : List Row) (u v : List (List RowPiece)) → length p ≡ length u → seen (p ++ q, u ++ v) ≡ seen (p, u) ++ seen (q, v)
 seen-append p q u v h =
@@ -92,16 +85,11 @@ texts-seen pieces tab width =
     ap (λ (l : List ℕ). zip l (map (map look_of) rows)) (text-kinds (row_texts_of es width) ∙ ap kinds_of count)
 
 module _ (r : Record) (lawful : IsLawful r) where
-  count-looks : length (looks_by_line r) ≡ length r.marks
-  count-looks =
-      length-map (zip (rows_by_line r) (pieces_by_line r)) seen
-      ∙ zip-count (rows_by_line r) (pieces_by_line r) (length-rows_by_line r lawful.marked ∙ sym (length-by_line r lawful))
-      ∙ length-rows_by_line r lawful.marked
-
   -- the blocks above, the text rows, the blocks below
-  line-seen : (line : ℕ) → line < length r.marks →
-      get_or (looks_by_line r) line [] ≡ block_looks r Above line ++ (text_seen (line_looks r line) ++ block_looks r Below line)
-  line-seen line lt =
+  pub line-parts : (line : ℕ) → line < length r.marks →
+      get_or (looks_by_line r) line [] ≡ block_looks r Above line
+      ++ (seen (text_rows (elements_of (pieces_at r line) r.tab) (mark_at r line).width, pieces_by_row (pieces_at r line) r.tab (mark_at r line).width) ++ block_looks r Below line)
+  line-parts line lt =
       let ps = pieces_at r line in
       let width = (mark_at r line).width in
       let texts = text_rows (elements_of ps r.tab) width in
@@ -115,14 +103,19 @@ module _ (r : Record) (lawful : IsLawful r) where
       whole-line r lawful line lt ∙ ap (λ (l : List (List RowPiece)). block_pieces_at r Above line ++ (l ++ block_pieces_at r Below line)) (line-at r lawful line lt) in
       let in_rows : line < length (rows_by_line r) = omega (arith, lt, length-rows_by_line r lawful.marked) in
       let in_pieces : line < length (pieces_by_line r) = omega (arith, lt, length-by_line r lawful) in
-      let long = zip-count (rows_by_line r) (pieces_by_line r) (length-rows_by_line r lawful.marked ∙ sym (length-by_line r lawful)) in
+      let long = zip-long (rows_by_line r) (pieces_by_line r) (length-rows_by_line r lawful.marked ∙ sym (length-by_line r lawful)) in
       get_or-map seen (zip (rows_by_line r) (pieces_by_line r)) line none [] (omega (arith, in_rows, long))
       ∙ ap seen (get_or-zip (rows_by_line r) (pieces_by_line r) line none in_rows in_pieces)
       ∙ (λ i. seen (rows i, pieces i))
       ∙ seen-append (blocks_at r Above line) (texts ++ blocks_at r Below line) (block_pieces_at r Above line) (own ++ block_pieces_at r Below line) (sym (length-blocks r Above line))
       ∙ ap (λ (l : List RowLook). block_looks r Above line ++ l)
-      (seen-append texts (blocks_at r Below line) own (block_pieces_at r Below line) (length-text_rows (elements_of ps r.tab) width ∙ sym (length-line ps r.tab width))
-      ∙ ap (λ (l : List RowLook). l ++ block_looks r Below line) (texts-seen ps r.tab width))
+      (seen-append texts (blocks_at r Below line) own (block_pieces_at r Below line) (length-text_rows (elements_of ps r.tab) width ∙ sym (length-line ps r.tab width)))
+
+  line-seen : (line : ℕ) → line < length r.marks →
+      get_or (looks_by_line r) line [] ≡ block_looks r Above line ++ (text_seen (line_looks r line) ++ block_looks r Below line)
+  line-seen line lt =
+      line-parts line lt
+      ∙ ap (λ (l : List RowLook). block_looks r Above line ++ (l ++ block_looks r Below line)) (texts-seen (pieces_at r line) r.tab (mark_at r line).width)
 
 -- ---- two records
 
@@ -149,7 +142,7 @@ module _ (r s : Record) (lawful : IsLawful r) (lawful' : IsLawful s) (front befo
         order = omega arith;
         within_old = omega (arith, size, long);
         within_new = omega (arith, size', long');
-        before = take-same [] front (looks_by_line s) (looks_by_line r) (omega (arith, size', long')) (omega (arith, size, long)) (λ k lt. same-above k lt);
+        before = take-agreeing [] front (looks_by_line s) (looks_by_line r) (omega (arith, size', long')) (omega (arith, size, long)) (λ k lt. same-above k lt);
         after = all-same [] (drop (front + after) (looks_by_line s)) (drop (front + before) (looks_by_line r))
             (omega (arith, size, size', long, long', length-drop (front + after) (looks_by_line s), length-drop (front + before) (looks_by_line r)))
             (λ k lt.

@@ -17,11 +17,11 @@ use Rattle.display_sheet.specs.Shown.{unstamped}
 use Rattle.display_sheet.proofs.Sheets.{length-marks_of}
 use Rattle.row_pieces.specs.declared.row_change.RowChange.{RowChange}
 use Rattle.row_pieces.specs.Changed.{IsTrue, RowLook, looks, looks_by_line}
-use Rattle.row_pieces.proofs.LookCounts.{all-rows, rows-to}
+use Rattle.row_pieces.proofs.LookCounts.{all-rows, count-looks, rows-to}
 use Rattle.view_changes.specs.Sizes.{LeadInTurn, LeadsTo}
 use Rattle.view_changes.specs.Operations.{line_pieces}
 use Rattle.view_changes.proofs.Inserted.{around}
-use Rattle.view_changes.proofs.SeenLines.{block_part, count-looks, length-rows, length-seen, length-texts as length-texts-of, line-seen, text_part}
+use Rattle.view_changes.proofs.SeenLines.{block_part, length-rows, length-seen, length-texts as length-texts-of, line-seen, text_part}
 
 pub length-looks : (r : Record) → IsLawful r → length (looks r) ≡ length (rows_of r)
 length-looks r is =

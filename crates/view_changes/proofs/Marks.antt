@@ -12,19 +12,15 @@ use Rattle.display_map.proofs.Stamps.{stamps}
 use Rattle.row_pieces.specs.declared.row_change.RowChange.{RowChange}
 use Rattle.row_pieces.specs.Changed.{IsLanded, IsTrue, change, looks, looks_by_line, rows_of_lines}
 use Rattle.row_pieces.proofs.LandedLooks.{landed-between}
+use Rattle.row_pieces.proofs.LookCounts.{zip-long}
+use Rattle.row_pieces.proofs.TrueLines.{take-agreeing}
 use Rattle.view_changes.specs.Events.{lines_flagged, rewrapped, rows_landed}
 use Rattle.view_changes.specs.inside.Flags.{GoFromFirstToLast}
 use Rattle.view_changes.proofs.Runs.{flagged-go}
 
--- ---- lists that agree from a place on, or up to one
+-- ---- lists that agree from a place on
 
 module _ {X : Type 0} (d : X) where
-  take-same : (n : ℕ) (xs ys : List X) → n ≤ length xs → n ≤ length ys → ((k : ℕ) → k < n → get_or xs k d ≡ get_or ys k d) → take n xs ≡ take n ys
-  take-same zero xs ys l m h = refl
-  take-same (suc n) [] ys l m h = absurd (omega (arith, l))
-  take-same (suc n) (x ∷ xs) [] l m h = absurd (omega (arith, m))
-  take-same (suc n) (x ∷ xs) (y ∷ ys) l m h = λ i. h 0 (omega arith) i ∷ take-same n xs ys (omega (arith, l)) (omega (arith, m)) (λ k lt. h (suc k) (omega (arith, lt))) i
-
   drop-same : (n : ℕ) (xs ys : List X) → length xs ≡ length ys → ((k : ℕ) → n ≤ k → k < length xs → get_or xs k d ≡ get_or ys k d) → drop n xs ≡ drop n ys
   drop-same n [] [] l h = refl
   drop-same n [] (y ∷ ys) l h = absurd (omega (arith, l))
@@ -36,11 +32,6 @@ module _ {X : Type 0} (d : X) where
 
 abbrev pub differs : Mark × Mark → Bool
 differs m = not (m.0.width == m.1.width)
-
-zip-long : (xs ys : List Mark) → length xs ≡ length ys → length (zip xs ys) ≡ length xs
-zip-long [] ys h = refl
-zip-long (x ∷ xs) [] h = absurd (omega (arith, h))
-zip-long (x ∷ xs) (y ∷ ys) h = ap suc (zip-long xs ys (omega (arith, h)))
 
 module _ (r s : Record) (long : length r.marks ≡ length s.marks) where
   pub length-rewrapped : length (rewrapped r s) ≡ length r.marks
@@ -115,7 +106,7 @@ module _ (r : Record) (job : Option SentJob) where
       order = order;
       within = within;
       long = sym as-many;
-      before = take-same (plain_mark 0) lines.from after.marks r.marks (omega (arith, order, within, as-many)) (omega (arith, order, within))
+      before = take-agreeing (plain_mark 0) lines.from after.marks r.marks (omega (arith, order, within, as-many)) (omega (arith, order, within))
           (λ k lt. same-mark k (omega (arith, lt, order, within)) (λ on. omega (arith, lt, (go.within k on).0)));
       after = drop-same (plain_mark 0) lines.to after.marks r.marks (sym as-many)
           (λ k le lt. same-mark k (omega (arith, lt, as-many)) (λ on. omega (arith, le, (go.within k on).1)));

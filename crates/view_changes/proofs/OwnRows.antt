@@ -33,8 +33,8 @@ use Rattle.view_changes.specs.inside.OwnRows.{AreRowsOfBlock}
 use Rattle.view_changes.proofs.BlockSteps.{removed}
 use Rattle.view_changes.proofs.Inserted.{back, comes, front, goes, new-all, old-all, own-are}
 use Rattle.view_changes.proofs.SeenLines.{block_part, length-own, length-rows, length-seen, length-texts, line-seen, text_part}
-use Rattle.view_changes.proofs.Unique.{filter-both, filter-swapped, find-head, is-one, left-out, only-one, others-all}
-use Rattle.view_pieces.proofs.Lists.{kept-at}
+use Rattle.view_changes.proofs.Unique.{filter-swapped, find-head, is-one, left-out, only-one, others-all}
+use Rattle.view_pieces.proofs.Lists.{filter-both, kept-at}
 
 -- ---- a block of a record
 

@@ -10,13 +10,13 @@ use Rattle.row_pieces.specs.declared.row_change.RowChange.{RowChange}
 use Rattle.row_pieces.specs.Changed.{IsTrue, RowLook, change, looks_by_line, no_change, rows_of_lines}
 use Rattle.row_pieces.specs.Laws.{LeavesBlocks}
 use Rattle.row_pieces.specs.Operated.{AreReplaced, AreTouched, lines_between}
+use Rattle.row_pieces.proofs.LookCounts.{count-looks}
 use Rattle.row_pieces.proofs.TouchedLines.{touched-between, touched-each, touched-none}
 use Rattle.row_pieces.proofs.TrueChanges.{true-lines}
 use Rattle.view_changes.specs.Operations.{rows_replaced, rows_touched}
 use Rattle.view_changes.specs.inside.Reaches.{IsAfter, TouchesRows, all_rows}
 use Rattle.view_changes.proofs.Flags.{lines-are}
 use Rattle.view_changes.proofs.Lengths.{length-unstamped}
-use Rattle.view_changes.proofs.SeenLines.{count-looks}
 use Rattle.view_changes.proofs.Stamps.{looks-unstamped}
 
 by-touched : (operation : Operation) (r : Record) (lines : RowChange) → LeavesBlocks operation → AreTouched operation r lines → AreReplaced operation r lines

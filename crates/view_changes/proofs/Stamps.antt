@@ -30,29 +30,16 @@ use Rattle.row_pieces.specs.Changed.{RowLook, change, look_of, looks, looks_by_l
 use Rattle.row_pieces.specs.Laws.{pieces_at}
 use Rattle.row_pieces.specs.Pieces.{block_pieces_at, pieces_by_line, pieces_by_row}
 use Rattle.row_pieces.proofs.OperatedLooks.{step-is}
+use Rattle.view_pieces.proofs.Stamps.{by_line-unstamped}
 use Rattle.view_changes.specs.Events.{lines_flagged, rewrapped, rows_landed}
 use Rattle.view_changes.specs.Operations.{at_line, first_row_of, lines_replaced, rows_in, rows_of_old, rows_replaced, rows_touched, side_start}
 
 -- ---- looks
 
-zipped-widths : (tab : ℕ) (lines : List (List Piece)) (marks : List Mark) →
-    map (λ l. pieces_by_row l.0 tab l.1.width) (zip lines marks) ≡ map (λ l. pieces_by_row l.0 tab l.1) (zip lines (widths marks))
-zipped-widths tab [] marks = refl
-zipped-widths tab (l ∷ ls) [] = refl
-zipped-widths tab (l ∷ ls) (m ∷ ms) = ap (λ (rows : List (List (List RowPiece))). pieces_by_row l tab m.width ∷ rows) (zipped-widths tab ls ms)
-
-pieces-unstamped : (r : Record) → pieces_by_line (unstamped r) ≡ pieces_by_line r
-pieces-unstamped r =
-    let lines = folded_lines r.text r.inlays r.folds in
-    ap (λ (ls : List (List (List RowPiece))). map (λ n. block_pieces_at r Above n.0 ++ (n.1 ++ block_pieces_at r Below n.0)) (enumerate_from 0 ls))
-    (zipped-widths r.tab lines (unstamped r).marks
-    ∙ ap (λ (ws : List ℕ). map (λ l. pieces_by_row l.0 r.tab l.1) (zip lines ws)) (widths-marks_of (widths r.marks))
-    ∙ sym (zipped-widths r.tab lines r.marks))
-
 pub looks-unstamped : (r : Record) → looks_by_line (unstamped r) ≡ looks_by_line r
 looks-unstamped r =
     λ i. map (λ l. zip (map (λ row. row.kind) l.0) (map (map look_of) l.1))
-    (zip (rows_by_line-other r (marks_of (widths r.marks)) (length r.marks) (widths-marks_of (widths r.marks)) i) (pieces-unstamped r i))
+    (zip (rows_by_line-other r (marks_of (widths r.marks)) (length r.marks) (widths-marks_of (widths r.marks)) i) (by_line-unstamped r i))
 
 pub all-unstamped : (r : Record) → looks (unstamped r) ≡ looks r
 all-unstamped r = ap (λ (lines : List (List RowLook)). flat_map (λ rows. rows) lines) (looks-unstamped r)

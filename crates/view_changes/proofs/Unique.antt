@@ -6,19 +6,9 @@ use Rattle.std.proofs.lemmas.List.{nil_from_length}
 use Rattle.std.proofs.lemmas.List.Elements.{filter-append}
 use Rattle.std.proofs.lemmas.Option.{none-some}
 use Rattle.cell_units.specs.Sorting.{insert_by}
+use Rattle.view_pieces.proofs.Lists.{filter-both}
 
 module _ {X : Type 0} where
-  -- two tests in turn
-  pub filter-both : (p q : X → Bool) (xs : List X) → filter (λ x. p x && q x) xs ≡ filter q (filter p xs)
-  filter-both p q [] = refl
-  filter-both p q (x ∷ xs) = go (p x) (filter-both p q xs) where
-    both : List X
-    both = filter (λ x. p x && q x) xs
-
-    go : (a : Bool) → both ≡ filter q (filter p xs) → cond (a && q x) (x ∷ both) both ≡ filter q (cond a (x ∷ filter p xs) (filter p xs))
-    go true h = λ i. cond (q x) (x ∷ h i) (h i)
-    go false h = h
-
   both-swapped : (p q : X → Bool) (xs : List X) → filter (λ x. p x && q x) xs ≡ filter (λ x. q x && p x) xs
   both-swapped p q [] = refl
   both-swapped p q (x ∷ xs) = λ i. cond (swapped (p x) (q x) i) (x ∷ both-swapped p q xs i) (both-swapped p q xs i) where

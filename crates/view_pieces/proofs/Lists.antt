@@ -1,5 +1,5 @@
 -- Elements of lists that are joined or filtered, by their numbers.
-use Rattle.std.proofs.Common.{◌≡◌, ℕ, ◌+◌, ◌-◌, ◌<◌, ◌≤◌, zero, suc, Bool, true, false, cond, List, [], ◌∷◌, ◌++◌, length, take, drop, filter, flat_map, get_or, refl, sym, ap, subst, ◌∙◌, arith, length-append}
+use Rattle.std.proofs.Common.{◌≡◌, ℕ, ◌+◌, ◌-◌, ◌<◌, ◌≤◌, ◌&&◌, zero, suc, Bool, true, false, cond, List, [], ◌∷◌, ◌++◌, length, take, drop, filter, flat_map, get_or, refl, sym, ap, subst, ◌∙◌, arith, length-append}
 use Rattle.std.specs.Prelude.{Some, slice_get}
 use Rattle.std.proofs.lemmas.Option.{none-some, same_Some}
 
@@ -41,6 +41,17 @@ module _ {X : Type 0} where
       ap (slice_get (l ++ flat_map (λ l. l) ls)) e
       ∙ append-right l (flat_map (λ l. l) ls) (length before + k)
       ∙ flat-at ls n k (omega (arith, lt)) within
+
+  -- two tests in turn
+  pub filter-both : (p q : X → Bool) (xs : List X) → filter (λ x. p x && q x) xs ≡ filter q (filter p xs)
+  filter-both p q [] = refl
+  filter-both p q (x ∷ xs) = go (p x) (filter-both p q xs) where
+    both : List X
+    both = filter (λ x. p x && q x) xs
+
+    go : (a : Bool) → both ≡ filter q (filter p xs) → cond (a && q x) (x ∷ both) both ≡ filter q (cond a (x ∷ filter p xs) (filter p xs))
+    go true h = λ i. cond (q x) (x ∷ h i) (h i)
+    go false h = h
 
 module _ {X : Type 0} (p : X → Bool) where
   -- what is kept is one of the list, and passes

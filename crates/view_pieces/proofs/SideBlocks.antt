@@ -18,7 +18,7 @@ use Rattle.map_sheet.proofs.ListedBlocks.{length-on}
 use Rattle.row_pieces.specs.declared.row_piece.RowPiece.{RowPiece}
 use Rattle.row_pieces.specs.Pieces.{block_piece, block_pieces_at, pieces_of_block}
 use Rattle.view_pieces.specs.inside.Blocks.{AreBefore, IsLineOf, comes_before, lines_there}
-use Rattle.view_pieces.proofs.Lists.{append-left, append-past, drop-at, kept-at, kept-pairs, none-kept}
+use Rattle.view_pieces.proofs.Lists.{append-left, append-past, drop-at, filter-both, kept-at, kept-pairs, none-kept}
 
 own-side : (side other : Side) → is_on side other ≡ true → other ≡ side
 own-side Above Above e = refl
@@ -43,16 +43,6 @@ at_line r line b = eqb (line_of_block r b) line
 -- the rows of those at a line, from a block of one number on
 abbrev pub rows_from : Record → Side → ℕ → ℕ → List (List RowPiece)
 rows_from r side line n = flat_map (pieces_of_block r.tab) (filter (at_line r line) (drop n (side_blocks r side)))
-
-filter-both : {X : Type 0} (p q : X → Bool) (xs : List X) → filter (λ x. p x && q x) xs ≡ filter q (filter p xs)
-filter-both p q [] = refl
-filter-both {X = X} p q (x ∷ xs) = go (p x) (filter-both p q xs) where
-  both : List X
-  both = filter (λ x. p x && q x) xs
-
-  go : (a : Bool) → both ≡ filter q (filter p xs) → cond (a && q x) (x ∷ both) both ≡ filter q (cond a (x ∷ filter p xs) (filter p xs))
-  go true h = λ i. cond (q x) (x ∷ h i) (h i)
-  go false h = h
 
 -- those before a line are none of those at it
 skipped : (r : Record) (line : ℕ) (bs : List Block) (n : ℕ) → ((k : ℕ) → k < n → comes_before r line (slice_get bs k) ≡ true) → filter (at_line r line) bs ≡ filter (at_line r line) (drop n bs)
