@@ -15,7 +15,8 @@ use Rattle.cell_units.proofs.TouchedRuns.{count-cons}
 use Rattle.plain_rows.specs.Rows.{is_on, line_of_block}
 use Rattle.plain_rows.specs.inside.BuiltRows.{no_block}
 use Rattle.map_sheet.specs.Listed.{side_blocks}
-use Rattle.view_pieces.specs.inside.Blocks.{comes_before, lines_there}
+use Rattle.view_pieces.specs.Blocks.{lines_there}
+use Rattle.view_pieces.specs.inside.Blocks.{comes_before}
 use Rattle.view_pieces.proofs.Lists.{none-kept}
 use Rattle.view_pieces.proofs.SideBlocks.{block-lawful, lower-before}
 use Rattle.view_changes.specs.Operations.{at_line, rows_in}

@@ -1,5 +1,5 @@
 -- Marks that a landing leaves: where no width is another, they are the same.
-use Rattle.std.proofs.Common.{◌≡◌, ℕ, ◌-◌, ◌<◌, ◌≤◌, ◌==◌, not, zero, suc, cond, Bool, true, false, List, [], ◌∷◌, length, map, take, drop, get_or, zip, refl, sym, ap, subst, ◌∙◌, inl, inr, arith}
+use Rattle.std.proofs.Common.{◌≡◌, ℕ, ◌-◌, ◌<◌, ◌≤◌, ◌==◌, not, zero, suc, cond, Bool, true, false, List, [], ◌∷◌, length, map, drop, get_or, zip, refl, sym, ap, subst, ◌∙◌, inl, inr, arith}
 use Rattle.std.specs.Prelude.{Option, Some, None}
 use Rattle.std.proofs.lemmas.Bool.{cases_lt, eq-eqb, eqb-true, false≢true, not-false}
 use Rattle.std.proofs.lemmas.List.{get_or-map, length-map}

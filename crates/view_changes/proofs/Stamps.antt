@@ -1,16 +1,14 @@
 -- What is replaced doesn't depend on stamps.
-use Rattle.std.proofs.Common.{◌≡◌, ℕ, ◌+◌, ◌==◌, not, cond, Bool, List, [], ◌∷◌, ◌++◌, find, get_or, length, map, flat_map, take, zip, refl, sym, ap, ◌∙◌}
+use Rattle.std.proofs.Common.{◌≡◌, ℕ, ◌+◌, ◌==◌, not, cond, Bool, List, [], ◌∷◌, find, get_or, length, map, flat_map, take, zip, refl, sym, ap, ◌∙◌}
 use Rattle.std.specs.Prelude.{Option, Some, None}
-use Rattle.std.specs.List.{before_first, count_by, enumerate_from, list_any, prefix_len}
+use Rattle.std.specs.List.{before_first, count_by, list_any, prefix_len}
 use Rattle.std.proofs.Math.ListN.{get_or-map}
 use Rattle.std.proofs.lemmas.List.{length-map}
-use Rattle.cell_units.specs.declared.piece.Piece.{Piece}
 use Rattle.cell_units.specs.declared.place.Side.{Side}
 use Rattle.cell_units.specs.declared.place.Side.TheVariants.{Above, Below}
 use Rattle.cell_units.specs.Lawful.{IsAllowed, IsLawful}
 use Rattle.cell_units.specs.LineCounts.{TouchesOneRun}
 use Rattle.cell_units.specs.Operation.{AddBlock, AddFold, AddInlay, Operation, RemoveBlock, RemoveFold, RemoveInlay, Replace, SetTab, SetWidth, block_at_row, operated}
-use Rattle.cell_units.specs.Pieces.{folded_lines}
 use Rattle.cell_units.specs.Record.{Block, Mark, Record, plain_mark}
 use Rattle.cell_units.specs.Touched.{EachLine, NoLine, Rows, Touched, touched, touched_after, touched_before}
 use Rattle.cell_units.proofs.OperatedLines.{keeps_lines}
@@ -25,10 +23,9 @@ use Rattle.display_sheet.proofs.Sheets.{operated-other, touched-other, widths, w
 use Rattle.display_sheet.proofs.Unstamped.{rows_by_line-other}
 use Rattle.map_sheet.specs.Listed.{side_blocks}
 use Rattle.row_pieces.specs.declared.row_change.RowChange.{RowChange}
-use Rattle.row_pieces.specs.declared.row_piece.RowPiece.{RowPiece}
 use Rattle.row_pieces.specs.Changed.{RowLook, change, look_of, looks, looks_by_line, no_change, rows_of_lines, rows_to}
 use Rattle.row_pieces.specs.Laws.{pieces_at}
-use Rattle.row_pieces.specs.Pieces.{block_pieces_at, pieces_by_line, pieces_by_row}
+use Rattle.row_pieces.specs.Pieces.{pieces_by_row}
 use Rattle.row_pieces.proofs.OperatedLooks.{step-is}
 use Rattle.view_pieces.proofs.Stamps.{by_line-unstamped}
 use Rattle.view_changes.specs.Events.{lines_flagged, rewrapped, rows_landed}

@@ -2,48 +2,18 @@
 ghost use Rattle.std.specs.Prelude.{◌≡◌, ◌+◌, ◌^◌, ◌<◌, ◌≤◌, length, slice_get, take, IfSome};
 ghost use Rattle.cell_units.specs.declared.place.Side.TheVariants.{Below};
 ghost use Rattle.cell_units.specs.Record.{Block};
-ghost use Rattle.cell_units.specs.Text.{IsBoundary};
 ghost use Rattle.plain_rows.specs.Rows.{line_of_block};
 ghost use Rattle.map_sheet.specs.Listed.{side_blocks};
-ghost use Rattle.view_pieces.specs.inside.Blocks.{lines_there};
-ghost use Rattle.view_changes.specs.Operations.{at_line, line_pieces, rows_in, side_start};
+ghost use Rattle.view_changes.specs.Operations.{at_line, rows_in, side_start};
 ghost use Rattle.view_changes.specs.inside.OwnRows.{AreOwnRows, AreRowsOn};
 
 use crate::finding::block_number;
 use crate::lines::rows_to;
-use cell_units::{Bias, Layer, Rows, Side, Steps};
+use cell_units::{Side, Steps};
 use kept_sheet::Sheet;
 use map_sheet::MapSheet;
 use plain_rows::SpotRows;
-
-/// The display line of a block on a side, which has this offset in bytes.
-fn block_line(sheet: &MapSheet, side: Side, offset: u32, steps: &mut Steps) -> u32
-    requires { IsBoundary sheet.now.text offset }
-    ensures line { (b : Block) → b.side ≡ side → b.offset ≡ offset →
-        result ≡ line_of_block sheet.now b }
-    ensures within { result < length sheet.now.marks }
-    ensures counted { steps.old ≤ steps.new }
-{
-    // For the proof: the record is lawful.
-    sheet.lawful();
-    let layer = sheet.text().layer();
-    let (start, end) = layer.row_ends(offset);
-    match side {
-        Side::Above => sheet.place(start, Bias::Left, steps).0,
-        Side::Below => sheet.place(end, Bias::Right, steps).0,
-    }
-}
-
-/// How many text rows a line has.
-fn text_rows(sheet: &MapSheet, line: u32) -> u32
-    requires { line < length sheet.now.marks }
-    ensures { result ≡ length (line_pieces sheet.now line) }
-{
-    // For the proof: the record is lawful.
-    sheet.lawful();
-    let rows = sheet.wrapped().rows();
-    rows.rows_of(line)
-}
+use view_pieces::{block_line, lines_there, text_rows};
 
 /// The row at which the blocks below a line begin.
 fn start_below(sheet: &MapSheet, line: u32, steps: &mut Steps) -> u32
@@ -66,30 +36,6 @@ fn side_start(sheet: &MapSheet, side: Side, line: u32, steps: &mut Steps) -> u32
     match side {
         Side::Above => rows_to(sheet, line, steps),
         Side::Below => start_below(sheet, line, steps),
-    }
-}
-
-/// How many lines the block of this number among those of a side has, if it lies at this line.
-fn lines_there(
-    sheet: &MapSheet,
-    side: Side,
-    number: u32,
-    line: u32,
-    steps: &mut Steps,
-) -> Option<u32>
-    ensures there { result
-        ≡ lines_there sheet.now line (slice_get (side_blocks sheet.now side) number) }
-    ensures counted { steps.old ≤ steps.new }
-{
-    // For the proof: the record is lawful.
-    sheet.lawful();
-    let Some((offset, _id, lines)) = sheet.blocked().block(side, number, steps) else {
-        return None;
-    };
-    if block_line(sheet, side, offset, steps) == line {
-        Some(lines.len() as u32)
-    } else {
-        None
     }
 }
 

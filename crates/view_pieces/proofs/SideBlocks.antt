@@ -1,5 +1,5 @@
 -- The blocks of one side in order: their lines don't fall, and the rows of those at one line.
-use Rattle.std.proofs.Common.{◌≡◌, ℕ, ◌+◌, ◌-◌, ◌<◌, ◌≤◌, ◌&&◌, zero, suc, Bool, true, false, cond, eqb, eq-eqb, ne_eqb, lt-ltb, ltb-true, ltb-false, List, [], ◌∷◌, ◌++◌, length, drop, drop-cons, filter, flat_map, get_or, refl, sym, ap, subst, ◌∙◌, inl, inr, arith}
+use Rattle.std.proofs.Common.{◌≡◌, ℕ, ◌+◌, ◌-◌, ◌<◌, ◌≤◌, zero, suc, Bool, true, false, cond, eqb, eq-eqb, ne_eqb, lt-ltb, ltb-true, ltb-false, List, [], ◌∷◌, ◌++◌, length, drop, drop-cons, filter, flat_map, get_or, refl, sym, ap, subst, ◌∙◌, inl, inr, arith}
 use Rattle.std.specs.Prelude.{None, Option, Some, option_map, slice_get}
 use Rattle.std.proofs.lemmas.Bool.{cases_lt, false≢true}
 use Rattle.std.proofs.lemmas.List.{drop_all, length-map}
@@ -17,7 +17,8 @@ use Rattle.map_sheet.specs.Listed.{side_blocks}
 use Rattle.map_sheet.proofs.ListedBlocks.{length-on}
 use Rattle.row_pieces.specs.declared.row_piece.RowPiece.{RowPiece}
 use Rattle.row_pieces.specs.Pieces.{block_piece, block_pieces_at, pieces_of_block}
-use Rattle.view_pieces.specs.inside.Blocks.{AreBefore, IsLineOf, comes_before, lines_there}
+use Rattle.view_pieces.specs.Blocks.{lines_there}
+use Rattle.view_pieces.specs.inside.Blocks.{AreBefore, IsLineOf, comes_before}
 use Rattle.view_pieces.proofs.Lists.{append-left, append-past, drop-at, filter-both, kept-at, kept-pairs, none-kept}
 
 own-side : (side other : Side) → is_on side other ≡ true → other ≡ side

@@ -1,12 +1,13 @@
 //! The rows of the blocks at a display line.
-ghost use Rattle.std.specs.Prelude.{◌≡◌, ◌≤◌, length, slice_get, IfOk};
+ghost use Rattle.std.specs.Prelude.{◌≡◌, ◌<◌, ◌≤◌, length, slice_get, IfOk};
 ghost use Rattle.cell_units.specs.Record.{Block};
 ghost use Rattle.cell_units.specs.Text.{IsBoundary};
 ghost use Rattle.plain_rows.specs.Rows.{line_of_block};
 ghost use Rattle.map_sheet.specs.Listed.{side_blocks};
 ghost use Rattle.row_pieces.specs.Listed.{listed};
 ghost use Rattle.row_pieces.specs.Pieces.{block_pieces_at};
-ghost use Rattle.view_pieces.specs.inside.Blocks.{AreBefore, IsFound, comes_before, lines_there};
+ghost use Rattle.view_pieces.specs.Blocks.{lines_there};
+ghost use Rattle.view_pieces.specs.inside.Blocks.{AreBefore, IsFound, comes_before};
 
 use cell_units::{Bias, Layer, NoMemory, Side, Steps};
 use map_sheet::MapSheet;
@@ -15,12 +16,14 @@ use row_pieces::{RowPiece, block_line_piece};
 use std::alloc::Global;
 
 /// The display line of a block on a side, which has this offset in bytes.
-fn block_line(sheet: &MapSheet, side: Side, offset: u32, steps: &mut Steps) -> u32
+pub fn block_line(sheet: &MapSheet, side: Side, offset: u32, steps: &mut Steps) -> u32
     requires { IsBoundary sheet.now.text offset }
     ensures line { (b : Block) → b.side ≡ side → b.offset ≡ offset →
         result ≡ line_of_block sheet.now b }
+    ensures within { result < length sheet.now.marks }
     ensures counted { steps.old ≤ steps.new }
 {
+    // For the proof: the record is lawful.
     sheet.lawful();
     let layer = sheet.text().layer();
     let (start, end) = layer.row_ends(offset);
@@ -44,23 +47,24 @@ fn comes_before(sheet: &MapSheet, side: Side, number: u32, line: u32, steps: &mu
 }
 
 /// How many lines the block of this number among those of a side has, if it lies at this line.
-fn lines_there(
+pub fn lines_there(
     sheet: &MapSheet,
     side: Side,
     number: u32,
     line: u32,
     steps: &mut Steps,
-) -> Option<usize>
+) -> Option<u32>
     ensures there { result
         ≡ lines_there sheet.now line (slice_get (side_blocks sheet.now side) number) }
     ensures counted { steps.old ≤ steps.new }
 {
+    // For the proof: the record is lawful.
     sheet.lawful();
     let Some((offset, _id, lines)) = sheet.blocked().block(side, number, steps) else {
         return None;
     };
     if block_line(sheet, side, offset, steps) == line {
-        Some(lines.len())
+        Some(lines.len() as u32)
     } else {
         None
     }
@@ -99,13 +103,13 @@ fn block_at_row(
 {
     sheet.lawful();
     let first = blocks_before(sheet, side, line, steps);
-    let mut left = at as usize;
+    let mut left = at;
     for number in first..sheet.blocked().len() {
         let Some(count) = lines_there(sheet, side, number, line, steps) else {
             return None;
         };
         if left < count {
-            return Some((number, left));
+            return Some((number, left as usize));
         }
         left -= count;
     }

@@ -1,8 +1,10 @@
 //! Where a row lies: at which display line, and in which part of it.
 ghost use Rattle.std.specs.Prelude.{◌≡◌, ◌<◌, ◌≤◌, length};
 ghost use Rattle.plain_rows.specs.Rows.{rows_of};
-ghost use Rattle.view_pieces.specs.declared.landing.Part.TheVariants.{Text};
-ghost use Rattle.view_pieces.specs.inside.Landing.{HoldsRow, LandsOn, pieces_of_part};
+ghost use Rattle.plain_rows.specs.Spots.{mark_at};
+ghost use Rattle.row_pieces.specs.Laws.{pieces_at};
+ghost use Rattle.row_pieces.specs.Pieces.{pieces_by_row};
+ghost use Rattle.view_pieces.specs.inside.Landing.{HoldsRow, LandsOn};
 
 use blocked_rows::blocked_laws;
 use cell_units::{Rows, Side, Steps};
@@ -45,10 +47,12 @@ fn line_of(sheet: &MapSheet, row: u32, steps: &mut Steps) -> u32
 }
 
 /// How many text rows a line has.
-fn text_rows(sheet: &MapSheet, line: u32) -> u32
+pub fn text_rows(sheet: &MapSheet, line: u32) -> u32
     requires { line < length sheet.now.marks }
-    ensures { result ≡ length (pieces_of_part sheet.now line Text) }
+    ensures { result ≡ length
+        (pieces_by_row (pieces_at sheet.now line) sheet.now.tab (mark_at sheet.now line).width) }
 {
+    // For the proof: the record is lawful.
     sheet.lawful();
     let rows = sheet.wrapped().rows();
     rows.rows_of(line)

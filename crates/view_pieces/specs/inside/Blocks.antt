@@ -1,5 +1,5 @@
 -- The blocks of one side in order, and the rows of those at a display line.
-use Rattle.std.specs.Prelude.{ℕ, ◌≡◌, ◌<◌, ◌≤◌, ◌==◌, nat_lt, Bool, true, false, if◌then◌else◌, [], ◌∷◌, length, slice_get, slice_index_or, Option, Some, None}
+use Rattle.std.specs.Prelude.{ℕ, ◌≡◌, ◌<◌, ◌≤◌, nat_lt, Bool, true, false, [], ◌∷◌, length, slice_get, slice_index_or, Option, Some, None}
 use Rattle.cell_units.specs.declared.place.Side.{Side}
 use Rattle.cell_units.specs.Record.{Block, Record}
 use Rattle.plain_rows.specs.Rows.{line_of_block}
@@ -17,12 +17,6 @@ pub record AreBefore (r : Record) (side : Side) (line count : ℕ) : Type 0 wher
       (k : ℕ) → k < count → comes_before r line (slice_get (side_blocks r side) k) ≡ true
   pub others :
       (k : ℕ) → count ≤ k → comes_before r line (slice_get (side_blocks r side) k) ≡ false
-
--- how many lines a block has, if there is one and it lies at this line
-abbrev pub lines_there : Record → ℕ → Option Block → Option ℕ
-lines_there r line None = None
-lines_there r line (Some b) =
-    if line_of_block r b == line then Some (length b.lines) else None
 
 -- of the rows of the blocks on a side of a line the one of this number is this line of the side's block of that number
 pub record IsLineOf (r : Record) (side : Side) (line at number k : ℕ) : Type 0 where

@@ -1,11 +1,11 @@
 -- How many lines the block of a number has, if it is at the line.
-use Rattle.std.proofs.Common.{◌≡◌, cond, eq-eqb, ne_eqb, length, refl, sym, ap, ◌∙◌}
+use Rattle.std.proofs.Common.{◌≡◌, cond, eq-eqb, ne_eqb, length, refl, sym, ap, ◌∙◌, arith}
 use Rattle.std.specs.Prelude.{None, Some}
 use Rattle.cell_units.specs.Worked.{block}
 use Rattle.plain_rows.specs.Rows.{line_of_block}
 use Rattle.map_sheet.proofs.ListedBlocks.{gone, here}
 use Rattle.map_sheet.proofs.Sent.{sheet_sent}
-use Rattle.view_pieces.specs.inside.Blocks.{lines_there}
+use Rattle.view_pieces.specs.Blocks.{lines_there}
 use Rattle.view_pieces.proofs.SideBlocks.{block-lawful}
 use Rattle.view_pieces.proofs.block_rows.lines_there.Goals as goal
 
@@ -44,3 +44,10 @@ block-requires-send-R c κs = search sheet_sent depth 12 fits 4000
 
 pub block-requires-sync-R : goal.block-requires-sync-R
 block-requires-sync-R c κs = search sheet_sent depth 12 fits 4000
+
+pub overflow_cast-result : goal.overflow_cast-result
+overflow_cast-result c =
+    let r = c.args.sheet.now in
+    let there = here r c.blocked.result.now c.blocked.ensures c.args.side c.args.number c.in-Some.offset c.in-Some._id c.in-Some.lines.now c.in-Some.ensures.block in
+    let own = block-lawful r c.lawful.ensures.lawful c.args.side c.args.number (block c.in-Some.offset c.in-Some._id c.args.side c.in-Some.lines.now) there in
+    omega (arith, own.0.lines.few)
