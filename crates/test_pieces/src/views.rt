@@ -1,9 +1,10 @@
 //! The pieces of rows of a view.
-use crate::displays::{assert_no_row, assert_row, lines, view_of};
+use crate::displays::{assert_no_row, assert_row};
 use cell_units::{Bias, Side, Text};
 use display_map::Op;
 use row_pieces::RowPieceKind;
 use std::test::Fail;
+use test_displays::{lines, view_of};
 
 /// A tab, an inlay between letters, and a fold of three letters are each a piece.
 #[test]
@@ -21,7 +22,7 @@ fn a_tab_an_inlay_and_a_fold_are_pieces(rt: HostRuntime) -> Result<(), Fail> {
         start: 4,
         end: 7,
     })?;
-    let view = view_of(&rt, alloc, "\tab cdef", ops)?;
+    let view = view_of(alloc, "\tab cdef", ops)?;
     let wanted = [
         (RowPieceKind::Tab, "    ", 4, (0, 1)),
         (RowPieceKind::Text, "ab", 2, (1, 3)),
@@ -54,7 +55,7 @@ fn a_row_of_a_block_is_one_piece(rt: HostRuntime) -> Result<(), Fail> {
             lines: lines(alloc, texts)?,
         })?;
     }
-    let view = view_of(&rt, alloc, "a\nb", ops)?;
+    let view = view_of(alloc, "a\nb", ops)?;
     let wanted = [
         (RowPieceKind::Text, "a", 1, (0, 1)),
         (RowPieceKind::Block(6), "u", 1, (0, 0)),
@@ -83,7 +84,7 @@ fn a_row_that_goes_on_begins_with_its_indent(rt: HostRuntime) -> Result<(), Fail
         row: 0,
         lines: lines(alloc, &["note"])?,
     })?;
-    let view = view_of(&rt, alloc, "  aaa bbb", ops)?;
+    let view = view_of(alloc, "  aaa bbb", ops)?;
     let first = [(RowPieceKind::Text, "  aaa ", 6, (0, 6))];
     assert_row(&rt, alloc, &view, 0, &first)?;
     let second = [
