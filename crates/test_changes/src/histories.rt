@@ -25,7 +25,7 @@ fn change_once(
     let view = display.view()?;
     let before = looks(alloc, &view)?;
     let asked = drawn(alloc, &view, generator)?;
-    match change(rt, alloc, display, &asked) {
+    match change(alloc, display, &asked) {
         Ok(rows) => {
             let after = looks(alloc, &display.view()?)?;
             assert_true(rt, before.as_slice(), after.as_slice(), rows);
@@ -39,7 +39,7 @@ fn change_once(
 /// Wraps the lines that wait.
 fn wrap_once(rt: &impl Abort, alloc: Global, display: &mut Display) -> Result<(), Fail> {
     let before = looks(alloc, &display.view()?)?;
-    if let Some(rows) = wrap(rt, alloc, display)? {
+    if let Some(rows) = wrap(alloc, display)? {
         let after = looks(alloc, &display.view()?)?;
         assert_true(rt, before.as_slice(), after.as_slice(), rows);
     }
@@ -48,7 +48,7 @@ fn wrap_once(rt: &impl Abort, alloc: Global, display: &mut Display) -> Result<()
 
 /// Plays a history, and returns how many changes were done.
 fn played(rt: &impl Abort, alloc: Global, seed: u64) -> Result<u32, Fail> {
-    let mut display = opened(rt, alloc, TEXT)?;
+    let mut display = opened(alloc, TEXT)?;
     let mut generator = Generator::new(seed);
     let mut done = 0u32;
     for _ in 0..CHANGES {
