@@ -1,15 +1,16 @@
 //! Where motions lead.
-use crate::displays::{assert_moves, block, inlay, view_of};
+use crate::displays::{assert_moves, block, inlay};
 use cell_units::{Motion, NoMemory, Side};
 use display_map::Op;
 use std::alloc::Global;
 use std::test::Fail;
+use test_displays::view_of;
 
 #[test]
 fn a_caret_walks_over_two_rows_of_a_line(rt: HostRuntime) -> Result<(), Fail> {
     let alloc = rt.alloc();
     let ops = vec![in alloc; Op::Width { cells: 5 }]?;
-    let view = view_of(&rt, alloc, "hello world", ops)?;
+    let view = view_of(alloc, "hello world", ops)?;
     let moves = [
         ((0, 4, 4), Motion::Down, (1, 4, 4)),
         ((0, 5, 5), Motion::Right, (1, 0, 0)),
@@ -24,7 +25,7 @@ fn a_caret_walks_over_two_rows_of_a_line(rt: HostRuntime) -> Result<(), Fail> {
 fn a_caret_leaps_over_an_inlay(rt: HostRuntime) -> Result<(), Fail> {
     let alloc = rt.alloc();
     let ops = vec![in alloc; inlay(alloc, 5, ": i32")?]?;
-    let view = view_of(&rt, alloc, "let x = 1", ops)?;
+    let view = view_of(alloc, "let x = 1", ops)?;
     let moves = [
         ((0, 5, 5), Motion::Right, (0, 10, 10)),
         ((0, 10, 10), Motion::Left, (0, 5, 5)),
@@ -40,7 +41,7 @@ fn a_caret_leaps_over_an_inlay(rt: HostRuntime) -> Result<(), Fail> {
 fn a_caret_walks_over_clusters(rt: HostRuntime) -> Result<(), Fail> {
     let alloc = rt.alloc();
     let text = "\t\u{6f22}\u{1f1e9}\u{1f1ea}e\u{301}z";
-    let view = view_of(&rt, alloc, text, Vec::new(alloc))?;
+    let view = view_of(alloc, text, Vec::new(alloc))?;
     let moves = [
         ((0, 0, 0), Motion::Right, (0, 4, 4)),
         ((0, 4, 4), Motion::Right, (0, 6, 6)),
@@ -67,7 +68,7 @@ fn a_caret_walks_over_clusters(rt: HostRuntime) -> Result<(), Fail> {
 #[test]
 fn a_caret_stays_within_the_text(rt: HostRuntime) -> Result<(), Fail> {
     let alloc = rt.alloc();
-    let view = view_of(&rt, alloc, "ab\ncde", Vec::new(alloc))?;
+    let view = view_of(alloc, "ab\ncde", Vec::new(alloc))?;
     let moves = [
         ((0, 0, 0), Motion::Left, (0, 0, 0)),
         ((0, 1, 1), Motion::Up, (0, 0, 1)),
@@ -85,7 +86,7 @@ fn a_caret_stays_within_the_text(rt: HostRuntime) -> Result<(), Fail> {
 #[test]
 fn a_caret_has_one_spot_in_an_empty_text(rt: HostRuntime) -> Result<(), Fail> {
     let alloc = rt.alloc();
-    let view = view_of(&rt, alloc, "", Vec::new(alloc))?;
+    let view = view_of(alloc, "", Vec::new(alloc))?;
     let moves = [
         ((0, 0, 7), Motion::Left, (0, 0, 0)),
         ((0, 0, 7), Motion::Right, (0, 0, 0)),
@@ -110,7 +111,7 @@ pub(crate) fn blocks(alloc: Global) -> Result<Vec<Op>, NoMemory> {
 #[test]
 fn a_caret_passes_blocks(rt: HostRuntime) -> Result<(), Fail> {
     let alloc = rt.alloc();
-    let view = view_of(&rt, alloc, "ab\ncd", blocks(alloc)?)?;
+    let view = view_of(alloc, "ab\ncd", blocks(alloc)?)?;
     let moves = [
         ((2, 1, 1), Motion::Down, (4, 1, 1)),
         ((4, 1, 1), Motion::Up, (2, 1, 1)),
@@ -133,7 +134,7 @@ fn a_caret_passes_blocks(rt: HostRuntime) -> Result<(), Fail> {
 fn a_caret_starts_after_an_indent(rt: HostRuntime) -> Result<(), Fail> {
     let alloc = rt.alloc();
     let ops = vec![in alloc; Op::Width { cells: 10 }]?;
-    let view = view_of(&rt, alloc, "\tfoo bar baz", ops)?;
+    let view = view_of(alloc, "\tfoo bar baz", ops)?;
     let moves = [
         ((1, 6, 6), Motion::Start, (1, 4, 4)),
         ((0, 0, 0), Motion::Down, (1, 4, 0)),
@@ -150,7 +151,7 @@ fn a_caret_starts_after_an_indent(rt: HostRuntime) -> Result<(), Fail> {
 fn a_caret_passes_a_row_of_an_inlay(rt: HostRuntime) -> Result<(), Fail> {
     let alloc = rt.alloc();
     let ops = vec![in alloc; inlay(alloc, 1, "x\ny\nz")?]?;
-    let view = view_of(&rt, alloc, "ab", ops)?;
+    let view = view_of(alloc, "ab", ops)?;
     let moves = [
         ((0, 0, 0), Motion::Down, (2, 1, 0)),
         ((2, 2, 9), Motion::Up, (0, 1, 9)),

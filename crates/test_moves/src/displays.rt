@@ -1,94 +1,16 @@
-//! Displays whose lines are all wrapped, and what the tests ask of their views.
-ghost use Rattle.std.specs.Prelude.{IfOk};
-ghost use Rattle.display_map.specs.Sending.{IsOutstanding, IsRunTaken};
-
-use cell_units::{Bias, Fault, Motion, NoMemory, Side, Spot, Steps, Text};
-use display_map::{Change, Display, Held, Op, View, job_laws};
+//! Operations on displays, and what the tests ask of their views.
+use cell_units::{Bias, Motion, NoMemory, Side, Spot, Steps, Text};
+use display_map::{Op, View};
 use std::alloc::Global;
 use std::process::Abort;
-use std::test::Fail;
+use test_displays::lines;
 use view_moves::{RowSpan, Selection, select, step};
-use wrap_workers::{Finished, Job, do_job};
 
 /// A spot's row and column, and a goal.
 pub(crate) type Place = (u32, u32, u32);
 
 /// A row, and its columns from the first to the last that are covered.
 pub(crate) type Span = (u32, u32, u32);
-
-/// Does one operation.
-fn operate(rt: &impl Abort, alloc: Global, display: &mut Display, op: Op) -> Result<(), Fault> {
-    assert!(rt; display.room() > 0);
-    display.apply(alloc, &Change::One(op), &mut Steps::new())
-}
-
-/// Sends the next run.
-fn send(
-    rt: &impl Abort,
-    alloc: Global,
-    display: &mut Display,
-) -> Result<Option<Job<Held>>, NoMemory>
-    ensures { IfOk result (IsRunTaken display.old display.new) }
-{
-    assert!(rt; display.room() > 0);
-    display.take_run(alloc, &mut Steps::new())
-}
-
-/// Does a job that is out, and lands what it gives.
-fn land(
-    rt: &impl Abort,
-    alloc: Global,
-    display: &mut Display,
-    job: Job<Held>,
-) -> Result<(), NoMemory>
-    requires { IsOutstanding display.old job }
-{
-    assert!(rt; display.room() > 0);
-    let Finished::Done(done) = do_job(alloc, job) else {
-        return Err(NoMemory);
-    };
-    match display.land(alloc, done, &mut Steps::new()) {
-        Ok(()) => Ok(()),
-        Err(_) => Err(NoMemory),
-    }
-}
-
-/// Wraps the first run of lines that wait, if any do.
-fn wrap(rt: &impl Abort, alloc: Global, display: &mut Display) -> Result<(), NoMemory> {
-    // For the proof: a job that was sent is out.
-    job_laws();
-    let Some(job) = send(rt, alloc, display)? else {
-        return Ok(());
-    };
-    land(rt, alloc, display, job)?;
-    Ok(())
-}
-
-/// Does the operations, and wraps the first run of lines.
-fn prepare(
-    rt: &impl Abort,
-    alloc: Global,
-    display: &mut Display,
-    ops: Vec<Op>,
-) -> Result<(), Fail> {
-    for op in ops {
-        operate(rt, alloc, display, op)?;
-    }
-    wrap(rt, alloc, display)?;
-    Ok(())
-}
-
-/// A view of a text after the operations, with all of its lines wrapped. They are at most 128.
-pub(crate) fn view_of(
-    rt: &impl Abort,
-    alloc: Global,
-    text: &str,
-    ops: Vec<Op>,
-) -> Result<View, Fail> {
-    let mut display = Display::start(alloc, text.as_bytes(), &mut Steps::new())?;
-    prepare(rt, alloc, &mut display, ops)?;
-    Ok(display.view()?)
-}
 
 /// The operation that shows a text at an offset, after what is before it.
 pub(crate) fn inlay(alloc: Global, offset: u32, text: &str) -> Result<Op, NoMemory> {
@@ -113,15 +35,11 @@ pub(crate) fn block(
     row: u32,
     texts: &[&str],
 ) -> Result<Op, NoMemory> {
-    let mut lines = Vec::new(alloc);
-    for text in texts {
-        lines.push(Text::from_str(alloc, text)?)?;
-    }
     Ok(Op::Block {
         id,
         side,
         row,
-        lines,
+        lines: lines(alloc, texts)?,
     })
 }
 

@@ -1,17 +1,18 @@
 //! What selections cover.
 use crate::carets::blocks;
-use crate::displays::{assert_selection, inlay, view_of};
+use crate::displays::{assert_selection, inlay};
 use cell_units::NoMemory;
 use display_map::{Op, View};
 use std::alloc::Global;
 use std::process::Abort;
 use std::test::Fail;
+use test_displays::view_of;
 
 #[test]
 fn two_rows_of_a_line_are_selected(rt: HostRuntime) -> Result<(), Fail> {
     let alloc = rt.alloc();
     let ops = vec![in alloc; Op::Width { cells: 5 }]?;
-    let view = view_of(&rt, alloc, "hello world", ops)?;
+    let view = view_of(alloc, "hello world", ops)?;
     let spans = [(0, 3, 5), (1, 0, 2)];
     assert_selection(&rt, alloc, &view, [(0, 3), (1, 2)], (3, 8), &spans)?;
     Ok(())
@@ -32,7 +33,7 @@ fn a_fold_is_selected(rt: HostRuntime) -> Result<(), Fail> {
         start: 8,
         end: 13,
     };
-    let view = view_of(&rt, alloc, "fn f() {\n  a\n}\nx", vec![in alloc; fold]?)?;
+    let view = view_of(alloc, "fn f() {\n  a\n}\nx", vec![in alloc; fold]?)?;
     assert_folded(&rt, alloc, &view)?;
     Ok(())
 }
@@ -48,7 +49,7 @@ fn assert_clusters(rt: &impl Abort, alloc: Global, view: &View) -> Result<(), No
 fn clusters_are_selected(rt: HostRuntime) -> Result<(), Fail> {
     let alloc = rt.alloc();
     let text = "\t\u{6f22}\u{1f1e9}\u{1f1ea}e\u{301}z";
-    let view = view_of(&rt, alloc, text, Vec::new(alloc))?;
+    let view = view_of(alloc, text, Vec::new(alloc))?;
     assert_clusters(&rt, alloc, &view)?;
     Ok(())
 }
@@ -64,7 +65,7 @@ fn assert_blocks(rt: &impl Abort, alloc: Global, view: &View) -> Result<(), NoMe
 #[test]
 fn rows_of_blocks_are_selected(rt: HostRuntime) -> Result<(), Fail> {
     let alloc = rt.alloc();
-    let view = view_of(&rt, alloc, "ab\ncd", blocks(alloc)?)?;
+    let view = view_of(alloc, "ab\ncd", blocks(alloc)?)?;
     assert_blocks(&rt, alloc, &view)?;
     Ok(())
 }
@@ -73,7 +74,7 @@ fn rows_of_blocks_are_selected(rt: HostRuntime) -> Result<(), Fail> {
 fn rows_with_an_indent_are_selected(rt: HostRuntime) -> Result<(), Fail> {
     let alloc = rt.alloc();
     let ops = vec![in alloc; Op::Width { cells: 10 }]?;
-    let view = view_of(&rt, alloc, "\tfoo bar baz", ops)?;
+    let view = view_of(alloc, "\tfoo bar baz", ops)?;
     let spans = [(0, 5, 7), (1, 4, 7), (2, 4, 5)];
     assert_selection(&rt, alloc, &view, [(0, 5), (2, 5)], (2, 10), &spans)?;
     Ok(())
@@ -83,7 +84,7 @@ fn rows_with_an_indent_are_selected(rt: HostRuntime) -> Result<(), Fail> {
 fn a_row_of_an_inlay_has_no_span(rt: HostRuntime) -> Result<(), Fail> {
     let alloc = rt.alloc();
     let ops = vec![in alloc; inlay(alloc, 1, "x\ny\nz")?]?;
-    let view = view_of(&rt, alloc, "ab", ops)?;
+    let view = view_of(alloc, "ab", ops)?;
     let spans = [(0, 0, 1), (2, 1, 2)];
     assert_selection(&rt, alloc, &view, [(0, 0), (2, 2)], (0, 2), &spans)?;
     Ok(())

@@ -1,6 +1,6 @@
 //! Walks of 10,000 random motions in all, and random selections, beside the definitions over the list of all valid
 //! spots.
-use crate::displays::{block, inlay_at, view_of};
+use crate::displays::{block, inlay_at};
 use crate::plain::{caret, spans, valid_spots};
 use cell_units::{Motion, NoMemory, Side, Spot, Steps};
 use display_map::{Op, View};
@@ -8,6 +8,7 @@ use generated_input::Generator;
 use std::alloc::Global;
 use std::process::Abort;
 use std::test::Fail;
+use test_displays::view_of;
 use view_moves::{select, step};
 
 /// Lines with a tab, wide characters, a flag, accents, a zero-width space and words that are wrapped. Also an empty
@@ -85,7 +86,7 @@ fn assert_walk(
 
 /// A walk of 2,500 motions at a width.
 fn walk_at(rt: &impl Abort, alloc: Global, cells: u32) -> Result<(), Fail> {
-    let view = view_of(rt, alloc, TEXT, operations(alloc, cells)?)?;
+    let view = view_of(alloc, TEXT, operations(alloc, cells)?)?;
     let spots = valid_spots(alloc, &view, TEXT.len() as u32)?;
     assert!(rt; spots.len() > 100);
     assert_walk(rt, alloc, &view, spots.as_slice(), 2_500)?;
@@ -135,7 +136,7 @@ fn assert_selections(
 #[test]
 fn five_hundred_selections_are_those_of_the_definitions(rt: HostRuntime) -> Result<(), Fail> {
     let alloc = rt.alloc();
-    let view = view_of(&rt, alloc, TEXT, operations(alloc, 12)?)?;
+    let view = view_of(alloc, TEXT, operations(alloc, 12)?)?;
     let spots = valid_spots(alloc, &view, TEXT.len() as u32)?;
     assert_selections(&rt, alloc, &view, spots.as_slice(), 500)?;
     Ok(())

@@ -1,8 +1,0 @@
-use Rattle.display_map.proofs.Sent.{display_sent}
-use Rattle.test_moves.proofs.displays.send.Goals as goal
-
-pub take_run-requires-send-S-Held : goal.take_run-requires-send-S-Held
-take_run-requires-send-S-Held _ _ _ = search display_sent depth 12 fits 4000
-
-pub take_run-requires-sync-S-Held : goal.take_run-requires-sync-S-Held
-take_run-requires-sync-S-Held _ _ _ = search display_sent depth 12 fits 4000
